@@ -1,0 +1,215 @@
+//! Method types.
+
+ghost use Rattle.std.specs.Prelude.{[], ◌∷◌, ◌≡◌, ◌<◌, ◌≤◌, ◌+◌, ◌++◌, take, drop, length, slice_index_or, string_bytes, IfOk, IfErr, IsTrue, ◌↔◌};
+ghost use Rattle.mh_type.specs.Kinds.{kinds_eq};
+ghost use Rattle.mh_type.specs.Signature.{Signature, signature_eq, with_parameters, without_parameters};
+ghost use Rattle.mh_type.specs.Written.{written};
+
+use crate::fault::TypeFault;
+use crate::kind::Kind;
+use crate::written::written_type;
+use std::alloc::Global;
+use std::marker::Model;
+
+/// The greatest number of parameters.
+pub const MOST_PARAMETERS: usize = 16;
+
+/// A method type: a return kind and at most 16 parameter kinds (`java.lang.invoke.MethodType`).
+/// It takes no memory of its own.
+#[derive(Drop)]
+pub struct MethodType {
+    result_kind: Kind,
+    kinds: [Kind; 16],
+    count: usize,
+}
+
+impl Model for MethodType {
+    ghost use Rattle.std.specs.Prelude.{◌≡◌, take, length, ◌≤◌};
+    ghost use Rattle.mh_type.specs.Signature.{Signature};
+
+    ghost Value = { Signature };
+
+    ghost view = { λ m. record { ret = m.result_kind; parameters = take m.count m.kinds } };
+
+    ghost invariant = { λ m. (m.count ≤ 16) × (length m.kinds ≡ 16) };
+}
+
+impl MethodType {
+    /// The type of these parts.
+    pub fn new(ret: Kind, parameters: &[Kind]) -> Result<MethodType, TypeFault>
+        ensures value { IfOk result (λ m. (m ≡ record { ret = ret; parameters = parameters.now }) × (length parameters.now ≤ 16)) }
+        ensures refused { IfErr result (λ e. (e ≡ TypeFault.TooManyParameters) × (16 < length parameters.now)) }
+    {
+        if parameters.len() > MOST_PARAMETERS {
+            return Err(TypeFault::TooManyParameters);
+        }
+        let mut made = MethodType::nullary(ret);
+        made.extend(parameters);
+        Ok(made)
+    }
+
+    // One more parameter at the end.
+    pub(crate) fn push(&mut self, kind: Kind)
+        requires inside { length self.old.parameters < 16 }
+        ensures value { self.new ≡ record { ret = self.old.ret; parameters = self.old.parameters ++ kind ∷ [] } }
+    {
+        self.kinds[self.count] = kind;
+        self.count += 1;
+    }
+
+    // More parameters at the end.
+    fn extend(&mut self, kinds: &[Kind])
+        requires inside { length self.old.parameters + length kinds.now ≤ 16 }
+        ensures value { self.new ≡ record { ret = self.old.ret; parameters = self.old.parameters ++ kinds.now } }
+    {
+        for kind in kinds {
+            self.push(*kind);
+        }
+    }
+
+    /// The same type.
+    pub fn copy(&self) -> MethodType
+        ensures value { result ≡ self.now }
+    {
+        MethodType {
+            result_kind: self.result_kind,
+            kinds: self.kinds,
+            count: self.count,
+        }
+    }
+
+    /// The return kind.
+    pub fn ret(&self) -> Kind
+        ensures value { result ≡ self.now.ret }
+    {
+        self.result_kind
+    }
+
+    /// The number of parameters.
+    pub fn count(&self) -> usize
+        ensures value { result ≡ length self.now.parameters }
+        ensures few { length self.now.parameters ≤ 16 }
+    {
+        self.count
+    }
+
+    /// The kind of a parameter.
+    pub fn parameter(&self, place: usize) -> Kind
+        requires inside { place < length self.now.parameters }
+        ensures value { result ≡ slice_index_or self.now.parameters place result }
+    {
+        self.kinds[place]
+    }
+
+    /// The kinds of the parameters.
+    pub fn parameters(&self) -> &[Kind]
+        ensures value { result.now ≡ self.now.parameters }
+        ensures few { length self.now.parameters ≤ 16 }
+    {
+        &self.kinds[..self.count]
+    }
+
+    /// The type with these parameters put in before the place.
+    pub fn insert(&self, place: usize, more: &[Kind]) -> Result<MethodType, TypeFault>
+        requires inside { place ≤ length self.now.parameters }
+        ensures value { IfOk result (λ m. (m ≡ record { ret = self.now.ret; parameters = with_parameters self.now.parameters place more.now }) × (length self.now.parameters + length more.now ≤ 16)) }
+        ensures refused { IfErr result (λ e. (e ≡ TypeFault.TooManyParameters) × (16 < length self.now.parameters + length more.now)) }
+    {
+        if more.len() > MOST_PARAMETERS - self.count {
+            return Err(TypeFault::TooManyParameters);
+        }
+        let kinds = self.parameters();
+        let mut made = MethodType::nullary(self.result_kind);
+        made.extend(&kinds[..place]);
+        made.extend(more);
+        made.extend(&kinds[place..]);
+        Ok(made)
+    }
+
+    /// The type without so many parameters from the place on.
+    pub fn remove(&self, place: usize, count: usize) -> MethodType
+        requires inside { place + count ≤ length self.now.parameters }
+        ensures value { result ≡ record { ret = self.now.ret; parameters = without_parameters self.now.parameters place count } }
+    {
+        let kinds = self.parameters();
+        let mut made = MethodType::nullary(self.result_kind);
+        made.extend(&kinds[..place]);
+        made.extend(&kinds[place + count..]);
+        made
+    }
+
+    /// The same type with another return kind.
+    pub fn returning(&self, ret: Kind) -> MethodType
+        ensures value { result ≡ record { ret = ret; parameters = self.now.parameters } }
+    {
+        MethodType {
+            result_kind: ret,
+            kinds: self.kinds,
+            count: self.count,
+        }
+    }
+
+    /// Whether both types are one: all their parts are.
+    pub fn equals(&self, other: &MethodType) -> bool
+        ensures value { result ≡ signature_eq self.now other.now }
+        ensures same { IsTrue result ↔ (self.now ≡ other.now) }
+    {
+        self.ret().is(other.ret()) && same_kinds(self.parameters(), other.parameters())
+    }
+
+    /// The text of the type, as `(int,String)long`: `(`, the parameter kinds with commas between
+    /// them, `)`, and the return kind, with no spaces. Refused with `NoMemory` alone.
+    pub fn write(&self, alloc: Global) -> Result<String, TypeFault>
+        ensures value { IfOk result (λ s. string_bytes s ≡ written self.now) }
+        ensures refused { IfErr result (λ e. e ≡ TypeFault.NoMemory) }
+    {
+        match written_type(alloc, self.ret(), self.parameters()) {
+            Ok(text) => Ok(text),
+            Err(_) => Err(TypeFault::NoMemory),
+        }
+    }
+
+    /// The type with no parameters.
+    pub fn nullary(ret: Kind) -> MethodType
+        ensures value { result ≡ record { ret = ret; parameters = [] } }
+    {
+        MethodType {
+            result_kind: ret,
+            kinds: [Kind::Int; 16],
+            count: 0,
+        }
+    }
+
+    /// The type with one parameter.
+    pub fn unary(parameter: Kind, ret: Kind) -> MethodType
+        ensures value { result ≡ record { ret = ret; parameters = parameter ∷ [] } }
+    {
+        let mut made = MethodType::nullary(ret);
+        made.push(parameter);
+        made
+    }
+
+    /// Whether these are the first parameters, in order.
+    pub fn begins_with(&self, first: &[Kind]) -> bool
+        ensures value { result ≡ kinds_eq first.now (take (length first.now) self.now.parameters) }
+        ensures same { IsTrue result ↔ (first.now ≡ take (length first.now) self.now.parameters) }
+    {
+        begins_with(self.parameters(), first)
+    }
+}
+
+/// Whether two lists of kinds are one.
+pub fn same_kinds(some: &[Kind], others: &[Kind]) -> bool
+    ensures value { result ≡ kinds_eq some.now others.now }
+    ensures same { IsTrue result ↔ (some.now ≡ others.now) }
+{
+    some == others
+}
+
+/// Whether a list of kinds begins with another.
+pub fn begins_with(kinds: &[Kind], first: &[Kind]) -> bool
+    ensures value { result ≡ kinds_eq first.now (take (length first.now) kinds.now) }
+    ensures same { IsTrue result ↔ (first.now ≡ take (length first.now) kinds.now) }
+{
+    first.len() <= kinds.len() && same_kinds(first, &kinds[..first.len()])
+}

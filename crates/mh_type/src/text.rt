@@ -1,0 +1,74 @@
+//! Shared texts.
+
+ghost use Rattle.std.specs.Prelude.{◌≡◌, ◌↔◌, true, IsTrue, IfOk, IfErr};
+ghost use Rattle.mh_type.specs.Printable.{IsText, RefusesText, is_text as is_text_bytes};
+
+use crate::fault::TypeFault;
+use std::alloc::Global;
+use std::marker::Model;
+use std::sync::Arc;
+
+/// The bytes of the longest text.
+pub const LONGEST_TEXT: usize = 65536;
+
+/// A text that its owners share: at most 65,536 bytes of printable ASCII.
+#[derive(Drop)]
+pub struct Text {
+    shared: Arc<String>,
+}
+
+impl Model for Text {
+    ghost use Rattle.std.specs.Prelude.{List, ℕ, string_bytes};
+    ghost use Rattle.std.specs.Arc.{arc_value};
+    ghost use Rattle.mh_type.specs.Printable.{IsText};
+
+    ghost Value = { List ℕ };
+
+    ghost view = { λ t. string_bytes (arc_value t.shared) };
+
+    ghost invariant = { λ t. IsText (string_bytes (arc_value t.shared)) };
+}
+
+impl Text {
+    /// The text of these bytes.
+    ///
+    /// Refused with `BadText` exactly where there are more than 65,536 bytes or one is not from
+    /// 0x20 to 0x7E, and with `NoMemory` where a growth was refused.
+    #[tactic(auto, using(crate::proofs::Texts::is_text_from, crate::proofs::Texts::is_text_not))]
+    pub fn new(alloc: Global, text: &str) -> Result<Text, TypeFault>
+        ensures value { IfOk result (λ t. (t ≡ text.now) × (is_text_bytes text.now ≡ true)) }
+        ensures refused { IfErr result (λ e. RefusesText text.now e) }
+    {
+        if !is_text(text) {
+            return Err(TypeFault::BadText);
+        }
+        let owned = String::from_str(alloc, text).map_err(|_| TypeFault::NoMemory)?;
+        let shared = Arc::new(alloc, owned).map_err(|_| TypeFault::NoMemory)?;
+        Ok(Text { shared })
+    }
+
+    /// Another owner of the text. Refused with `NoMemory` alone.
+    pub fn share(&self) -> Result<Text, TypeFault>
+        ensures value { IfOk result (λ t. t ≡ self.now) }
+        ensures refused { IfErr result (λ e. e ≡ TypeFault.NoMemory) }
+    {
+        let shared = Arc::try_clone(&self.shared).map_err(|_| TypeFault::NoMemory)?;
+        Ok(Text { shared })
+    }
+
+    /// The bytes.
+    pub fn as_str(&self) -> &str
+        ensures value { result.now ≡ self.now }
+        ensures is_text { IsText self.now }
+    {
+        let shared = &self.shared;
+        shared.as_str()
+    }
+}
+
+// Whether these bytes make a text.
+fn is_text(text: &str) -> bool
+    ensures decides { IsTrue result ↔ IsText text.now }
+{
+    text.len() <= LONGEST_TEXT && text.bytes().all(|byte| (0x20..=0x7E).contains(&byte))
+}
