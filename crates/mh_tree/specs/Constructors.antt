@@ -1,0 +1,141 @@
+-- What each constructor makes, or the first of its tests that fails.
+use Rattle.std.specs.Prelude.{◌≡◌, ℕ, ◌+◌, Bool, true, false, ◌⊎◌, Result, Ok, Err, IsOk, List, [], ◌∷◌, take, drop, map, length, nat_eq, nat_lt, nat_le}
+use Rattle.std.specs.List.{list_all}
+use Rattle.mh_type.specs.declared.kind.Kind.{Kind}
+use Rattle.mh_type.specs.declared.kind.Kind.TheVariants as kind
+use Rattle.mh_type.specs.declared.operation.Op.{Op}
+use Rattle.mh_type.specs.declared.value.Value.{Value}
+use Rattle.mh_type.specs.Kinds.{kind_of, kind_eq, kinds_eq}
+use Rattle.mh_type.specs.Operations.{op_signature}
+use Rattle.mh_type.specs.Signature.{Signature, signature_eq, with_parameters, without_parameters}
+use Rattle.mh_tree.specs.Handle.{TypedTree}
+use Rattle.mh_tree.specs.Limits.{depth, size}
+use Rattle.mh_tree.specs.Tree.{constant, identity, operation, insert, discard, permute, filter_return, fold, guard, point}
+use Rattle.mh_tree.specs.Typing.{kind_at}
+use Rattle.mh_tree.specs.declared.fault.TreeFault.{TreeFault}
+use Rattle.mh_tree.specs.declared.fault.TreeFault.TheVariants.{NoMemory, BadPosition, TypeMismatch, NotUnary, NotBoolean, BadReorder, TooManyParameters, TooDeep, TooLarge}
+
+-- what is made where a test passes, and the fault where it fails
+abbrev pub require : Bool → TreeFault → Result TypedTree TreeFault → Result TypedTree TreeFault
+require true fault made = made
+require false fault made = Err fault
+
+-- the tests that come last: the limits of parameters, depth and size
+abbrev pub within_limits : TypedTree → Result TypedTree TreeFault
+within_limits h =
+    require (nat_le (length h.signature.parameters) 16) TooManyParameters
+    (require (nat_le (depth h.tree) 96) TooDeep
+    (require (nat_le (size h.tree) 262144) TooLarge (Ok h)))
+
+-- a handle as a declared tree
+abbrev pub declared_made : TypedTree → Result TypedTree TreeFault
+declared_made h = require (nat_le (depth h.tree) 64) TooDeep (require (nat_le (size h.tree) 4096) TooLarge (Ok h))
+
+-- a refusal: a test that fails, or memory, which is asked for where every test passed
+abbrev pub Refuses : TreeFault → Result TypedTree TreeFault → Type 0
+Refuses e made = (made ≡ Err e) ⊎ ((e ≡ NoMemory) × IsOk made)
+
+-- `MethodHandles.constant`
+abbrev pub constant_made : Value → TypedTree
+constant_made x = record { tree = constant x; signature = record { ret = kind_of x; parameters = [] } }
+
+-- `MethodHandles.identity`
+abbrev pub identity_made : Kind → TypedTree
+identity_made k = record { tree = identity k; signature = record { ret = k; parameters = k ∷ [] } }
+
+-- a leaf operation
+abbrev pub op_made : Op → TypedTree
+op_made o = record { tree = operation o; signature = op_signature o }
+
+-- `MethodHandles.insertArguments`: the target without the parameters that the values stand for
+abbrev pub inserted : TypedTree → ℕ → List Value → TypedTree
+inserted target p xs = record {
+  tree = insert target.tree p xs;
+  signature = record { ret = target.signature.ret; parameters = without_parameters target.signature.parameters p (length xs) };
+}
+
+-- the values stand for parameters of their kinds
+abbrev pub insert_made : TypedTree → ℕ → List Value → Result TypedTree TreeFault
+insert_made target p xs =
+    let old = target.signature.parameters in
+    require (nat_le (p + length xs) (length old)) BadPosition
+    (require (kinds_eq (map kind_of xs) (take (length xs) (drop p old))) TypeMismatch
+    (within_limits (inserted target p xs)))
+
+-- `MethodHandles.dropArguments`: the target with parameters that are discarded
+abbrev pub dropped : TypedTree → ℕ → List Kind → TypedTree
+dropped target p ks = record {
+  tree = discard target.tree p ks;
+  signature = record { ret = target.signature.ret; parameters = with_parameters target.signature.parameters p ks };
+}
+
+abbrev pub drop_made : TypedTree → ℕ → List Kind → Result TypedTree TreeFault
+drop_made target p ks =
+    require (nat_le p (length target.signature.parameters)) BadPosition
+    (within_limits (dropped target p ks))
+
+-- `MethodHandles.permuteArguments`
+abbrev pub permuted : TypedTree → Signature → List ℕ → TypedTree
+permuted target new_type reorder = record { tree = permute target.tree new_type reorder; signature = new_type }
+
+-- there is an entry for each parameter of the target, which names the parameter of the new type that is passed there
+abbrev pub permute_made : TypedTree → Signature → List ℕ → Result TypedTree TreeFault
+permute_made target new_type reorder =
+    require (nat_eq (length reorder) (length target.signature.parameters)) BadReorder
+    (require (list_all (λ i. nat_lt i (length new_type.parameters)) reorder) BadReorder
+    (require (kind_eq target.signature.ret new_type.ret) TypeMismatch
+    (require (kinds_eq target.signature.parameters (map (λ i. kind_at new_type.parameters i) reorder)) TypeMismatch
+    (within_limits (permuted target new_type reorder)))))
+
+-- `MethodHandles.filterReturnValue`
+abbrev pub return_filtered : TypedTree → TypedTree → TypedTree
+return_filtered target filter = record {
+  tree = filter_return target.tree filter.tree;
+  signature = record { ret = filter.signature.ret; parameters = target.signature.parameters };
+}
+
+-- the filter's one parameter is of the kind that the target returns
+abbrev pub filter_return_made : TypedTree → TypedTree → Result TypedTree TreeFault
+filter_return_made target filter =
+    require (nat_eq (length filter.signature.parameters) 1) NotUnary
+    (require (kinds_eq filter.signature.parameters (target.signature.ret ∷ [])) TypeMismatch
+    (within_limits (return_filtered target filter)))
+
+-- `MethodHandles.foldArguments`: the target without its first parameter, which the combiner gives
+abbrev pub folded : TypedTree → TypedTree → TypedTree
+folded target combiner = record {
+  tree = fold target.tree combiner.tree;
+  signature = record { ret = target.signature.ret; parameters = drop 1 target.signature.parameters };
+}
+
+-- the target has a first parameter, of the kind that the combiner returns, and the combiner's parameters are the
+-- first of the rest
+abbrev pub fold_made : TypedTree → TypedTree → Result TypedTree TreeFault
+fold_made target combiner =
+    let first = combiner.signature.parameters in
+    require (kinds_eq (combiner.signature.ret ∷ []) (take 1 target.signature.parameters)) TypeMismatch
+    (require (kinds_eq first (take (length first) (drop 1 target.signature.parameters))) TypeMismatch
+    (within_limits (folded target combiner)))
+
+-- `MethodHandles.guardWithTest`
+abbrev pub guarded : TypedTree → TypedTree → TypedTree → TypedTree
+guarded test target fallback = record { tree = guard test.tree target.tree fallback.tree; signature = target.signature }
+
+-- the branches have one type, and the test's parameters are the first of theirs
+abbrev pub guard_made : TypedTree → TypedTree → TypedTree → Result TypedTree TreeFault
+guard_made test target fallback =
+    let first = test.signature.parameters in
+    require (kind_eq test.signature.ret kind.Boolean) NotBoolean
+    (require (signature_eq target.signature fallback.signature) TypeMismatch
+    (require (kinds_eq first (take (length first) target.signature.parameters)) TypeMismatch
+    (within_limits (guarded test target fallback))))
+
+-- `SwitchPoint.guardWithTest`
+abbrev pub pointed : ℕ → TypedTree → TypedTree → TypedTree
+pointed p target fallback = record { tree = point p target.tree fallback.tree; signature = target.signature }
+
+-- the branches have one type
+abbrev pub point_made : ℕ → TypedTree → TypedTree → Result TypedTree TreeFault
+point_made p target fallback =
+    require (signature_eq target.signature fallback.signature) TypeMismatch
+    (within_limits (pointed p target fallback))

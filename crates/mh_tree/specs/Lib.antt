@@ -1,0 +1,13 @@
+pub mod Arity
+pub mod Constructors
+pub mod Faults
+pub mod Handle
+pub mod Kept
+pub mod Limits
+pub mod Meaning
+pub mod Tree
+pub mod TreeCode
+pub mod TreeOf
+pub mod TypeOf
+pub mod Typing
+pub mod Widths

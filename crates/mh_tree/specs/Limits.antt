@@ -1,0 +1,63 @@
+-- The depth, the size and the point bound of a tree.
+use Rattle.std.specs.Prelude.{ℕ, ◌+◌, max}
+use Rattle.mh_tree.specs.Tree.{Tree, Filters, constant, identity, operation, insert, discard, permute, filter, filter_return, fold, guard, point, no_more, absent, present}
+
+abbrev mutual
+  -- the number of nodes from the root to the deepest leaf
+  pub depth : Tree → ℕ
+  depth (constant x) = 1
+  depth (identity k) = 1
+  depth (operation o) = 1
+  depth (insert t p xs) = 1 + depth t
+  depth (discard t p ks) = 1 + depth t
+  depth (permute t m r) = 1 + depth t
+  depth (filter t p fs) = 1 + max (depth t) (deepest fs)
+  depth (filter_return t f) = 1 + max (depth t) (depth f)
+  depth (fold t c) = 1 + max (depth t) (depth c)
+  depth (guard c x y) = 1 + max (depth c) (max (depth x) (depth y))
+  depth (point p x y) = 1 + max (depth x) (depth y)
+
+  pub deepest : Filters → ℕ
+  deepest no_more = 0
+  deepest (absent fs) = deepest fs
+  deepest (present f fs) = max (depth f) (deepest fs)
+
+abbrev mutual
+  -- the number of nodes
+  pub size : Tree → ℕ
+  size (constant x) = 1
+  size (identity k) = 1
+  size (operation o) = 1
+  size (insert t p xs) = 1 + size t
+  size (discard t p ks) = 1 + size t
+  size (permute t m r) = 1 + size t
+  size (filter t p fs) = 1 + (size t + total_size fs)
+  size (filter_return t f) = 1 + (size t + size f)
+  size (fold t c) = 1 + (size t + size c)
+  size (guard c x y) = 1 + (size c + (size x + size y))
+  size (point p x y) = 1 + (size x + size y)
+
+  pub total_size : Filters → ℕ
+  total_size no_more = 0
+  total_size (absent fs) = total_size fs
+  total_size (present f fs) = size f + total_size fs
+
+abbrev mutual
+  -- one more than the greatest point named, or 0
+  pub point_bound : Tree → ℕ
+  point_bound (constant x) = 0
+  point_bound (identity k) = 0
+  point_bound (operation o) = 0
+  point_bound (insert t p xs) = point_bound t
+  point_bound (discard t p ks) = point_bound t
+  point_bound (permute t m r) = point_bound t
+  point_bound (filter t p fs) = max (point_bound t) (greatest_bound fs)
+  point_bound (filter_return t f) = max (point_bound t) (point_bound f)
+  point_bound (fold t c) = max (point_bound t) (point_bound c)
+  point_bound (guard c x y) = max (point_bound c) (max (point_bound x) (point_bound y))
+  point_bound (point p x y) = max (p + 1) (max (point_bound x) (point_bound y))
+
+  pub greatest_bound : Filters → ℕ
+  greatest_bound no_more = 0
+  greatest_bound (absent fs) = greatest_bound fs
+  greatest_bound (present f fs) = max (point_bound f) (greatest_bound fs)

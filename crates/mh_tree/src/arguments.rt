@@ -1,0 +1,115 @@
+//! The constructors that change which arguments a target gets.
+
+ghost use Rattle.std.specs.Prelude.{◌≡◌, ◌↔◌, Ok, Err, map, length, IfOk, IfErr, IsTrue, MatchResult};
+ghost use Rattle.mh_type.specs.Kinds.{kind_of};
+ghost use Rattle.mh_tree.specs.Constructors.{Refuses, insert_made, drop_made};
+ghost use Rattle.mh_tree.specs.Handle.{IsSound};
+ghost use Rattle.mh_tree.specs.Tree.{insert as insert_tree, discard};
+
+use crate::copy::{boxed_copy, copy_values};
+use crate::fault::TreeFault;
+use crate::handle::Handle;
+use crate::limits::within_limits;
+use crate::node::Node;
+use mh_type::{Kind, MethodType, Value, have_kinds};
+use std::alloc::Global;
+
+impl Handle {
+    /// The target with values in place of its parameters from `position` on
+    /// (`MethodHandles.insertArguments`).
+    ///
+    /// *Type*: the target's, without as many parameters from `position` on as there are values.
+    ///
+    /// *Pseudo-code*: `adapter(a.., b..) = target(a.., values.., b..)`, with `position` arguments `a`.
+    ///
+    /// *Example*: `iadd` with `int 1` at place 1 is of type `(int)int` and gives `int 3` on `int 2`.
+    /// No values are allowed: the handle is then the target in one more node.
+    ///
+    /// *Refusals*: `BadPosition` where `position + values.len()` is above the target's count of
+    /// parameters, as a number without bounds; `TypeMismatch` where a value is of another kind than
+    /// its parameter; `TooDeep`, `TooLarge`, and `NoMemory`. It copies the target's tree.
+    pub fn insert(
+        alloc: Global,
+        target: &Handle,
+        position: usize,
+        values: &[Value],
+    ) -> Result<Handle, TreeFault>
+        ensures value { IfOk result (λ h. insert_made target.now position values.now ≡ Ok h) }
+        ensures refused { IfErr result (λ e. Refuses e (insert_made target.now position values.now)) }
+    {
+        let method_type = insert_type(target, position, values)?;
+        let root = Node::Insert {
+            target: boxed_copy(alloc, target)?,
+            position,
+            values: copy_values(alloc, values)?,
+        };
+        let (depth, size) = (1 + target.depth(), 1 + target.size());
+        Handle::of(alloc, root, method_type, depth, size, target.point_bound())
+    }
+
+    /// The target behind parameters that are discarded (`MethodHandles.dropArguments`).
+    ///
+    /// *Type*: the target's, with parameters of these kinds put in at `position`.
+    ///
+    /// *Pseudo-code*: `adapter(a.., discarded.., b..) = target(a.., b..)`, with `position` arguments `a`.
+    ///
+    /// *Example*: the constant of `int 7` behind one `int` is of type `(int)int` and gives `int 7` on
+    /// `int 0`. No kinds are allowed: the handle is then the target in one more node.
+    ///
+    /// *Refusals*: `BadPosition` where `position` is above the target's count of parameters;
+    /// `TooManyParameters` past 16; `TooDeep`, `TooLarge`, and `NoMemory`. It copies the target's tree.
+    pub fn drop(
+        alloc: Global,
+        target: &Handle,
+        position: usize,
+        kinds: &[Kind],
+    ) -> Result<Handle, TreeFault>
+        ensures value { IfOk result (λ h. drop_made target.now position kinds.now ≡ Ok h) }
+        ensures refused { IfErr result (λ e. Refuses e (drop_made target.now position kinds.now)) }
+    {
+        let method_type = drop_type(target, position, kinds)?;
+        let root = Node::Drop {
+            target: boxed_copy(alloc, target)?,
+            position,
+            kinds: kinds.to_vec(alloc).map_err(|_| TreeFault::NoMemory)?,
+        };
+        let (depth, size) = (1 + target.depth(), 1 + target.size());
+        Handle::of(alloc, root, method_type, depth, size, target.point_bound())
+    }
+}
+
+// The type of the target with these values inserted, where they may be.
+fn insert_type(target: &Handle, position: usize, values: &[Value]) -> Result<MethodType, TreeFault>
+    ensures value { MatchResult result
+        (λ m. insert_made target.now position values.now ≡ Ok (record { tree = insert_tree target.now.tree position values.now; signature = m }))
+        (λ e. insert_made target.now position values.now ≡ Err e) }
+    ensures sound { IfOk result (λ m. IsSound (insert_tree target.now.tree position values.now) m) }
+{
+    let old = target.method_type();
+    let parameters = old.parameters();
+    if values.len() > parameters.len() || position > parameters.len() - values.len() {
+        return Err(TreeFault::BadPosition);
+    }
+    if !have_kinds(values, &parameters[position..position + values.len()]) {
+        return Err(TreeFault::TypeMismatch);
+    }
+    let new_type = old.remove(position, values.len());
+    within_limits(new_type, 1 + target.depth(), 1 + target.size())
+}
+
+// The type of the target with parameters of these kinds put in, where they may be.
+fn drop_type(target: &Handle, position: usize, kinds: &[Kind]) -> Result<MethodType, TreeFault>
+    ensures value { MatchResult result
+        (λ m. drop_made target.now position kinds.now ≡ Ok (record { tree = discard target.now.tree position kinds.now; signature = m }))
+        (λ e. drop_made target.now position kinds.now ≡ Err e) }
+    ensures sound { IfOk result (λ m. IsSound (discard target.now.tree position kinds.now) m) }
+{
+    let old = target.method_type();
+    if position > old.count() {
+        return Err(TreeFault::BadPosition);
+    }
+    let Ok(new_type) = old.insert(position, kinds) else {
+        return Err(TreeFault::TooManyParameters);
+    };
+    within_limits(new_type, 1 + target.depth(), 1 + target.size())
+}

@@ -1,0 +1,122 @@
+//! The constructors that choose between two branches.
+
+ghost use Rattle.std.specs.Prelude.{◌≡◌, Ok, Err, IfOk, IfErr, MatchResult};
+ghost use Rattle.mh_tree.specs.Constructors.{Refuses, guard_made, point_made};
+ghost use Rattle.mh_tree.specs.Handle.{IsSound};
+ghost use Rattle.mh_tree.specs.Tree.{guard as guard_tree, point as point_tree};
+
+use crate::copy::boxed_copy;
+use crate::fault::TreeFault;
+use crate::handle::Handle;
+use crate::limits::within_limits;
+use crate::node::Node;
+use mh_type::{Kind, MethodType};
+use std::alloc::Global;
+
+impl Handle {
+    /// The target where the test gives true, and else the fallback (`MethodHandles.guardWithTest`).
+    ///
+    /// *Type*: the one type of target and fallback. The test returns boolean, and its parameters are
+    /// the first of theirs.
+    ///
+    /// *Pseudo-code*: `adapter(a.., b..) = if test(a..) { target(a.., b..) } else { fallback(a.., b..) }`.
+    /// A throw of the test is the outcome, and only the chosen branch runs.
+    ///
+    /// *Example*: with the test `ieq` behind `int 1`, the target 100 and the fallback `ineg`, the
+    /// handle is of type `(int)int`, and gives `int 100` on `int 1` and `int -2` on `int 2`.
+    ///
+    /// *Refusals*: `NotBoolean`; `TypeMismatch` where the branches have two types or the test's
+    /// parameters do not begin theirs; `TooDeep`, `TooLarge`, and `NoMemory`. It copies the trees.
+    pub fn guard(
+        alloc: Global,
+        test: &Handle,
+        target: &Handle,
+        fallback: &Handle,
+    ) -> Result<Handle, TreeFault>
+        ensures value { IfOk result (λ h. guard_made test.now target.now fallback.now ≡ Ok h) }
+        ensures refused { IfErr result (λ e. Refuses e (guard_made test.now target.now fallback.now)) }
+    {
+        let method_type = guard_type(test, target, fallback)?;
+        let root = Node::Guard {
+            test: boxed_copy(alloc, test)?,
+            target: boxed_copy(alloc, target)?,
+            fallback: boxed_copy(alloc, fallback)?,
+        };
+        let depth = 1 + test.depth().max(target.depth().max(fallback.depth()));
+        let size = 1 + (test.size() + (target.size() + fallback.size()));
+        let bound = test
+            .point_bound()
+            .max(target.point_bound().max(fallback.point_bound()));
+        Handle::of(alloc, root, method_type, depth, size, bound)
+    }
+
+    /// The target while a point is valid, and else the fallback (`SwitchPoint.guardWithTest`).
+    ///
+    /// *Type*: the one type of target and fallback.
+    ///
+    /// *Pseudo-code*: `adapter(a..) = if valid[point] { target(a..) } else { fallback(a..) }`.
+    ///
+    /// *Example*: with point 0, the target `iadd` and the fallback `isub`, the handle gives `int 3` on
+    /// `int 2` and `int 1` while point 0 is valid, and `int 1` from its invalidation on.
+    ///
+    /// *Refusals*: `TypeMismatch` where the branches have two types; `TooDeep`, `TooLarge`, and
+    /// `NoMemory`. It copies the trees.
+    pub fn point(
+        alloc: Global,
+        point: u32,
+        target: &Handle,
+        fallback: &Handle,
+    ) -> Result<Handle, TreeFault>
+        ensures value { IfOk result (λ h. point_made point target.now fallback.now ≡ Ok h) }
+        ensures refused { IfErr result (λ e. Refuses e (point_made point target.now fallback.now)) }
+    {
+        let method_type = point_type(point, target, fallback)?;
+        let root = Node::Point {
+            point,
+            target: boxed_copy(alloc, target)?,
+            fallback: boxed_copy(alloc, fallback)?,
+        };
+        let depth = 1 + target.depth().max(fallback.depth());
+        let size = 1 + (target.size() + fallback.size());
+        let bound = (point as usize + 1).max(target.point_bound().max(fallback.point_bound()));
+        Handle::of(alloc, root, method_type, depth, size, bound)
+    }
+}
+
+// The type of a guard of these parts, where they agree.
+fn guard_type(test: &Handle, target: &Handle, fallback: &Handle) -> Result<MethodType, TreeFault>
+    ensures value { MatchResult result
+        (λ m. guard_made test.now target.now fallback.now ≡ Ok (record { tree = guard_tree test.now.tree target.now.tree fallback.now.tree; signature = m }))
+        (λ e. guard_made test.now target.now fallback.now ≡ Err e) }
+    ensures sound { IfOk result (λ m. IsSound (guard_tree test.now.tree target.now.tree fallback.now.tree) m) }
+{
+    if !test.method_type().ret().is(Kind::Boolean) {
+        return Err(TreeFault::NotBoolean);
+    }
+    let method_type = target.method_type();
+    if !method_type.equals(fallback.method_type()) {
+        return Err(TreeFault::TypeMismatch);
+    }
+    if !method_type.begins_with(test.method_type().parameters()) {
+        return Err(TreeFault::TypeMismatch);
+    }
+    let depth = 1 + test.depth().max(target.depth().max(fallback.depth()));
+    let size = 1 + (test.size() + (target.size() + fallback.size()));
+    within_limits(method_type.copy(), depth, size)
+}
+
+// The type of a point's branches, where they agree.
+fn point_type(point: u32, target: &Handle, fallback: &Handle) -> Result<MethodType, TreeFault>
+    ensures value { MatchResult result
+        (λ m. point_made point target.now fallback.now ≡ Ok (record { tree = point_tree point target.now.tree fallback.now.tree; signature = m }))
+        (λ e. point_made point target.now fallback.now ≡ Err e) }
+    ensures sound { IfOk result (λ m. IsSound (point_tree point target.now.tree fallback.now.tree) m) }
+{
+    let method_type = target.method_type();
+    if !method_type.equals(fallback.method_type()) {
+        return Err(TreeFault::TypeMismatch);
+    }
+    let depth = 1 + target.depth().max(fallback.depth());
+    let size = 1 + (target.size() + fallback.size());
+    within_limits(method_type.copy(), depth, size)
+}

@@ -1,0 +1,71 @@
+//! Declared trees.
+
+ghost use Rattle.std.specs.Prelude.{◌≡◌, ◌≤◌, Ok, IfOk, IfErr};
+ghost use Rattle.mh_tree.specs.Constructors.{Refuses, declared_made};
+ghost use Rattle.mh_tree.specs.Limits.{depth as tree_depth, size as tree_size};
+
+use crate::fault::TreeFault;
+use crate::handle::Handle;
+use std::marker::Model;
+
+/// The greatest depth of a declared tree.
+pub const DEEPEST_DECLARED: usize = 64;
+
+/// The greatest size of a declared tree.
+pub const LARGEST_DECLARED: usize = 4096;
+
+/// A handle within the limits of declared trees: at most 64 deep, and of at most 4,096 nodes. What is
+/// built over such a tree is then within the limits of any handle.
+#[derive(Drop)]
+pub struct Declared {
+    handle: Handle,
+}
+
+impl Model for Declared {
+    ghost use Rattle.mh_tree.specs.Handle.{TypedTree, IsDeclared};
+
+    ghost Value = { TypedTree };
+
+    ghost use Rattle.mh_tree.specs.TreeCode.{coded_typed_tree};
+
+    ghost coded = { coded_typed_tree };
+
+    ghost view = { λ d. d.handle };
+
+    ghost invariant = { λ d. IsDeclared d.handle };
+}
+
+impl Declared {
+    /// Another owner of the handle, where it is within the limits of declared trees. Refused with
+    /// `TooDeep` past depth 64, then with `TooLarge` past 4,096 nodes, and with `NoMemory`.
+    pub fn new(handle: &Handle) -> Result<Declared, TreeFault>
+        ensures value { IfOk result (λ d. declared_made handle.now ≡ Ok d) }
+        ensures refused { IfErr result (λ e. Refuses e (declared_made handle.now)) }
+    {
+        if handle.depth() > DEEPEST_DECLARED {
+            return Err(TreeFault::TooDeep);
+        }
+        if handle.size() > LARGEST_DECLARED {
+            return Err(TreeFault::TooLarge);
+        }
+        let handle = handle.share()?;
+        Ok(Declared { handle })
+    }
+
+    /// Another owner of the tree. Refused with `NoMemory` alone.
+    pub fn share(&self) -> Result<Declared, TreeFault>
+        ensures value { IfOk result (λ d. d ≡ self.now) }
+        ensures refused { IfErr result (λ e. e ≡ TreeFault.NoMemory) }
+    {
+        let handle = self.handle.share()?;
+        Ok(Declared { handle })
+    }
+
+    /// The handle.
+    pub fn handle(&self) -> &Handle
+        ensures value { result.now ≡ self.now }
+        ensures limits { (tree_depth self.now.tree ≤ 64) × (tree_size self.now.tree ≤ 4096) }
+    {
+        &self.handle
+    }
+}

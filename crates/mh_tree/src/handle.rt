@@ -1,0 +1,131 @@
+//! Handles: shared trees, typed and within limits.
+
+ghost use Rattle.std.specs.Prelude.{◌≡◌, ◌≤◌, IfOk, IfErr};
+ghost use Rattle.mh_tree.specs.Handle.{TypedTree, IsSound};
+ghost use Rattle.mh_tree.specs.TreeOf.{tree_of};
+ghost use Rattle.mh_tree.specs.Limits.{depth as tree_depth, size as tree_size, point_bound as tree_point_bound};
+
+use crate::fault::TreeFault;
+use crate::node::Node;
+use mh_type::MethodType;
+use std::alloc::Global;
+use std::marker::Model;
+use std::sync::Arc;
+
+// A tree, and what is kept beside it.
+#[derive(Drop)]
+pub(crate) struct Rooted {
+    pub(crate) root: Node,
+    pub(crate) method_type: MethodType,
+    pub(crate) depth: usize,
+    pub(crate) size: usize,
+    pub(crate) point_bound: usize,
+}
+
+/// A shared tree that is well typed, at most 96 deep and of at most 262,144 nodes. A clone of it is
+/// `share`, which takes no copy; the constructors copy the trees of their parts.
+#[derive(Drop)]
+pub struct Handle {
+    shared: Arc<Rooted>,
+}
+
+impl Model for Handle {
+    ghost use Rattle.mh_tree.specs.Handle.{TypedTree};
+
+    ghost Value = { TypedTree };
+
+    ghost use Rattle.mh_tree.specs.TreeCode.{coded_typed_tree};
+
+    ghost coded = { coded_typed_tree };
+
+    ghost use Rattle.mh_tree.specs.Kept.{kept_tree, IsKept};
+
+    ghost view = { kept_tree };
+
+    ghost invariant = { IsKept };
+}
+
+impl Handle {
+    // The tree in an owner, with what is kept beside it.
+    pub(crate) fn of(
+        alloc: Global,
+        root: Node,
+        method_type: MethodType,
+        depth: usize,
+        size: usize,
+        point_bound: usize,
+    ) -> Result<Handle, TreeFault>
+        requires sound { IsSound (tree_of root) method_type }
+        requires deep { depth ≡ tree_depth (tree_of root) }
+        requires large { size ≡ tree_size (tree_of root) }
+        requires bound { point_bound ≡ tree_point_bound (tree_of root) }
+        ensures value { IfOk result (λ h. h ≡ record { tree = tree_of root; signature = method_type }) }
+        ensures refused { IfErr result (λ e. e ≡ TreeFault.NoMemory) }
+    {
+        let shared = Arc::new(
+            alloc,
+            Rooted {
+                root,
+                method_type,
+                depth,
+                size,
+                point_bound,
+            },
+        )
+        .map_err(|_| TreeFault::NoMemory)?;
+        Ok(Handle { shared })
+    }
+
+    /// Another owner of the tree. Refused with `NoMemory` alone.
+    pub fn share(&self) -> Result<Handle, TreeFault>
+        ensures value { IfOk result (λ h. h ≡ self.now) }
+        ensures refused { IfErr result (λ e. e ≡ TreeFault.NoMemory) }
+    {
+        let shared = Arc::try_clone(&self.shared).map_err(|_| TreeFault::NoMemory)?;
+        Ok(Handle { shared })
+    }
+
+    /// The tree.
+    pub fn root(&self) -> &Node
+        ensures value { tree_of result.now ≡ self.now.tree }
+        ensures sound { IsSound self.now.tree self.now.signature }
+    {
+        let shared = &self.shared;
+        &shared.root
+    }
+
+    /// The type.
+    pub fn method_type(&self) -> &MethodType
+        ensures value { result.now ≡ self.now.signature }
+        ensures sound { IsSound self.now.tree self.now.signature }
+    {
+        let shared = &self.shared;
+        &shared.method_type
+    }
+
+    /// The depth of the tree: 1 for a leaf, and else one more than that of the deepest part.
+    pub fn depth(&self) -> usize
+        ensures value { result ≡ tree_depth self.now.tree }
+        ensures shallow { result ≤ 96 }
+    {
+        let shared = &self.shared;
+        shared.depth
+    }
+
+    /// The number of nodes. A part that occurs twice is counted twice.
+    pub fn size(&self) -> usize
+        ensures value { result ≡ tree_size self.now.tree }
+        ensures small { result ≤ 262144 }
+    {
+        let shared = &self.shared;
+        shared.size
+    }
+
+    /// One more than the greatest point named, or 0.
+    pub fn point_bound(&self) -> usize
+        ensures value { result ≡ tree_point_bound self.now.tree }
+    {
+        let shared = &self.shared;
+        shared.point_bound
+    }
+}

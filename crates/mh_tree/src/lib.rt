@@ -1,0 +1,20 @@
+//! Handle trees: typed, and within limits.
+#![tactic(auto)]
+
+mod arguments;
+mod branches;
+mod copy;
+mod declared;
+mod fault;
+mod filters;
+mod folding;
+mod handle;
+mod leaf;
+mod limits;
+mod node;
+mod reordering;
+
+pub use declared::Declared;
+pub use fault::TreeFault;
+pub use handle::Handle;
+pub use node::Node;
