@@ -1,0 +1,83 @@
+-- Filters of a tree that can run can run.
+use Rattle.std.proofs.Common.{◌≡◌, ℕ, ◌+◌, ◌≤◌, List, [], ◌∷◌, length, take, drop, arith, lit≤, length-drop, length-take, ap, ◌-◌, Ok, Err, Bool}
+use Rattle.mh_type.specs.declared.kind.Kind.{Kind}
+use Rattle.mh_type.specs.declared.value.Value.{Value}
+use Rattle.mh_tree.specs.Limits.{total_size, greatest_bound}
+use Rattle.mh_tree.specs.Tree.{Tree, Filters, filter, no_more, absent, present}
+use Rattle.mh_tree.specs.Typing.{AreTyped}
+use Rattle.mh_type.specs.declared.outcome.Throw.{Throw}
+use Rattle.mh_type.specs.declared.outcome.Outcome.TheVariants.{Thrown}
+use Rattle.mh_tree.specs.Meaning.{mean, steps, filtered, filter_steps, with_arguments, after_filters}
+use Rattle.mh_tree.specs.Widths.{CanRun, CanFilter}
+
+can_filter : (fs : Filters) (old new : List Kind) (p w n : ℕ) → AreTyped fs old new → p + length old ≤ w → greatest_bound fs ≤ n → total_size fs ≤ 262144 → CanFilter fs p w n
+can_filter no_more old new p w n h a b c = tt
+can_filter (absent fs) (k ∷ old) (j ∷ new) p w n h a b c = (omega arith, can_filter fs old new (p + 1) w n h.1 (omega arith) b c)
+can_filter (absent fs) [] new p w n h a b c = absurd h
+can_filter (absent fs) (k ∷ old) [] p w n h a b c = absurd h
+can_filter (present f fs) (k ∷ old) (j ∷ new) p w n h a b c = (
+  omega arith,
+  record { signature = record { ret = k; parameters = j ∷ [] }; typed = h.0; wide = lit≤ tt; known = omega arith; small = omega arith },
+  can_filter fs old new (p + 1) w n h.1 (omega arith) (omega arith) (omega arith),
+)
+can_filter (present f fs) [] new p w n h a b c = absurd h
+can_filter (present f fs) (k ∷ old) [] p w n h a b c = absurd h
+
+are_as_few : (fs : Filters) (old new : List Kind) → AreTyped fs old new → length new ≤ length old
+are_as_few no_more old new h = let e = ap (λ (ks : List Kind). length ks) h in omega arith
+are_as_few (absent fs) (k ∷ old) (j ∷ new) h = omega (arith, are_as_few fs old new h.1)
+are_as_few (absent fs) [] new h = absurd h
+are_as_few (absent fs) (k ∷ old) [] h = absurd h
+are_as_few (present f fs) (k ∷ old) (j ∷ new) h = omega (arith, are_as_few fs old new h.1)
+are_as_few (present f fs) [] new h = absurd h
+are_as_few (present f fs) (k ∷ old) [] h = absurd h
+
+-- filters keep the number of arguments
+are_as_many : (fs : Filters) (old new : List Kind) → AreTyped fs old new → length old ≤ length new
+are_as_many no_more old new h = let e = ap (λ (ks : List Kind). length ks) h in omega arith
+are_as_many (absent fs) (k ∷ old) (j ∷ new) h = omega (arith, are_as_many fs old new h.1)
+are_as_many (absent fs) [] new h = absurd h
+are_as_many (absent fs) (k ∷ old) [] h = absurd h
+are_as_many (present f fs) (k ∷ old) (j ∷ new) h = omega (arith, are_as_many fs old new h.1)
+are_as_many (present f fs) [] new h = absurd h
+are_as_many (present f fs) (k ∷ old) [] h = absurd h
+
+pub runs_filters : (t : Tree) (p : ℕ) (fs : Filters) (w n : ℕ) → CanRun (filter t p fs) w n → CanFilter fs p w n × (total_size fs ≤ 262144)
+runs_filters t p fs w n r =
+    let old = r.typed.0.parameters in
+    let new = r.signature.parameters in
+    let typed = r.typed.5 in
+    let many = are_as_many fs (drop p old) (drop p new) typed in
+    let few = are_as_few fs (drop p old) (drop p new) typed in
+    let lengths : (length (drop p old) ≡ length old - p) × (length (drop p new) ≡ length new - p) = (length-drop p old, length-drop p new) in
+    let firsts : length (take p new) ≡ length (take p old) = ap (λ (ks : List Kind). length ks) r.typed.4 in
+    let room : p + length (drop p old) ≤ w = omega (arith, r.wide, r.typed.2, length-take p old, length-take p new) in
+    let small : total_size fs ≤ 262144 = omega (arith, r.small) in
+    (can_filter fs (drop p old) (drop p new) p w n typed room (omega (arith, r.known)) small, small)
+
+pub target_runs : (t : Tree) (p : ℕ) (fs : Filters) (w n : ℕ) → CanRun (filter t p fs) w n → CanRun t w n
+target_runs t p fs w n r =
+    let old = r.typed.0.parameters in
+    let new = r.signature.parameters in
+    let many = are_as_many fs (drop p old) (drop p new) r.typed.5 in
+    let firsts : length (take p new) ≡ length (take p old) = ap (λ (ks : List Kind). length ks) r.typed.4 in
+    record {
+      signature = r.typed.0;
+      typed = r.typed.1;
+      wide = omega (arith, r.wide, r.typed.2, length-take p old, length-take p new, length-drop p old, length-drop p new);
+      known = omega (arith, r.known);
+      small = omega (arith, r.small);
+    }
+
+module _ (v : List Bool) (t : Tree) (p : ℕ) (fs : Filters) (a : List Value) where
+  pub filter_throws : (x : Throw) → filtered v fs p a ≡ Err x → mean v (filter t p fs) a ≡ Thrown x
+  filter_throws x h = ap (λ r. with_arguments r (mean v t)) h
+
+  pub filter_throws_steps : (x : Throw) → filtered v fs p a ≡ Err x → steps v (filter t p fs) a ≡ 1 + filter_steps v fs p a
+  filter_throws_steps x h = let e = ap (λ r. after_filters r (steps v t)) h in omega (arith, e)
+
+  pub filter_goes : (b : List Value) → filtered v fs p a ≡ Ok b → mean v (filter t p fs) a ≡ mean v t b
+  filter_goes b h = ap (λ r. with_arguments r (mean v t)) h
+
+  pub filter_goes_steps : (b : List Value) → filtered v fs p a ≡ Ok b → steps v (filter t p fs) a ≡ 1 + (filter_steps v fs p a + steps v t b)
+  filter_goes_steps b h = let e = ap (λ r. after_filters r (steps v t)) h in omega (arith, e)
