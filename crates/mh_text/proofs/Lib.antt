@@ -1,0 +1,7 @@
+pub mod Forms
+pub mod Lawful
+pub mod Loop
+pub mod MachineLemmas
+pub mod NameLemmas
+pub mod Runs
+pub mod Shapes

@@ -1,0 +1,63 @@
+-- Reading that may fail, and what a reader of the code gives.
+use Rattle.std.specs.Prelude.{ℕ, ◌≡◌, ◌⊎◌, Option, Some, None, Result, Ok, Err}
+use Rattle.mh_type.specs.declared.fault.TypeFault.{TypeFault}
+use Rattle.mh_type.specs.declared.fault.TypeFault.TheVariants as type_fault
+use Rattle.mh_tree.specs.declared.fault.TreeFault.{TreeFault}
+use Rattle.mh_tree.specs.declared.fault.TreeFault.TheVariants as tree_fault
+use Rattle.mh_text.specs.declared.definition.DefinitionFault.{DefinitionFault}
+use Rattle.mh_text.specs.declared.fault.ReadFault.{ReadFault}
+use Rattle.mh_text.specs.declared.fault.ReadFault.TheVariants.{NoMemory, TooLong, NotJson, BadShape, BadValue, Tree, Definition, BadType}
+use Rattle.mh_text.specs.declared.fault.TextFault.{TextFault}
+use Rattle.mh_text.specs.declared.fault.TextFault.TheVariants as text
+use Rattle.mh_text.specs.declared.fault.Fault.{Fault}
+
+infixl 10 ◌>>=◌
+abbrev pub ◌>>=◌ : {A B E : Type 0} → Result A E → (A → Result B E) → Result B E
+(Ok x) >>= f = f x
+(Err e) >>= f = Err e
+
+-- the value, or the fault where there is none
+abbrev pub or_fault : {A : Type 0} → ReadFault → Option A → Result A ReadFault
+or_fault e (Some x) = Ok x
+or_fault e None = Err e
+
+-- What a function returned, seen by view, is what reading gives, unless memory ran out.
+abbrev pub Gives : {X Y : Type 0} → (X → Y) → Result X ReadFault → Result Y ReadFault → Type 0
+Gives view (Ok x) read = read ≡ Ok (view x)
+Gives view (Err e) read = (e ≡ NoMemory) ⊎ (read ≡ Err e)
+
+-- what a constructor of trees refuses, as a fault of the input
+abbrev pub of_tree : TreeFault → ReadFault
+of_tree tree_fault.NoMemory = NoMemory
+of_tree cause = Tree cause
+
+-- what makes a type refuses, as a fault of the input
+abbrev pub of_type : TypeFault → ReadFault
+of_type type_fault.NoMemory = NoMemory
+of_type cause = BadType cause
+
+-- what was made, or the cause as a fault of the input
+abbrev pub caused : {A C : Type 0} → (C → ReadFault) → Result A C → Result A ReadFault
+caused fault (Ok x) = Ok x
+caused fault (Err cause) = Err (fault cause)
+
+-- a fault of the input as one of the whole run
+abbrev pub told : ReadFault → TextFault
+told NoMemory = text.NoMemory
+told TooLong = text.TooLong
+told NotJson = text.NotJson
+told BadShape = text.BadShape
+told BadValue = text.BadValue
+told (Tree cause) = text.Tree cause
+told (Definition cause) = text.Definition cause
+told (BadType cause) = text.BadType cause
+
+-- a fault at a place: 0 outside the events, and the event's number from 1
+abbrev pub at_place : {A : Type 0} → ℕ → Result A ReadFault → Result A Fault
+at_place place (Ok x) = Ok x
+at_place place (Err e) = Err (record { kind = told e; at = place })
+
+-- the same as Gives where the fault has its place
+abbrev pub GivesAt : {X Y : Type 0} → (X → Y) → Result X Fault → Result Y Fault → Type 0
+GivesAt view (Ok x) read = read ≡ Ok (view x)
+GivesAt view (Err e) read = (e.kind ≡ text.NoMemory) ⊎ (read ≡ Err e)

@@ -1,0 +1,26 @@
+//! What a machine is asked.
+
+use crate::listing::Listing;
+use mh_tree::Handle;
+use mh_type::Value;
+
+/// One step of one actor. Sites and points are given by number; a number past the last is one that
+/// is not there.
+#[derive(Drop)]
+pub enum Event {
+    /// A worker calls a site.
+    Call {
+        worker: u32,
+        site: usize,
+        arguments: Listing<Value>,
+    },
+    /// A site gets another target (`MutableCallSite.setTarget`).
+    Target {
+        site: usize,
+        tree: Handle,
+    },
+    /// Points become invalid, for good (`SwitchPoint.invalidateAll`).
+    Invalidate {
+        points: Listing<u32>,
+    },
+}

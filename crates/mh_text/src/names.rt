@@ -1,0 +1,80 @@
+//! Names, and the numbers that they have by the order of their first appearance.
+ghost use Rattle.std.specs.Prelude.{◌≡◌, [], IfOk, OnOk, OnErr};
+ghost use Rattle.mh_text.specs.Names.{place_of, with_name};
+
+use indexmap::IndexSet;
+use std::alloc::{AllocError, Global};
+use std::marker::Model;
+
+/// A text that owns its bytes.
+#[derive(Drop)]
+pub struct Name {
+    text: String,
+}
+
+impl Model for Name {
+    ghost use Rattle.std.specs.Prelude.{List, ℕ, string_bytes};
+
+    ghost Value = { List ℕ };
+
+    ghost view = { λ a. string_bytes a.text };
+}
+
+impl Name {
+    pub fn new(alloc: Global, text: &str) -> Result<Name, AllocError>
+        ensures value { IfOk result (λ name. name ≡ text.now) }
+    {
+        Ok(Name {
+            text: String::from_str(alloc, text)?,
+        })
+    }
+
+    pub fn as_str(&self) -> &str
+        ensures value { result.now ≡ self.now }
+    {
+        self.text.as_str()
+    }
+}
+
+/// Names in the order of their first appearance.
+#[derive(Drop)]
+pub struct Names {
+    alloc: Global,
+    set: IndexSet<String>,
+}
+
+impl Model for Names {
+    ghost use Rattle.std.specs.Prelude.{List, ℕ, string_bytes, map};
+
+    ghost Value = { List (List ℕ) };
+
+    ghost view = { λ a. map string_bytes a.set.keys };
+}
+
+impl Names {
+    pub fn new(alloc: Global) -> Names
+        ensures value { result ≡ [] }
+    {
+        Names {
+            alloc,
+            set: IndexSet::new(alloc),
+        }
+    }
+
+    /// Puts a new name last.
+    pub fn add(&mut self, name: &str) -> Result<(), AllocError>
+        ensures ok { OnOk result (self.new ≡ with_name self.old name.now) }
+        ensures err { OnErr result (self.new ≡ self.old) }
+    {
+        let name = String::from_str(self.alloc, name)?;
+        self.set.insert_full(name)?;
+        Ok(())
+    }
+
+    /// The number of a name, or one past the last.
+    pub fn place(&self, name: &str) -> usize
+        ensures value { result ≡ place_of self.now name.now }
+    {
+        self.set.get_index_of(name).unwrap_or(self.set.len())
+    }
+}

@@ -1,0 +1,146 @@
+//! Bytes in, lines out.
+ghost use Rattle.std.specs.Prelude.{◌≡◌, Ok, IfOk, IfErr, OnOk, IfSome, MatchResult};
+ghost use Rattle.serde_json.specs.View.{view};
+ghost use Rattle.std.specs.Io.KnownBytes.{Appends};
+ghost use Rattle.mh_text.specs.declared.script.Script.{Script};
+ghost use Rattle.mh_text.specs.declared.reply.Reply.{Reply};
+ghost use Rattle.mh_text.specs.Bytes.{AppendsFront};
+ghost use Rattle.mh_text.specs.Lines.{line_of};
+ghost use Rattle.mh_text.specs.Legal.{Step};
+ghost use Rattle.mh_text.specs.Gives.{Gives, GivesAt};
+ghost use Rattle.mh_text.specs.Output.{json_in, script_in, script_of_input, first, AppendsRun, EndsIn, EndsEarly, IsUnread, Failed, IsEnd};
+
+use crate::event::Event;
+use crate::fault::{Fault, ReadFault, TextFault};
+use crate::input::read_input;
+use crate::lines::line;
+use crate::machine::Machine;
+use crate::reply::Reply;
+use crate::script::{Script, read_script};
+use crate::watched::Watched;
+use serde_json::Value;
+use std::alloc::Global;
+use std::io::{Read, Write};
+
+/// The JSON value of an input.
+fn parse(alloc: Global, input: &[u8]) -> Result<Value, ReadFault>
+    ensures value { Gives view result (json_in input.now) }
+{
+    match Value::from_slice(alloc, input) {
+        Ok(value) => Ok(value),
+        Err(error) => {
+            if error.is_memory() {
+                return Err(ReadFault::NoMemory);
+            }
+            Err(ReadFault::NotJson)
+        }
+    }
+}
+
+/// The script of an input within the limit.
+fn script(alloc: Global, input: &[u8]) -> Result<Script, Fault>
+    ensures value { GivesAt (λ x. x) result (script_in input.now) }
+{
+    read_script(alloc, &parse(alloc, input)?)
+}
+
+/// The line of a reply to the event of this number.
+fn write_line<W: Write>(
+    alloc: Global,
+    reply: &Reply,
+    at: u64,
+    writer: &mut Watched<W>,
+) -> Result<(), Fault>
+    ensures line { MatchResult result
+        (λ _. Appends (W.contents writer.old.inner) (W.contents writer.new.inner) (line_of reply.now))
+        (λ e. (e.at ≡ at) × AppendsFront (W.contents writer.old.inner) (W.contents writer.new.inner) (line_of reply.now)) }
+    ensures kind { IfErr result (λ e. IsEnd writer.new.failed e.kind) }
+{
+    let Ok(text) = line(alloc, reply) else {
+        return Err(Fault {
+            kind: TextFault::NoMemory,
+            at,
+        });
+    };
+    match writer.write_all(text.as_bytes()) {
+        Ok(()) => Ok(()),
+        Err(kind) => Err(Fault { kind, at }),
+    }
+}
+
+/// One event, and its line.
+fn write_event<W: Write>(
+    alloc: Global,
+    machine: &mut Machine,
+    event: Event,
+    at: u64,
+    writer: &mut Watched<W>,
+) -> Result<(), Fault>
+    ensures step { (reply : Reply) × Step machine.old event reply machine.new
+        × MatchResult result
+        (λ _. Appends (W.contents writer.old.inner) (W.contents writer.new.inner) (line_of reply))
+        (λ e. (e.at ≡ at) × AppendsFront (W.contents writer.old.inner) (W.contents writer.new.inner) (line_of reply)) }
+    ensures kind { IfErr result (λ e. IsEnd writer.new.failed e.kind) }
+{
+    let reply = machine.step(event);
+    write_line(alloc, &reply, at, writer)
+}
+
+/// Runs the events, and writes the line of each.
+fn run_events<W: Write>(
+    alloc: Global,
+    machine: Machine,
+    events: Vec<Event>,
+    writer: &mut Watched<W>,
+) -> Result<(), Fault>
+    ensures ok { OnOk result (AppendsRun machine events.items (W.contents writer.old.inner) (W.contents writer.new.inner)) }
+    ensures kind { IfErr result (λ e. IsEnd writer.new.failed e.kind) }
+    ensures ends { IfErr result (λ e. EndsIn machine events.items e.at (W.contents writer.old.inner) (W.contents writer.new.inner)) }
+{
+    let mut machine = machine;
+    let mut at = 0;
+    for event in events {
+        at += 1;
+        write_event(alloc, &mut machine, event, at, writer)?;
+    }
+    Ok(())
+}
+
+/// The script that the reader gives.
+fn read_whole<R: Read>(alloc: Global, reader: &mut Watched<R>) -> Result<Script, Fault>
+    ensures ok { IfOk result (λ script. IfSome (R.remaining reader.old.inner) (λ input. script_of_input input ≡ Ok script)) }
+    ensures failed { IfErr result (IsUnread (R.remaining reader.old.inner) reader.new.failed) }
+{
+    let input = read_input(alloc, reader)?;
+    script(alloc, &input)
+}
+
+/// Runs a script, and writes the line of each reply.
+fn run_script<W: Write>(alloc: Global, script: Script, writer: &mut Watched<W>) -> Result<(), Fault>
+    ensures ok { OnOk result (AppendsRun (first script) script.events (W.contents writer.old.inner) (W.contents writer.new.inner)) }
+    ensures failed { IfErr result (EndsEarly script (W.contents writer.old.inner) (W.contents writer.new.inner) writer.new.failed) }
+{
+    let machine = Machine::open(alloc, script.definition, script.workers)?;
+    run_events(alloc, machine, script.events.into_vec(), writer)
+}
+
+/// Runs the script that the reader gives, and writes the line of each reply.
+///
+/// The input is read to its end, or to the first byte past 1,048,576, before the first event. A
+/// fault in it writes nothing. A run that memory or a failing write ends leaves the lines of the
+/// events before that one whole, and a beginning of its own.
+pub fn run_bytes<R: Read, W: Write>(
+    alloc: Global,
+    reader: &mut Watched<R>,
+    writer: &mut Watched<W>,
+) -> Result<(), Fault>
+    ensures ok { OnOk result (IfSome (R.remaining reader.old.inner) (λ input. (script : Script)
+        × (script_of_input input ≡ Ok script)
+        × AppendsRun (first script) script.events (W.contents writer.old.inner) (W.contents writer.new.inner))) }
+    ensures failed { IfErr result (λ e. Failed (R.remaining reader.old.inner)
+        (W.contents writer.old.inner) (W.contents writer.new.inner)
+        reader.new.failed writer.new.failed e) }
+{
+    let script = read_whole(alloc, reader)?;
+    run_script(alloc, script, writer)
+}

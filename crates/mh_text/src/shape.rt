@@ -1,0 +1,70 @@
+//! The parts of a JSON value, each with the fault that is told where it is not of its form.
+ghost use Rattle.std.specs.Prelude.{◌≡◌, map, Result};
+ghost use Rattle.std.specs.Fn.{FnReturnsAt};
+ghost use Rattle.serde_json.specs.Data.{Data};
+ghost use Rattle.serde_json.specs.declared.value.Value.{Value};
+ghost use Rattle.mh_text.specs.declared.fault.ReadFault.{ReadFault};
+ghost use Rattle.serde_json.specs.View.{view};
+ghost use Rattle.mh_text.specs.Gives.{Gives};
+ghost use Rattle.mh_text.specs.Shape.{list_of, text_of, member_of, count_of, each_of};
+
+use crate::fault::ReadFault;
+use crate::listing::Listing;
+use serde_json::Value;
+use std::alloc::Global;
+
+/// The greatest N of a script, whose counts are 0 to 2^63 - 1.
+pub(crate) const MOST: u64 = 0x7fff_ffff_ffff_ffff;
+
+/// The items of an array.
+#[tactic(auto, using(crate::proofs::Shapes::list_of_array))]
+pub(crate) fn list(value: &Value) -> Result<&[Value], ReadFault>
+    ensures value { Gives (λ x. map view x.now) result (list_of (view value.now)) }
+{
+    match value {
+        Value::Array(items) => Ok(items.as_slice()),
+        _ => Err(ReadFault::BadShape),
+    }
+}
+
+/// A string.
+pub(crate) fn text(value: &Value) -> Result<&str, ReadFault>
+    ensures value { Gives (λ x. x.now) result (text_of (view value.now)) }
+{
+    value.as_str().ok_or(ReadFault::BadShape)
+}
+
+/// What an object has at a key that has to be there.
+pub(crate) fn member<'a>(value: &'a Value, key: &str) -> Result<&'a Value, ReadFault>
+    ensures value { Gives (λ x. view x.now) result (member_of key.now (view value.now)) }
+{
+    value.get(key).ok_or(ReadFault::BadShape)
+}
+
+/// A whole number from 0 to a bound.
+pub(crate) fn count(value: &Value, bound: u64) -> Result<u64, ReadFault>
+    ensures value { Gives (λ x. x) result (count_of bound (view value.now)) }
+{
+    match value.as_u64() {
+        Some(number) if number <= bound => Ok(number),
+        _ => Err(ReadFault::BadShape),
+    }
+}
+
+/// What each item of a list is read as, up to the first fault.
+pub(crate) fn each<T: Drop, F: Fn(&Value) -> Result<T, ReadFault>>(
+    alloc: Global,
+    values: &[Value],
+    read: F,
+) -> Result<Listing<T>, ReadFault>
+    requires callable { F.IsAlwaysCallable read }
+    ensures value { (f : Data → Result T ReadFault)
+        → ((v : Value) (r : Result T ReadFault) → FnReturnsAt F.Fn read v r → Gives (λ x. x) r (f (view v)))
+        → Gives (λ x. x) result (each_of f (map view values.now)) }
+{
+    let mut items = Vec::new(alloc);
+    for value in values {
+        items.push(read(value)?)?;
+    }
+    Ok(Listing::from_vec(items))
+}

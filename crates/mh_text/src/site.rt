@@ -1,0 +1,59 @@
+//! The site of a script.
+ghost use Rattle.std.specs.Prelude.{◌≡◌, [], if◌then◌else◌};
+ghost use Rattle.serde_json.specs.View.{view};
+ghost use Rattle.mh_text.specs.Gives.{Gives};
+ghost use Rattle.mh_text.specs.Script.{site_of, only_site_of, site_place, parameters_at};
+
+use crate::definition::Site;
+use crate::fault::ReadFault;
+use crate::names::{Name, Names};
+use crate::shape::{list, member, text};
+use crate::trees::read_tree;
+use mh_type::{Kind, MethodType};
+use serde_json::Value;
+use std::alloc::Global;
+
+fn read_one(alloc: Global, points: &Names, value: &Value) -> Result<Site, ReadFault>
+    ensures value { Gives (λ x. x) result (site_of points.now (view value.now)) }
+{
+    let name = Name::new(alloc, text(member(value, "name")?)?)?;
+    let method_type = MethodType::parse(text(member(value, "type")?)?)?;
+    let target = read_tree(alloc, points, member(value, "target")?)?;
+    Ok(Site {
+        name,
+        method_type,
+        target,
+    })
+}
+
+/// The one site of a definition: its name, its type and its target.
+pub(crate) fn read_site(
+    alloc: Global,
+    points: &Names,
+    definition: &Value,
+) -> Result<Site, ReadFault>
+    ensures value { Gives (λ x. x) result (only_site_of points.now (view definition.now)) }
+{
+    let [site] = list(member(definition, "sites")?)? else {
+        return Err(ReadFault::BadShape);
+    };
+    read_one(alloc, points, site)
+}
+
+/// The number of the site that is named: 0, or 1 where no site has the name.
+pub(crate) fn site_number(site: &Site, name: &str) -> usize
+    ensures value { result ≡ site_place site.now name.now }
+{
+    if site.name.as_str() == name { 0 } else { 1 }
+}
+
+/// The parameters of the site that is named, none where no site has the name.
+pub(crate) fn parameters<'a>(site: &'a Site, name: &str) -> &'a [Kind]
+    ensures value { result.now ≡ parameters_at site.now name.now }
+{
+    if site.name.as_str() == name {
+        site.method_type.parameters()
+    } else {
+        &[]
+    }
+}
