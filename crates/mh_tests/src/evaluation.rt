@@ -1,0 +1,213 @@
+//! What trees give, and in how many steps.
+
+use crate::java_values::CASES;
+use crate::trees::example;
+use mh_eval::{Stack, eval, fits};
+use mh_tree::Handle;
+use mh_type::{Kind, MethodType, Op, Outcome, Text, Throw, Value};
+use std::alloc::{AllocError, Global};
+use std::test::Fail;
+
+/// Evaluates a handle on arguments that fit it.
+fn evaluated(
+    alloc: Global,
+    valid: &[bool],
+    handle: &Handle,
+    arguments: &[Value],
+) -> Result<(Outcome, u64), Fail> {
+    if !fits(handle.method_type(), arguments) {
+        Err("the arguments do not fit")?;
+    }
+    if handle.point_bound() > valid.len() {
+        Err("a point is not there")?;
+    }
+    let mut stack = Stack::new(alloc)?;
+    Ok(eval(&mut stack, valid, handle, arguments)?)
+}
+
+/// The int of an outcome.
+fn int(outcome: &Outcome) -> Option<i32> {
+    match outcome {
+        Outcome::Value(Value::Int(number)) => Some(*number),
+        _ => None,
+    }
+}
+
+/// What an outcome throws.
+fn thrown(outcome: &Outcome) -> Option<Throw> {
+    match outcome {
+        Outcome::Thrown(throw) => Some(*throw),
+        Outcome::Value(_) => None,
+    }
+}
+
+#[test]
+fn the_example_site_is_evaluated(rt: HostRuntime) -> Result<(), Fail> {
+    let handle = example(rt.alloc())?;
+    for (valid, argument, result, steps) in [
+        (true, 1, 100, 6),
+        (true, 2, 3, 6),
+        (false, 1, -1, 2),
+        (false, -2_147_483_648, -2_147_483_648, 2),
+        (true, 2_147_483_647, -2_147_483_648, 6),
+    ] {
+        let (outcome, taken) = evaluated(rt.alloc(), &[valid], &handle, &[Value::Int(argument)])?;
+        assert_eq!(rt; int(&outcome), Some(result), "at {argument}");
+        assert_eq!(rt; taken, steps, "at {argument}");
+    }
+    Ok(())
+}
+
+/// Only the chosen branch of a guard runs: the other one would throw on 0.
+#[test]
+fn a_guard_runs_one_branch(rt: HostRuntime) -> Result<(), Fail> {
+    let equal = Handle::op(rt.alloc(), Op::Ieq)?;
+    let test = Handle::insert(rt.alloc(), &equal, 1, &[Value::Int(0)])?;
+    let seven = Handle::constant(rt.alloc(), &Value::Int(7))?;
+    let seven = Handle::drop(rt.alloc(), &seven, 0, &[Kind::Int])?;
+    let divide = Handle::op(rt.alloc(), Op::Idiv)?;
+    let tenth = Handle::insert(rt.alloc(), &divide, 0, &[Value::Int(10)])?;
+    let guard = Handle::guard(rt.alloc(), &test, &seven, &tenth)?;
+    let (on_zero, _) = evaluated(rt.alloc(), &[], &guard, &[Value::Int(0)])?;
+    assert_eq!(rt; int(&on_zero), Some(7));
+    let (on_three, _) = evaluated(rt.alloc(), &[], &guard, &[Value::Int(3)])?;
+    assert_eq!(rt; int(&on_three), Some(3));
+    let (alone, steps) = evaluated(rt.alloc(), &[], &tenth, &[Value::Int(0)])?;
+    assert_eq!(rt; thrown(&alone), Some(Throw::ArithmeticException));
+    assert_eq!(rt; steps, 2);
+    Ok(())
+}
+
+/// An argument of a kind, from its text.
+fn argument(kind: Kind, text: &str) -> Result<Value, Fail> {
+    match kind {
+        Kind::Int => Ok(Value::Int(text.parse::<i32>()?)),
+        Kind::Long => Ok(Value::Long(text.parse::<i64>()?)),
+        Kind::Boolean | Kind::Text => Err("a number was to come")?,
+    }
+}
+
+/// The text of an outcome, as the table of Java's values has it.
+fn shown(alloc: Global, outcome: &Outcome) -> Result<String, AllocError> {
+    match outcome {
+        Outcome::Value(Value::Int(number)) => format!(in alloc; "{number}"),
+        Outcome::Value(Value::Long(number)) => format!(in alloc; "{number}"),
+        Outcome::Value(Value::Boolean(truth)) => format!(in alloc; "{truth}"),
+        Outcome::Value(Value::Text(text)) => String::from_str(alloc, text.as_str()),
+        Outcome::Thrown(Throw::ArithmeticException) => String::from_str(alloc, "throws"),
+        Outcome::Thrown(Throw::TextTooLong) => String::from_str(alloc, "too long"),
+    }
+}
+
+#[test]
+fn operations_are_those_of_java(rt: HostRuntime) -> Result<(), Fail> {
+    let mut tried = 0u32;
+    for line in CASES.lines() {
+        let (name, rest) = line.split_once(' ').ok_or("no arguments")?;
+        let (arguments, wanted) = rest.rsplit_once(' ').ok_or("no result")?;
+        let op = Op::from_name(name).ok_or("no operation")?;
+        let handle = Handle::op(rt.alloc(), op)?;
+        let kind = handle
+            .method_type()
+            .parameters()
+            .first()
+            .copied()
+            .ok_or("no parameter")?;
+        let mut values = Vec::new(rt.alloc());
+        for text in arguments.split(' ') {
+            values.push(argument(kind, text)?)?;
+        }
+        let (outcome, steps) = evaluated(rt.alloc(), &[], &handle, values.as_slice())?;
+        let given = shown(rt.alloc(), &outcome)?;
+        assert_eq!(rt; given.as_str(), wanted, "at {line}");
+        assert_eq!(rt; steps, 1);
+        tried = tried.saturating_add(1);
+    }
+    assert_eq!(rt; tried, 528);
+    Ok(())
+}
+
+/// A fold's combiner and a permutation on values whose results wrap.
+#[test]
+fn folds_and_permutations_wrap(rt: HostRuntime) -> Result<(), Fail> {
+    let add = Handle::op(rt.alloc(), Op::Iadd)?;
+    let negate = Handle::op(rt.alloc(), Op::Ineg)?;
+    let fold = Handle::fold(rt.alloc(), &add, &negate)?;
+    let (outcome, steps) = evaluated(rt.alloc(), &[], &fold, &[Value::Int(-2_147_483_648)])?;
+    assert_eq!(rt; int(&outcome), Some(0));
+    assert_eq!(rt; steps, 3);
+    let multiply = Handle::op(rt.alloc(), Op::Imul)?;
+    let unary = MethodType::parse("(int)int")?;
+    let square = Handle::permute(rt.alloc(), &multiply, &unary, &[0, 0])?;
+    let (outcome, steps) = evaluated(rt.alloc(), &[], &square, &[Value::Int(65_536)])?;
+    assert_eq!(rt; int(&outcome), Some(0));
+    assert_eq!(rt; steps, 2);
+    let join = Handle::op(rt.alloc(), Op::Concat)?;
+    let length = Handle::op(rt.alloc(), Op::Len)?;
+    let joined = Handle::filter_return(rt.alloc(), &join, &length)?;
+    let ab = Value::Text(Text::new(rt.alloc(), "ab")?);
+    let c = Value::Text(Text::new(rt.alloc(), "c")?);
+    let (outcome, steps) = evaluated(rt.alloc(), &[], &joined, &[ab, c])?;
+    assert_eq!(rt; int(&outcome), Some(3));
+    assert_eq!(rt; steps, 3);
+    Ok(())
+}
+
+#[test]
+fn joined_texts_have_a_limit(rt: HostRuntime) -> Result<(), Fail> {
+    let mut long = String::new(rt.alloc());
+    for _ in 0..65_536 {
+        long.push('x')?;
+    }
+    let join = Handle::op(rt.alloc(), Op::Concat)?;
+    let first = Value::Text(Text::new(rt.alloc(), long.as_str())?);
+    let (outcome, _) = evaluated(
+        rt.alloc(),
+        &[],
+        &join,
+        &[first.share()?, Value::Text(Text::new(rt.alloc(), "")?)],
+    )?;
+    assert_eq!(rt; thrown(&outcome), None);
+    let (outcome, _) = evaluated(
+        rt.alloc(),
+        &[],
+        &join,
+        &[first, Value::Text(Text::new(rt.alloc(), "x")?)],
+    )?;
+    assert_eq!(rt; thrown(&outcome), Some(Throw::TextTooLong));
+    Ok(())
+}
+
+#[test]
+fn arguments_of_another_type_do_not_fit(rt: HostRuntime) -> Result<(), Fail> {
+    let add = Handle::op(rt.alloc(), Op::Iadd)?;
+    let add = add.method_type();
+    assert!(rt; fits(add, &[Value::Int(1), Value::Int(2)]));
+    assert!(rt; !fits(add, &[Value::Int(1), Value::Long(2)]));
+    assert!(rt; !fits(add, &[Value::Int(1)]));
+    assert!(rt; !fits(add, &[Value::Int(1), Value::Int(2), Value::Int(3)]));
+    Ok(())
+}
+
+#[test]
+fn other_operations_have_their_values(rt: HostRuntime) -> Result<(), Fail> {
+    let text = |bytes: &str| Text::new(rt.alloc(), bytes);
+    let (ab, c) = (Value::Text(text("ab")?), Value::Text(text("c")?));
+    let yes = Value::Boolean(true);
+    let no = Value::Boolean(false);
+    for (op, arguments, wanted) in [
+        (Op::Not, &[yes.share()?][..], "false"),
+        (Op::Not, &[no.share()?][..], "true"),
+        (Op::Beq, &[yes.share()?, no.share()?][..], "false"),
+        (Op::Beq, &[no.share()?, no.share()?][..], "true"),
+        (Op::Concat, &[ab.share()?, c.share()?][..], "abc"),
+        (Op::Seq, &[ab.share()?, ab.share()?][..], "true"),
+        (Op::Seq, &[ab.share()?, c.share()?][..], "false"),
+        (Op::Len, &[ab.share()?][..], "2"),
+    ] {
+        let handle = Handle::op(rt.alloc(), op)?;
+        let (outcome, _) = evaluated(rt.alloc(), &[], &handle, arguments)?;
+        assert_eq!(rt; shown(rt.alloc(), &outcome)?.as_str(), wanted);
+    }
+    Ok(())
+}

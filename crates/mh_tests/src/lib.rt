@@ -1,0 +1,13 @@
+//! Tests of the library crates: what no clause says, and each public call once with ample memory.
+#![tactic(auto)]
+
+#[cfg(test)]
+mod evaluation;
+#[cfg(test)]
+mod java_values;
+#[cfg(test)]
+mod streams;
+#[cfg(test)]
+mod trees;
+#[cfg(test)]
+mod types;

@@ -1,0 +1,32 @@
+//! The program `mhlink`: scripts of calls, retargetings and invalidations.
+#![tactic(auto)]
+
+mod command;
+#[cfg(test)]
+mod tests;
+
+pub use command::command;
+use command::{COMMAND_LINE, NO_MEMORY};
+pub use mh_text::run_bytes;
+use std::io::{BufWriter, ErrorKind};
+use std::process::ExitCode;
+use std::{env, io};
+
+fn main(rt: HostRuntime) -> io::Result<ExitCode> {
+    let alloc = rt.alloc();
+    let arguments = match env::args(&rt) {
+        Ok(arguments) => arguments,
+        Err(error) if error.kind() == ErrorKind::OutOfMemory => {
+            return Ok(ExitCode::from(NO_MEMORY));
+        }
+        Err(_) => return Ok(ExitCode::from(COMMAND_LINE)),
+    };
+    let Ok(words) = arguments.collect::<Vec<String>>(alloc) else {
+        return Ok(ExitCode::from(NO_MEMORY));
+    };
+    let Ok(out) = BufWriter::new(alloc, rt.stdout()) else {
+        return Ok(ExitCode::from(NO_MEMORY));
+    };
+    let status = command(alloc, words.as_slice(), rt.stdin(), out, rt.stderr());
+    Ok(ExitCode::from(status))
+}

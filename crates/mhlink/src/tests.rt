@@ -1,0 +1,556 @@
+//! Scripts and command lines, with what they write and end with.
+use super::*;
+use std::alloc::Global;
+use std::test::Fail;
+
+/// Two points, and a site over the first. The keys `key` and `links` are read past.
+const DEFINITION: &str =
+    "{\"version\":1,\"points\":[{\"name\":\"a\",\"cost\":5},{\"name\":\"b\",\"cost\":7}],\"sites\":[{\"name\":\"f\",\"type\":\"(int)int\",\"key\":0,\"target\":[\"point\",\"a\",[\"guard\",[\"insert\",[\"op\",\"ieq\"],1,[1]],[\"drop\",[\"const\",\"int\",100],0,[\"int\"]],[\"insert\",[\"op\",\"iadd\"],1,[1]]],[\"op\",\"ineg\"]],\"links\":[{\"when\":1,\"weight\":3,\"needs\":[\"a\"]},{\"when\":2,\"weight\":1,\"needs\":[\"a\",\"b\"]}]}]}";
+
+/// What a run wrote, and its status.
+#[derive(Drop)]
+struct Ran {
+    status: u8,
+    out: Vec<u8>,
+    err: Vec<u8>,
+}
+
+/// Runs a command line on an input.
+fn run_words(alloc: Global, words: &[&str], input: &str) -> Ran {
+    let mut out = Vec::new(alloc);
+    let mut err = Vec::new(alloc);
+    let status = command(alloc, words, input.as_bytes(), &mut out, &mut err);
+    Ran { status, out, err }
+}
+
+/// Runs a script.
+fn run_script(alloc: Global, input: &str) -> Ran {
+    run_words(alloc, &["mhlink", "run"], input)
+}
+
+/// A script of the definition above, with these events.
+fn with_events(alloc: Global, events: &str) -> Result<String, Fail> {
+    Ok(format!(in alloc; "{{\"definition\":{DEFINITION},\"workers\":2,\"events\":{events}}}")?)
+}
+
+/// A script of no point and one worker, with this site and these events.
+fn with_site(alloc: Global, site: &str, events: &str) -> Result<String, Fail> {
+    Ok(format!(in alloc;
+        "{{\"definition\":{{\"version\":1,\"points\":[],\"sites\":[{site}]}},\"workers\":1,\"events\":{events}}}"
+    )?)
+}
+
+/// A site `f` of this type and target.
+fn site(alloc: Global, method_type: &str, target: &str) -> Result<String, Fail> {
+    Ok(format!(in alloc; "{{\"name\":\"f\",\"type\":\"{method_type}\",\"target\":{target}}}")?)
+}
+
+#[test]
+fn events_of_the_definition(rt: HostRuntime) -> Result<(), Fail> {
+    let cases = [
+        ("[]", ""),
+        (
+            "[[\"call\",0,\"f\",[1]],[\"call\",0,\"f\",[2]]]",
+            "int 100\nint 3\n",
+        ),
+        (
+            "[[\"call\",0,\"f\",[1]],[\"invalidate\",[\"a\"]],[\"call\",0,\"f\",[1]],[\"target\",\"f\",[\"insert\",[\"op\",\"iadd\"],1,[10]]],[\"call\",0,\"f\",[1]]]",
+            "int 100\nok\nint -1\nok\nint 11\n",
+        ),
+        (
+            "[[\"invalidate\",[]],[\"invalidate\",[\"b\"]],[\"call\",1,\"f\",[1]]]",
+            "ok\nok\nint 100\n",
+        ),
+        ("[[\"call\",0,\"f\",[2147483648]]]", "refused 5 WrongType\n"),
+        ("[[\"call\",0,\"f\",[\"x\"]]]", "refused 5 WrongType\n"),
+        ("[[\"call\",0,\"f\",[]]]", "refused 5 WrongType\n"),
+        ("[[\"call\",0,\"f\",[1,1]]]", "refused 5 WrongType\n"),
+        ("[[\"call\",0,\"g\",[1]]]", "refused 3 NoSite\n"),
+        ("[[\"call\",2,\"f\",[1]]]", "refused 13 NoWorker\n"),
+        ("[[\"call\",4294967295,\"f\",[1]]]", "refused 13 NoWorker\n"),
+        (
+            "[[\"target\",\"g\",[\"op\",\"ineg\"]]]",
+            "refused 3 NoSite\n",
+        ),
+        (
+            "[[\"target\",\"f\",[\"op\",\"iadd\"]]]",
+            "refused 5 WrongType\n",
+        ),
+        (
+            "[[\"target\",\"f\",[\"point\",\"c\",[\"op\",\"ineg\"],[\"op\",\"ineg\"]]]]",
+            "refused 4 NoPoint\n",
+        ),
+        (
+            "[[\"invalidate\",[\"a\",\"c\"]],[\"call\",0,\"f\",[1]]]",
+            "refused 4 NoPoint\nint 100\n",
+        ),
+    ];
+    for (events, lines) in cases {
+        let ran = run_script(rt.alloc(), with_events(rt.alloc(), events)?.as_str());
+        assert_eq!(rt; ran.out.as_slice(), lines.as_bytes(), "at {events}");
+        assert!(rt; ran.err.is_empty(), "at {events}");
+        assert_eq!(rt; ran.status, 0, "at {events}");
+    }
+    Ok(())
+}
+
+#[test]
+fn faults_in_events(rt: HostRuntime) -> Result<(), Fail> {
+    let cases = [
+        ("{}", "4 BadShape at 0"),
+        ("[{}]", "4 BadShape at 1"),
+        ("[[]]", "4 BadShape at 1"),
+        ("[[1]]", "4 BadShape at 1"),
+        ("[[\"walk\"]]", "4 BadShape at 1"),
+        ("[[\"call\",0,\"f\"]]", "4 BadShape at 1"),
+        ("[[\"call\",0,\"f\",[1],1]]", "4 BadShape at 1"),
+        ("[[\"call\",-1,\"f\",[1]]]", "4 BadShape at 1"),
+        ("[[\"call\",4294967296,\"f\",[1]]]", "4 BadShape at 1"),
+        ("[[\"call\",0,1,[1]]]", "4 BadShape at 1"),
+        ("[[\"call\",0,\"f\",1]]", "4 BadShape at 1"),
+        ("[[\"call\",0,\"f\",[null]]]", "5 BadValue at 1"),
+        ("[[\"call\",0,\"g\",[null]]]", "5 BadValue at 1"),
+        ("[[\"call\",0,\"f\",[1.0]]]", "5 BadValue at 1"),
+        ("[[\"call\",0,\"f\",[-0]]]", "5 BadValue at 1"),
+        (
+            "[[\"call\",0,\"f\",[9223372036854775808]]]",
+            "5 BadValue at 1",
+        ),
+        ("[[\"call\",0,\"f\",[\"\\u007f\"]]]", "5 BadValue at 1"),
+        ("[[\"call\",0,\"f\",[\"\\n\"]]]", "5 BadValue at 1"),
+        ("[[\"call\",0,\"f\",[1e999]]]", "3 NotJson at 0"),
+        ("[[\"target\",\"f\"]]", "4 BadShape at 1"),
+        ("[[\"target\",0,[\"op\",\"ineg\"]]]", "4 BadShape at 1"),
+        ("[[\"target\",\"f\",[\"op\",\"neg\"]]]", "4 BadShape at 1"),
+        (
+            "[[\"target\",\"f\",[\"insert\",[\"op\",\"ineg\"],1,[5]]]]",
+            "7 Tree 2 at 1",
+        ),
+        ("[[\"invalidate\"]]", "4 BadShape at 1"),
+        ("[[\"invalidate\",\"a\"]]", "4 BadShape at 1"),
+        ("[[\"invalidate\",[0]]]", "4 BadShape at 1"),
+        (
+            "[[\"call\",0,\"f\",[1]],[\"call\",0,\"f\",[2]],[\"walk\"]]",
+            "4 BadShape at 3",
+        ),
+    ];
+    for (events, fault) in cases {
+        let ran = run_script(rt.alloc(), with_events(rt.alloc(), events)?.as_str());
+        let line = format!(in rt.alloc(); "fault {fault}\n")?;
+        assert_eq!(rt; ran.err.as_slice(), line.as_bytes(), "at {events}");
+        assert!(rt; ran.out.is_empty(), "at {events}");
+        assert_eq!(rt; ran.status, 1, "at {events}");
+    }
+    Ok(())
+}
+
+#[test]
+fn calls_of_sites(rt: HostRuntime) -> Result<(), Fail> {
+    let cases = [
+        (
+            "(int)int",
+            "[\"guard\",[\"insert\",[\"op\",\"ieq\"],1,[0]],[\"drop\",[\"const\",\"int\",7],0,[\"int\"]],[\"insert\",[\"op\",\"idiv\"],0,[10]]]",
+            "[[\"call\",0,\"f\",[0]],[\"call\",0,\"f\",[3]]]",
+            "int 7\nint 3\n",
+        ),
+        (
+            "(int)int",
+            "[\"insert\",[\"op\",\"idiv\"],0,[10]]",
+            "[[\"call\",0,\"f\",[0]]]",
+            "thrown ArithmeticException\n",
+        ),
+        (
+            "(long,boolean,String)long",
+            "[\"drop\",[\"const\",\"long\",-9223372036854775808],0,[\"long\",\"boolean\",\"String\"]]",
+            "[[\"call\",0,\"f\",[1,true,\"x\"]],[\"call\",0,\"f\",[2147483648,false,\"\"]],[\"call\",0,\"f\",[1,1,\"x\"]]]",
+            "long -9223372036854775808\nlong -9223372036854775808\nrefused 5 WrongType\n",
+        ),
+        (
+            "(boolean)boolean",
+            "[\"op\",\"not\"]",
+            "[[\"call\",0,\"f\",[true]],[\"call\",0,\"f\",[false]]]",
+            "boolean false\nboolean true\n",
+        ),
+        (
+            "(String)String",
+            "[\"id\",\"String\"]",
+            "[[\"call\",0,\"f\",[\"a\\\"b\\\\c\"]]]",
+            "String \"a\\\"b\\\\c\"\n",
+        ),
+        (
+            "()String",
+            "[\"const\",\"String\",\"\"]",
+            "[[\"call\",0,\"f\",[]]]",
+            "String \"\"\n",
+        ),
+        (
+            "()long",
+            "[\"insert\",[\"op\",\"lneg\"],0,[5]]",
+            "[[\"call\",0,\"f\",[]]]",
+            "long -5\n",
+        ),
+    ];
+    for (method_type, target, events, lines) in cases {
+        let site = site(rt.alloc(), method_type, target)?;
+        let ran = run_script(
+            rt.alloc(),
+            with_site(rt.alloc(), site.as_str(), events)?.as_str(),
+        );
+        assert_eq!(rt; ran.out.as_slice(), lines.as_bytes(), "at {target}");
+        assert!(rt; ran.err.is_empty(), "at {target}");
+        assert_eq!(rt; ran.status, 0, "at {target}");
+    }
+    Ok(())
+}
+
+#[test]
+fn faults_in_targets(rt: HostRuntime) -> Result<(), Fail> {
+    let cases = [
+        ("[]", "4 BadShape"),
+        ("{}", "4 BadShape"),
+        ("[1]", "4 BadShape"),
+        ("[\"walk\"]", "4 BadShape"),
+        ("[\"op\"]", "4 BadShape"),
+        ("[\"op\",\"neg\"]", "4 BadShape"),
+        ("[\"op\",1]", "4 BadShape"),
+        ("[\"op\",\"ineg\",1]", "4 BadShape"),
+        ("[\"id\",\"short\"]", "4 BadShape"),
+        ("[\"const\",\"int\"]", "4 BadShape"),
+        ("[\"const\",\"short\",null]", "4 BadShape"),
+        ("[\"const\",\"int\",2147483648]", "5 BadValue"),
+        ("[\"const\",\"int\",-2147483649]", "5 BadValue"),
+        ("[\"const\",\"int\",true]", "5 BadValue"),
+        ("[\"const\",\"long\",9223372036854775808]", "5 BadValue"),
+        ("[\"const\",\"boolean\",1]", "5 BadValue"),
+        ("[\"const\",\"String\",1]", "5 BadValue"),
+        ("[\"const\",\"String\",\"\\u00e9\"]", "5 BadValue"),
+        ("[\"insert\",[\"op\",\"ineg\"],1,[5]]", "7 Tree 2"),
+        ("[\"insert\",[\"op\",\"ineg\"],0,[\"x\"]]", "7 Tree 3"),
+        ("[\"insert\",[\"op\",\"ineg\"],0,[null]]", "5 BadValue"),
+        ("[\"insert\",[\"op\",\"ineg\"],5,[null]]", "5 BadValue"),
+        ("[\"insert\",[\"op\",\"ineg\"],-1,[null]]", "4 BadShape"),
+        ("[\"insert\",[\"op\",\"ineg\"],0,null]", "4 BadShape"),
+        (
+            "[\"insert\",[\"op\",\"ineg\"],9223372036854775807,[]]",
+            "7 Tree 2",
+        ),
+        (
+            "[\"insert\",[\"op\",\"ineg\"],9223372036854775808,[]]",
+            "4 BadShape",
+        ),
+        ("[\"insert\",[\"op\",\"neg\"],-1,null]", "4 BadShape"),
+        ("[\"drop\",[\"op\",\"ineg\"],2,[\"int\"]]", "7 Tree 2"),
+        ("[\"drop\",[\"op\",\"ineg\"],2,[\"short\"]]", "4 BadShape"),
+        ("[\"drop\",[\"op\",\"ineg\"],0,\"int\"]", "4 BadShape"),
+        (
+            "[\"guard\",[\"op\",\"ineg\"],[\"op\",\"ineg\"],[\"op\",\"ineg\"]]",
+            "7 Tree 5",
+        ),
+        (
+            "[\"guard\",[\"op\",\"not\"],[\"op\",\"ineg\"],[\"op\",\"ineg\"]]",
+            "7 Tree 3",
+        ),
+        (
+            "[\"guard\",[\"op\",\"ieq\"],[\"op\",\"ineg\"]]",
+            "4 BadShape",
+        ),
+        (
+            "[\"point\",1,[\"op\",\"ineg\"],[\"op\",\"ineg\"]]",
+            "4 BadShape",
+        ),
+        (
+            "[\"point\",\"a\",[\"op\",\"ineg\"],[\"op\",\"iadd\"]]",
+            "7 Tree 3",
+        ),
+        (
+            "[\"point\",\"a\",[\"op\",\"ineg\"],[\"op\",\"ineg\"]]",
+            "8 Definition 13",
+        ),
+        ("[\"op\",\"iadd\"]", "8 Definition 15"),
+    ];
+    for (target, fault) in cases {
+        let site = site(rt.alloc(), "(int)int", target)?;
+        let ran = run_script(
+            rt.alloc(),
+            with_site(rt.alloc(), site.as_str(), "[]")?.as_str(),
+        );
+        let line = format!(in rt.alloc(); "fault {fault} at 0\n")?;
+        assert_eq!(rt; ran.err.as_slice(), line.as_bytes(), "at {target}");
+        assert!(rt; ran.out.is_empty(), "at {target}");
+        assert_eq!(rt; ran.status, 1, "at {target}");
+    }
+    Ok(())
+}
+
+#[test]
+fn faults_in_sites(rt: HostRuntime) -> Result<(), Fail> {
+    let cases = [
+        ("", "4 BadShape"),
+        ("1,2", "4 BadShape"),
+        ("[]", "4 BadShape"),
+        (
+            "{\"type\":\"(int)int\",\"target\":[\"op\",\"ineg\"]}",
+            "4 BadShape",
+        ),
+        (
+            "{\"name\":1,\"type\":\"(int)int\",\"target\":[\"op\",\"ineg\"]}",
+            "4 BadShape",
+        ),
+        (
+            "{\"name\":\"f\",\"target\":[\"op\",\"ineg\"]}",
+            "4 BadShape",
+        ),
+        (
+            "{\"name\":\"f\",\"type\":1,\"target\":[\"op\",\"ineg\"]}",
+            "4 BadShape",
+        ),
+        (
+            "{\"name\":\"f\",\"type\":\"(int)\",\"target\":null}",
+            "12 BadType 3",
+        ),
+        (
+            "{\"name\":\"f\",\"type\":\"(int,int,int,int,int,int,int,int,int,int,int,int,int,int,int,int,int)int\",\"target\":null}",
+            "12 BadType 2",
+        ),
+        ("{\"name\":\"f\",\"type\":\"(int)int\"}", "4 BadShape"),
+        (
+            "{\"name\":\"f\",\"type\":\"(int)int\",\"target\":null}",
+            "4 BadShape",
+        ),
+        (
+            "{\"name\":\"\",\"type\":\"(int)int\",\"target\":[\"op\",\"ineg\"]}",
+            "8 Definition 6",
+        ),
+        (
+            "{\"name\":\"xxxxxxxxxxxxxxxxxxxxxxxxxxxxxxxxxxxxxxxxxxxxxxxxxxxxxxxxxxxxxxxxx\",\"type\":\"(int)int\",\"target\":[\"op\",\"ineg\"]}",
+            "8 Definition 6",
+        ),
+        (
+            "{\"name\":\"1a\",\"type\":\"(int)int\",\"target\":[\"op\",\"ineg\"]}",
+            "8 Definition 6",
+        ),
+        (
+            "{\"name\":\"-a\",\"type\":\"(int)int\",\"target\":[\"op\",\"ineg\"]}",
+            "8 Definition 6",
+        ),
+        (
+            "{\"name\":\".a\",\"type\":\"(int)int\",\"target\":[\"op\",\"ineg\"]}",
+            "8 Definition 6",
+        ),
+        (
+            "{\"name\":\"a b\",\"type\":\"(int)int\",\"target\":[\"op\",\"ineg\"]}",
+            "8 Definition 6",
+        ),
+        (
+            "{\"name\":\"\\u00e9\",\"type\":\"(int)int\",\"target\":[\"op\",\"ineg\"]}",
+            "8 Definition 6",
+        ),
+        (
+            "{\"name\":\"a\\n\",\"type\":\"(int)int\",\"target\":[\"op\",\"ineg\"]}",
+            "8 Definition 6",
+        ),
+    ];
+    for (site, fault) in cases {
+        let ran = run_script(rt.alloc(), with_site(rt.alloc(), site, "[]")?.as_str());
+        let line = format!(in rt.alloc(); "fault {fault} at 0\n")?;
+        assert_eq!(rt; ran.err.as_slice(), line.as_bytes(), "at {site}");
+        assert!(rt; ran.out.is_empty(), "at {site}");
+        assert_eq!(rt; ran.status, 1, "at {site}");
+    }
+    Ok(())
+}
+
+#[test]
+fn faults_of_whole_inputs(rt: HostRuntime) -> Result<(), Fail> {
+    let cases = [
+        ("", "3 NotJson"),
+        ("{", "3 NotJson"),
+        (
+            "{\"definition\":{\"version\":1,\"points\":[{\"n",
+            "3 NotJson",
+        ),
+        ("[]", "4 BadShape"),
+        ("{}", "4 BadShape"),
+        ("{\"definition\":{}}", "4 BadShape"),
+        (
+            "{\"definition\":{\"version\":2,\"points\":null}}",
+            "4 BadShape",
+        ),
+        (
+            "{\"definition\":{\"version\":0,\"points\":[]}}",
+            "4 BadShape",
+        ),
+        (
+            "{\"definition\":{\"version\":1.0,\"points\":[]}}",
+            "4 BadShape",
+        ),
+        (
+            "{\"definition\":{\"version\":1,\"points\":{}}}",
+            "4 BadShape",
+        ),
+        (
+            "{\"definition\":{\"version\":1,\"points\":[{\"cost\":1}]}}",
+            "4 BadShape",
+        ),
+        (
+            "{\"definition\":{\"version\":1,\"points\":[{\"name\":\"a\"}]}}",
+            "4 BadShape",
+        ),
+        (
+            "{\"definition\":{\"version\":1,\"points\":[{\"name\":\"a\",\"cost\":-1}]}}",
+            "4 BadShape",
+        ),
+        (
+            "{\"definition\":{\"version\":1,\"points\":[{\"name\":\"a\",\"cost\":9223372036854775808}]}}",
+            "4 BadShape",
+        ),
+        (
+            "{\"definition\":{\"version\":1,\"points\":[]}}",
+            "4 BadShape",
+        ),
+        (
+            "{\"definition\":{\"version\":1,\"points\":[{\"name\":\"a\",\"cost\":1},{\"name\":\"a\",\"cost\":1}],\"sites\":[{\"name\":\"f\",\"type\":\"(int)int\",\"target\":[\"op\",\"ineg\"]}]}}",
+            "8 Definition 7",
+        ),
+        (
+            "{\"definition\":{\"version\":1,\"points\":[{\"name\":\"a\",\"cost\":1099511627777}],\"sites\":[{\"name\":\"f\",\"type\":\"(int)int\",\"target\":[\"op\",\"ineg\"]}]}}",
+            "8 Definition 8",
+        ),
+        (
+            "{\"definition\":{\"version\":1,\"points\":[],\"sites\":[{\"name\":\"f\",\"type\":\"(int)int\",\"target\":[\"op\",\"ineg\"]}]}}",
+            "4 BadShape",
+        ),
+    ];
+    for (input, fault) in cases {
+        let ran = run_script(rt.alloc(), input);
+        let line = format!(in rt.alloc(); "fault {fault} at 0\n")?;
+        assert_eq!(rt; ran.err.as_slice(), line.as_bytes(), "at {input}");
+        assert!(rt; ran.out.is_empty(), "at {input}");
+        assert_eq!(rt; ran.status, 1, "at {input}");
+    }
+    Ok(())
+}
+
+#[test]
+fn parts_beside_the_definition(rt: HostRuntime) -> Result<(), Fail> {
+    let cases = [
+        ("\"workers\":0,\"events\":[]", "fault 4 BadShape at 0\n", 1),
+        ("\"workers\":65,\"events\":[]", "fault 4 BadShape at 0\n", 1),
+        (
+            "\"workers\":2.0,\"events\":[]",
+            "fault 4 BadShape at 0\n",
+            1,
+        ),
+        (
+            "\"workers\":null,\"events\":[]",
+            "fault 4 BadShape at 0\n",
+            1,
+        ),
+        ("\"events\":[]", "fault 4 BadShape at 0\n", 1),
+        ("\"workers\":2", "fault 4 BadShape at 0\n", 1),
+        (
+            "\"workers\":0,\"events\":[[]]",
+            "fault 4 BadShape at 0\n",
+            1,
+        ),
+        ("\"workers\":64,\"events\":[]", "", 0),
+        (
+            "\"workers\":1,\"events\":[],\"limits\":null,\"more\":[{}]",
+            "",
+            0,
+        ),
+    ];
+    for (parts, line, status) in cases {
+        let input = format!(in rt.alloc(); "{{\"definition\":{DEFINITION},{parts}}}")?;
+        let ran = run_script(rt.alloc(), input.as_str());
+        assert_eq!(rt; ran.err.as_slice(), line.as_bytes(), "at {parts}");
+        assert!(rt; ran.out.is_empty(), "at {parts}");
+        assert_eq!(rt; ran.status, status, "at {parts}");
+    }
+    Ok(())
+}
+
+#[test]
+fn names_of_sites(rt: HostRuntime) -> Result<(), Fail> {
+    let names = [
+        "_",
+        "Z9_.-",
+        "xxxxxxxxxxxxxxxxxxxxxxxxxxxxxxxxxxxxxxxxxxxxxxxxxxxxxxxxxxxxxxxx",
+    ];
+    for name in names {
+        let site = format!(in rt.alloc();
+            "{{\"name\":\"{name}\",\"type\":\"(int)int\",\"target\":[\"op\",\"ineg\"]}}"
+        )?;
+        let events = format!(in rt.alloc(); "[[\"call\",0,\"{name}\",[1]]]")?;
+        let input = with_site(rt.alloc(), site.as_str(), events.as_str())?;
+        let ran = run_script(rt.alloc(), input.as_str());
+        assert_eq!(rt; ran.out.as_slice(), "int -1\n".as_bytes(), "at {name}");
+        assert_eq!(rt; ran.status, 0, "at {name}");
+    }
+    Ok(())
+}
+
+#[test]
+fn the_longest_input(rt: HostRuntime) -> Result<(), Fail> {
+    for (length, line, fault, status) in [
+        (1_048_576, "int 100\n", "", 0),
+        (1_048_577, "", "fault 2 TooLong at 0\n", 1),
+    ] {
+        let mut input = with_events(rt.alloc(), "[[\"call\",0,\"f\",[1]]]")?;
+        for _ in input.len()..length {
+            input.push(' ')?;
+        }
+        let ran = run_script(rt.alloc(), input.as_str());
+        assert_eq!(rt; ran.out.as_slice(), line.as_bytes(), "at {length}");
+        assert_eq!(rt; ran.err.as_slice(), fault.as_bytes(), "at {length}");
+        assert_eq!(rt; ran.status, status, "at {length}");
+    }
+    Ok(())
+}
+
+#[test]
+fn the_deepest_nesting(rt: HostRuntime) -> Result<(), Fail> {
+    for (lists, status) in [(126, 0), (127, 1)] {
+        let mut more = String::new(rt.alloc());
+        for _ in 0..lists {
+            more.push('[')?;
+        }
+        for _ in 0..lists {
+            more.push(']')?;
+        }
+        let input = format!(in rt.alloc();
+            "{{\"more\":{more},\"definition\":{DEFINITION},\"workers\":1,\"events\":[]}}"
+        )?;
+        let ran = run_script(rt.alloc(), input.as_str());
+        let line = if status == 0 {
+            ""
+        } else {
+            "fault 3 NotJson at 0\n"
+        };
+        assert_eq!(rt; ran.err.as_slice(), line.as_bytes(), "at {lists}");
+        assert_eq!(rt; ran.status, status, "at {lists}");
+    }
+    Ok(())
+}
+
+#[test]
+fn command_lines(rt: HostRuntime) -> Result<(), Fail> {
+    let cases: [(&[&str], u8); 9] = [
+        (&["mhlink", "--help"], 0),
+        (&["mhlink", "-h"], 0),
+        (&["mhlink", "help"], 0),
+        (&["mhlink", "run", "--help"], 0),
+        (&["mhlink"], 2),
+        (&["mhlink", "walk"], 2),
+        (&["mhlink", "run", "--fast"], 2),
+        (&["mhlink", "run", "x"], 2),
+        (&["mhlink", "plan"], 2),
+    ];
+    for (words, status) in cases {
+        let ran = run_words(rt.alloc(), words, "");
+        assert_eq!(rt; ran.status, status);
+        assert_eq!(rt; ran.out.is_empty(), status == 2);
+        assert_eq!(rt; ran.err.is_empty(), status == 0);
+    }
+    Ok(())
+}
