@@ -1,3 +1,4 @@
+pub mod FilterKinds
 pub mod LeadingArguments
 pub mod Sound
 pub mod Tests

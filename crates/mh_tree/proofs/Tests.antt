@@ -1,6 +1,6 @@
 -- What a constructor answers, by the test that decides it.
-use Rattle.std.proofs.Common.{◌≡◌, ℕ, ◌+◌, ◌≤◌, ◌<◌, [], ◌∷◌, true, false, Bool, ap, sym, ◌∙◌, List, length, take, drop, map, Result, Ok, Err}
-use Rattle.std.specs.Prelude.{nat_eq, nat_lt, nat_le, MatchResult}
+use Rattle.std.proofs.Common.{◌≡◌, ℕ, ◌+◌, ◌≤◌, ◌<◌, [], ◌∷◌, true, false, Bool, ap, sym, ◌∙◌, Option, List, length, take, drop, map, Result, Ok, Err}
+use Rattle.std.specs.Prelude.{nat_eq, nat_lt, nat_le, IfOk, MatchResult}
 use Rattle.std.specs.List.{list_all}
 use Rattle.std.specs.Bool.{Decides}
 use Rattle.std.proofs.lemmas.Bool.{le-leb, lt-leb, eq-eqb}
@@ -10,7 +10,7 @@ use Rattle.mh_type.specs.Signature.{Signature, signature_eq}
 use Rattle.mh_type.proofs.SameKind.{kind_eq_decides, kinds_eq_decides, signature_eq_decides}
 use Rattle.mh_type.specs.declared.kind.Kind.TheVariants as kind
 use Rattle.mh_type.specs.declared.value.Value.{Value}
-use Rattle.mh_tree.specs.Constructors.{require, within_limits, inserted, insert_made, dropped, drop_made, permuted, permute_made, return_filtered, filter_return_made, folded, fold_made, guarded, guard_made, pointed, point_made}
+use Rattle.mh_tree.specs.Constructors.{require, within_limits, inserted, insert_made, dropped, drop_made, permuted, permute_made, is_unary, return_kinds, arguments_filtered, filter_made, return_filtered, filter_return_made, folded, fold_made, guarded, guard_made, pointed, point_made}
 use Rattle.mh_tree.specs.Handle.{TypedTree}
 use Rattle.mh_tree.specs.Tree.{Tree}
 use Rattle.mh_tree.specs.Typing.{kind_at}
@@ -99,6 +99,12 @@ pub permute_misfits : (h : TypedTree) (m : Signature) (r : List ℕ)
 permute_misfits h m r whole inside returns fits =
     same_number _ _ _ _ whole ∙ passes _ _ _ inside ∙ same_kind _ _ _ _ returns ∙ other_kinds _ _ _ _ fits
 
+pub filter_passes : (h : TypedTree) (p : ℕ) (fs : List (Option TypedTree))
+    → p + length fs ≤ length h.signature.parameters → list_all is_unary fs ≡ true
+    → return_kinds fs (drop p h.signature.parameters) ≡ true
+    → filter_made h p fs ≡ within_limits (arguments_filtered h p fs)
+filter_passes h p fs inside unary returns = at_most _ _ _ _ inside ∙ passes _ _ _ unary ∙ passes _ _ _ returns
+
 pub filter_return_passes : (h f : TypedTree)
     → length f.signature.parameters ≡ 1 → f.signature.parameters ≡ h.signature.ret ∷ []
     → filter_return_made h f ≡ within_limits (return_filtered h f)
@@ -127,3 +133,10 @@ pub limits_decide : (made : Result TypedTree TreeFault) (t : Tree) (m n : Signat
     → MatchResult r (λ k. made ≡ Ok (record { tree = t; signature = k })) (λ e. made ≡ Err e)
 limits_decide made t m n (Ok k) passes same h = passes ∙ (λ i. within_limits (record { tree = t; signature = sym same i })) ∙ h
 limits_decide made t m n (Err e) passes same h = passes ∙ (λ i. within_limits (record { tree = t; signature = sym same i })) ∙ h
+
+-- a handle of the tree that may be made is what is made
+pub made_by : (made r : Result TypedTree TreeFault) (t u : Tree) (m : Signature)
+    → u ≡ t → made ≡ Ok (record { tree = t; signature = m })
+    → IfOk r (λ h. h ≡ record { tree = u; signature = m }) → IfOk r (λ h. made ≡ Ok h)
+made_by made (Ok h) t u m same allowed is = allowed ∙ (λ i. Ok (record { tree = sym same i; signature = m })) ∙ ap Ok (sym is)
+made_by made (Err e) t u m same allowed is = tt

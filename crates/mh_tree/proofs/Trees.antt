@@ -1,8 +1,12 @@
 -- The plain tree of a node that is made of its parts.
-use Rattle.std.proofs.Common.{◌≡◌, ℕ, suc, ◌+◌, ◌<◌, length, drop, drop-cons, get_or, arith, refl, ap, sym, ◌∙◌, Option, Some, None, Vec, List, [], ◌∷◌, map}
+use Rattle.std.proofs.Common.{◌≡◌, ℕ, zero, suc, ◌+◌, ◌≤◌, ◌<◌, length, drop, drop-cons, get_or, arith, refl, ap, sym, ◌∙◌, Option, Some, None, Vec, List, [], ◌∷◌, map}
 use Rattle.std.specs.declared.alloc.Global.{Global}
 use Rattle.mh_type.specs.declared.kind.Kind.{Kind}
 use Rattle.mh_type.specs.declared.value.Value.{Value}
+use Rattle.std.specs.Prelude.{option_map}
+use Rattle.mh_tree.specs.Constructors.{plain_filters}
+use Rattle.mh_tree.specs.Handle.{TypedTree}
+use Rattle.mh_tree.specs.Limits.{total_size}
 use Rattle.mh_tree.specs.Tree.{Tree, insert, discard, filter, fold, guard, point, filters_of, present, absent}
 use Rattle.mh_tree.specs.TreeOf.{tree_of, tree_step, filter_trees}
 use Rattle.mh_tree.specs.declared.node.Node.{Node}
@@ -27,6 +31,13 @@ pub tree_of_filter : (target : Box Node Global) (position : ℕ) (filters : Vec 
 tree_of_filter target position filters =
     ap tree_of (sym (rolls-Filter target position filters)) ∙ fold-roll-Node Tree tree_step (open_node.Filter target position filters)
     ∙ ap (λ (xs : List (Option Tree)). filter (tree_of target.value) position (filters_of xs)) (map_same _ _ (agrees _ _ refl (λ x. refl)) filters.items)
+
+-- the tree of copies is that of what they are copies of
+pub tree_of_copies : (target : Box Node Global) (position : ℕ) (filters : Vec (Option Node) Global) (t : Tree) (fs : List (Option TypedTree))
+    → tree_of target.value ≡ t → filter_trees filters.items ≡ map (option_map (λ f. f.tree)) fs
+    → tree_of (Filter target position filters) ≡ filter t position (plain_filters fs)
+tree_of_copies target position filters t fs first rest =
+    tree_of_filter target position filters ∙ (λ i. filter (first i) position (filters_of (rest i)))
 
 pub tree_of_insert : (target : Box Node Global) (position : ℕ) (values : Vec Value Global)
     → tree_of (Insert target position values) ≡ insert (tree_of target.value) position values.items
@@ -65,3 +76,10 @@ filter_found xs i f below found = ap (λ (fs : List (Option Node)). filters_of (
 pub none_found : (xs : List (Option Node)) (i : ℕ) → i < length xs → None ≡ get_or xs i None
     → filters_of (filter_trees (drop i xs)) ≡ absent (filters_of (filter_trees (drop (i + 1) xs)))
 none_found xs i below found = ap (λ (fs : List (Option Node)). filters_of (filter_trees fs)) (found_at xs i None below found)
+
+-- the filters that are left are no larger than all
+pub size_behind : (fs : List (Option Node)) (i : ℕ) → total_size (filters_of (filter_trees (drop i fs))) ≤ total_size (filters_of (filter_trees fs))
+size_behind fs zero = omega arith
+size_behind [] (suc i) = omega arith
+size_behind (None ∷ fs) (suc i) = size_behind fs i
+size_behind (Some f ∷ fs) (suc i) = omega (arith, size_behind fs i)

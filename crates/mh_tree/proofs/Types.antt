@@ -14,7 +14,7 @@ use Rattle.mh_tree.specs.Typing.{IsTyped, AreTyped, kind_at}
 use Rattle.mh_tree.proofs.LeadingArguments.{same_count}
 
 -- a list with an element at a place: what is before it and with it, and what is behind it
-split_at : (p : ℕ) (ks rest : List Kind) (k : Kind) → drop p ks ≡ k ∷ rest
+pub split_at : (p : ℕ) (ks rest : List Kind) (k : Kind) → drop p ks ≡ k ∷ rest
     → (take (suc p) ks ≡ take p ks ++ (k ∷ [])) × (drop (suc p) ks ≡ rest)
 split_at zero [] rest k h = cc
 split_at zero (x ∷ xs) rest k h = let a : x ≡ k = cc in let b : xs ≡ rest = cc in ((λ i. a i ∷ []), b)
@@ -23,7 +23,7 @@ split_at (suc p) (x ∷ xs) rest k h =
     let more = split_at p xs rest k h in (ap (λ (ys : List Kind). x ∷ ys) more.0, more.1)
 
 -- the same, where the element is replaced
-set_at : (p : ℕ) (ks rest : List Kind) (k j : Kind) → drop p ks ≡ k ∷ rest
+pub set_at : (p : ℕ) (ks rest : List Kind) (k j : Kind) → drop p ks ≡ k ∷ rest
     → (take (suc p) (slice_set ks p j) ≡ take p ks ++ (j ∷ [])) × (drop (suc p) (slice_set ks p j) ≡ rest)
 set_at zero [] rest k j h = cc
 set_at zero (x ∷ xs) rest k j h = let b : xs ≡ rest = cc in (refl, b)

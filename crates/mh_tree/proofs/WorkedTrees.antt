@@ -7,15 +7,18 @@ use Rattle.mh_type.specs.declared.value.Value.{Value}
 use Rattle.mh_type.specs.declared.value.Value.TheVariants.{Int}
 use Rattle.mh_type.specs.declared.outcome.Outcome.TheVariants as outcome
 use Rattle.mh_type.specs.declared.outcome.Throw.TheVariants.{ArithmeticException}
-use Rattle.mh_type.specs.declared.operation.Op.TheVariants.{Iadd, Idiv, Ineg, Ieq}
+use Rattle.mh_type.specs.declared.operation.Op.TheVariants.{Iadd, Imul, Idiv, Ineg, Ieq}
 use Rattle.mh_type.specs.Signature.{Signature}
-use Rattle.mh_tree.specs.Tree.{Tree, constant, operation, insert, discard, guard, point, filter, no_more, present}
+use Rattle.mh_tree.specs.Tree.{Tree, constant, operation, insert, discard, guard, point, permute, filter, fold, no_more, present}
 use Rattle.mh_tree.specs.Meaning.{mean, steps}
 use Rattle.mh_tree.specs.Typing.{IsTyped}
 use Rattle.mh_tree.specs.Limits.{depth, size, point_bound}
 
 abbrev int : ℕ → Value
 int n = Int (pos n)
+
+abbrev unary : Signature
+unary = record { ret = kind.Int; parameters = kind.Int ∷ [] }
 
 -- the target of the example site
 abbrev base : Tree
@@ -67,14 +70,32 @@ chosen_fallback : mean [] chosen (int 3 ∷ []) ≡ outcome.Value (int 3)
 unfolding chosen int_wrap
 chosen_fallback = refl
 
+-- an argument that is passed twice: the square of 65536 wraps
+square : Tree
+square = permute (operation Imul) unary (0 ∷ 0 ∷ [])
+
+square_wraps : mean [] square (int 65536 ∷ []) ≡ outcome.Value (int 0)
+unfolding square int_wrap
+square_wraps = refl
+
+square_steps : steps [] square (int 65536 ∷ []) ≡ 2
+unfolding square
+square_steps = refl
+
+-- a combiner's result goes before all arguments
+cancelled : Tree
+cancelled = fold (operation Iadd) (operation Ineg)
+
+cancelled_zero : mean [] cancelled (int 5 ∷ []) ≡ outcome.Value (int 0)
+unfolding cancelled int_wrap
+cancelled_zero = refl
+
+cancelled_least : mean [] cancelled (Int (negsuc 2147483647) ∷ []) ≡ outcome.Value (int 0)
+unfolding cancelled int_wrap
+cancelled_least = refl
+
 limits : (depth base ≡ 4) × (size base ≡ 9) × (point_bound base ≡ 1)
 limits = (refl, refl, refl)
-
-abbrev unary : Signature
-unary = record { ret = kind.Int; parameters = kind.Int ∷ [] }
-
-abbrev last_left : Signature → Signature
-last_left n = record { ret = n.ret; parameters = kind.Int ∷ [] }
 
 typed : IsTyped base unary
 typed = (

@@ -1,5 +1,5 @@
 -- What each constructor makes, or the first of its tests that fails.
-use Rattle.std.specs.Prelude.{◌≡◌, ℕ, ◌+◌, Bool, true, false, ◌⊎◌, Result, Ok, Err, IsOk, List, [], ◌∷◌, take, drop, map, length, nat_eq, nat_lt, nat_le}
+use Rattle.std.specs.Prelude.{◌≡◌, ℕ, ◌+◌, Bool, true, false, ◌&&◌, ◌⊎◌, Option, Some, None, option_map, Result, Ok, Err, IsOk, List, [], ◌∷◌, ◌++◌, take, drop, map, length, nat_eq, nat_lt, nat_le}
 use Rattle.std.specs.List.{list_all}
 use Rattle.mh_type.specs.declared.kind.Kind.{Kind}
 use Rattle.mh_type.specs.declared.kind.Kind.TheVariants as kind
@@ -10,7 +10,7 @@ use Rattle.mh_type.specs.Operations.{op_signature}
 use Rattle.mh_type.specs.Signature.{Signature, signature_eq, with_parameters, without_parameters}
 use Rattle.mh_tree.specs.Handle.{TypedTree}
 use Rattle.mh_tree.specs.Limits.{depth, size}
-use Rattle.mh_tree.specs.Tree.{constant, identity, operation, insert, discard, permute, filter_return, fold, guard, point}
+use Rattle.mh_tree.specs.Tree.{Filters, filters_of, constant, identity, operation, insert, discard, permute, filter, filter_return, fold, guard, point}
 use Rattle.mh_tree.specs.Typing.{kind_at}
 use Rattle.mh_tree.specs.declared.fault.TreeFault.{TreeFault}
 use Rattle.mh_tree.specs.declared.fault.TreeFault.TheVariants.{NoMemory, BadPosition, TypeMismatch, NotUnary, NotBoolean, BadReorder, TooManyParameters, TooDeep, TooLarge}
@@ -87,19 +87,59 @@ permute_made target new_type reorder =
     (require (kinds_eq target.signature.parameters (map (λ i. kind_at new_type.parameters i) reorder)) TypeMismatch
     (within_limits (permuted target new_type reorder)))))
 
+-- the plain tree of each filter
+abbrev pub plain_filters : List (Option TypedTree) → Filters
+plain_filters filters = filters_of (map (option_map (λ f. f.tree)) filters)
+
+-- whether a filter that is present has one parameter
+abbrev pub is_unary : Option TypedTree → Bool
+is_unary None = true
+is_unary (Some f) = nat_eq (length f.signature.parameters) 1
+
+-- whether each filter that is present returns the kind in its place
+abbrev pub return_kinds : List (Option TypedTree) → List Kind → Bool
+return_kinds [] ks = true
+return_kinds (None ∷ fs) (k ∷ ks) = return_kinds fs ks
+return_kinds (Some f ∷ fs) (k ∷ ks) = kind_eq f.signature.ret k && return_kinds fs ks
+return_kinds (f ∷ fs) [] = false
+
+-- the kinds that filters take: the parameter of one that is present stands in its place
+abbrev pub taken_kinds : List (Option TypedTree) → List Kind → List Kind
+taken_kinds [] ks = ks
+taken_kinds (None ∷ fs) (k ∷ ks) = k ∷ taken_kinds fs ks
+taken_kinds (Some f ∷ fs) (k ∷ ks) = kind_at f.signature.parameters 0 ∷ taken_kinds fs ks
+taken_kinds (f ∷ fs) [] = []
+
+-- `MethodHandles.filterArguments`
+abbrev pub arguments_filtered : TypedTree → ℕ → List (Option TypedTree) → TypedTree
+arguments_filtered target p fs =
+    let old = target.signature.parameters in
+    record {
+      tree = filter target.tree p (plain_filters fs);
+      signature = record { ret = target.signature.ret; parameters = take p old ++ taken_kinds fs (drop p old) };
+    }
+
+-- each filter has one parameter, and returns the kind of the target's parameter in its place
+abbrev pub filter_made : TypedTree → ℕ → List (Option TypedTree) → Result TypedTree TreeFault
+filter_made target p fs =
+    require (nat_le (p + length fs) (length target.signature.parameters)) BadPosition
+    (require (list_all is_unary fs) NotUnary
+    (require (return_kinds fs (drop p target.signature.parameters)) TypeMismatch
+    (within_limits (arguments_filtered target p fs))))
+
 -- `MethodHandles.filterReturnValue`
 abbrev pub return_filtered : TypedTree → TypedTree → TypedTree
-return_filtered target filter = record {
-  tree = filter_return target.tree filter.tree;
-  signature = record { ret = filter.signature.ret; parameters = target.signature.parameters };
+return_filtered target last = record {
+  tree = filter_return target.tree last.tree;
+  signature = record { ret = last.signature.ret; parameters = target.signature.parameters };
 }
 
 -- the filter's one parameter is of the kind that the target returns
 abbrev pub filter_return_made : TypedTree → TypedTree → Result TypedTree TreeFault
-filter_return_made target filter =
-    require (nat_eq (length filter.signature.parameters) 1) NotUnary
-    (require (kinds_eq filter.signature.parameters (target.signature.ret ∷ [])) TypeMismatch
-    (within_limits (return_filtered target filter)))
+filter_return_made target last =
+    require (nat_eq (length last.signature.parameters) 1) NotUnary
+    (require (kinds_eq last.signature.parameters (target.signature.ret ∷ [])) TypeMismatch
+    (within_limits (return_filtered target last)))
 
 -- `MethodHandles.foldArguments`: the target without its first parameter, which the combiner gives
 abbrev pub folded : TypedTree → TypedTree → TypedTree

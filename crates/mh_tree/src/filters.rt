@@ -1,19 +1,61 @@
 //! The constructors that filter what a target gets and what it gives.
 
-ghost use Rattle.std.specs.Prelude.{◌≡◌, Ok, Err, IfOk, IfErr, MatchResult};
-ghost use Rattle.mh_tree.specs.Constructors.{Refuses, filter_return_made};
+ghost use Rattle.std.specs.Prelude.{◌≡◌, ◌+◌, ◌*◌, ◌≤◌, ◌++◌, true, Ok, Err, take, drop, length, map, option_map, IfSome, IfOk, IfErr, MatchResult};
+ghost use Rattle.std.specs.List.{All, list_all};
+ghost use Rattle.mh_tree.specs.Constructors.{Refuses, filter_made, filter_return_made, is_unary, return_kinds as kinds_returned, taken_kinds, plain_filters};
+ghost use Rattle.mh_tree.specs.Limits.{deepest as deepest_tree, total_size as total_of, greatest_bound as greatest_of};
+ghost use Rattle.mh_tree.specs.TreeOf.{filter_trees};
 ghost use Rattle.mh_tree.specs.Handle.{IsSound};
-ghost use Rattle.mh_tree.specs.Tree.{filter_return as filter_return_tree};
+ghost use Rattle.mh_tree.specs.Tree.{filter as filter_tree, filter_return as filter_return_tree};
 
-use crate::copy::boxed_copy;
+use crate::copy::{boxed_copy, root_copy};
 use crate::fault::TreeFault;
 use crate::handle::Handle;
 use crate::limits::within_limits;
-use crate::node::Node;
-use mh_type::{MethodType, same_kinds};
+use crate::node::{Node, with_parameter};
+use mh_type::{Kind, MethodType, same_kinds};
 use std::alloc::Global;
 
 impl Handle {
+    /// The target on filtered arguments (`MethodHandles.filterArguments`).
+    ///
+    /// *Type*: the target's, where each filter's parameter stands in place of the target's that the
+    /// filter returns. The filters stand for the parameters from `position` on; an absent one leaves
+    /// its argument.
+    ///
+    /// *Pseudo-code*: `adapter(a.., x, y, .., b..) = target(a.., filters[0](x), filters[1](y), .., b..)`,
+    /// with `position` arguments `a`. Filters run from left to right. A throw of one is the outcome,
+    /// and nothing after it runs.
+    ///
+    /// *Example*: `ladd` with the filter `i2l` at place 1 is of type `(long,int)long`, and gives
+    /// `long 3` on `long 1` and `int 2`. No filters are allowed: the handle is then the target in one
+    /// more node.
+    ///
+    /// *Refusals*: `BadPosition` where `position + filters.len()` is above the target's count of
+    /// parameters, as a number without bounds; `NotUnary` where a filter has other than one parameter;
+    /// `TypeMismatch` where a filter returns another kind than its place has; `TooDeep`, `TooLarge`,
+    /// and `NoMemory`. It copies all trees.
+    pub fn filter(
+        alloc: Global,
+        target: &Handle,
+        position: usize,
+        filters: &[Option<Handle>],
+    ) -> Result<Handle, TreeFault>
+        ensures value { IfOk result (λ h. filter_made target.now position filters.now ≡ Ok h) }
+        ensures refused { IfErr result (λ e. Refuses e (filter_made target.now position filters.now)) }
+    {
+        let method_type = filter_type(target, position, filters)?;
+        let root = Node::Filter {
+            target: boxed_copy(alloc, target)?,
+            position,
+            filters: copies(alloc, filters)?,
+        };
+        let depth = 1 + target.depth().max(deepest(filters));
+        let size = 1 + (target.size() + total_size(filters));
+        let bound = target.point_bound().max(greatest_bound(filters));
+        Handle::of(alloc, root, method_type, depth, size, bound)
+    }
+
     /// The filter of what the target gives (`MethodHandles.filterReturnValue`).
     ///
     /// *Type*: the target's, with the filter's return kind.
@@ -47,6 +89,34 @@ impl Handle {
     }
 }
 
+// The type of the target with these filters of its arguments, where they may be.
+fn filter_type(
+    target: &Handle,
+    position: usize,
+    filters: &[Option<Handle>],
+) -> Result<MethodType, TreeFault>
+    ensures value { MatchResult result
+        (λ m. filter_made target.now position filters.now ≡ Ok (record { tree = filter_tree target.now.tree position (plain_filters filters.now); signature = m }))
+        (λ e. filter_made target.now position filters.now ≡ Err e) }
+    ensures sound { IfOk result (λ m. IsSound (filter_tree target.now.tree position (plain_filters filters.now)) m) }
+    ensures few { IfOk result (λ m. length filters.now ≤ 16) }
+{
+    let old = target.method_type();
+    let parameters = old.parameters();
+    if filters.len() > parameters.len() || position > parameters.len() - filters.len() {
+        return Err(TreeFault::BadPosition);
+    }
+    if !are_unary(filters) {
+        return Err(TreeFault::NotUnary);
+    }
+    if !return_kinds(filters, &parameters[position..]) {
+        return Err(TreeFault::TypeMismatch);
+    }
+    let depth = 1 + target.depth().max(deepest(filters));
+    let size = 1 + (target.size() + total_size(filters));
+    within_limits(type_before(old, position, filters), depth, size)
+}
+
 // The type of the target with this filter of its result, where it may be.
 fn filter_return_type(target: &Handle, filter: &Handle) -> Result<MethodType, TreeFault>
     ensures value { MatchResult result
@@ -65,4 +135,108 @@ fn filter_return_type(target: &Handle, filter: &Handle) -> Result<MethodType, Tr
     let depth = 1 + target.depth().max(filter.depth());
     let size = 1 + (target.size() + filter.size());
     within_limits(old.returning(last.ret()), depth, size)
+}
+
+// Whether each filter that is present has one parameter.
+fn are_unary(filters: &[Option<Handle>]) -> bool
+    ensures value { result ≡ list_all is_unary filters.now }
+{
+    for filter in filters {
+        if let Some(filter) = filter {
+            if filter.method_type().count() != 1 {
+                return false;
+            }
+        }
+    }
+    true
+}
+
+// Whether each filter that is present returns the kind in its place.
+fn return_kinds(filters: &[Option<Handle>], kinds: &[Kind]) -> bool
+    requires enough { length filters.now ≤ length kinds.now }
+    ensures value { result ≡ kinds_returned filters.now kinds.now }
+{
+    for (index, filter) in filters.iter().enumerate() {
+        if let Some(filter) = filter {
+            if !filter.method_type().ret().is(kinds[index]) {
+                return false;
+            }
+        }
+    }
+    true
+}
+
+// The target's type with each filter's parameter in its place.
+fn type_before(target: &MethodType, position: usize, filters: &[Option<Handle>]) -> MethodType
+    requires inside { position + length filters.now ≤ length target.now.parameters }
+    requires unary { list_all is_unary filters.now ≡ true }
+    ensures value { result ≡ record { ret = target.now.ret; parameters = take position target.now.parameters ++ taken_kinds filters.now (drop position target.now.parameters) } }
+    ensures sound { All (λ o. IfSome o (λ f. IsSound f.tree f.signature)) filters.now }
+{
+    let mut made = target.copy();
+    for (index, filter) in filters.iter().enumerate() {
+        if let Some(filter) = filter {
+            let kind = filter.method_type().parameter(0);
+            made = with_parameter(&made, position + index, kind);
+        }
+    }
+    made
+}
+
+// The depth of the deepest filter, or 0.
+fn deepest(filters: &[Option<Handle>]) -> usize
+    ensures value { result ≡ deepest_tree (plain_filters filters.now) }
+    ensures shallow { result ≤ 96 }
+{
+    let mut deepest = 0;
+    for filter in filters {
+        if let Some(filter) = filter {
+            deepest = deepest.max(filter.depth());
+        }
+    }
+    deepest
+}
+
+// The number of nodes of all filters.
+fn total_size(filters: &[Option<Handle>]) -> usize
+    requires few { length filters.now ≤ 16 }
+    ensures value { result ≡ total_of (plain_filters filters.now) }
+    ensures small { result ≤ length filters.now * 262144 }
+{
+    let mut total = 0;
+    for filter in filters {
+        if let Some(filter) = filter {
+            total += filter.size();
+        }
+    }
+    total
+}
+
+// The greatest point bound of the filters, or 0.
+fn greatest_bound(filters: &[Option<Handle>]) -> usize
+    ensures value { result ≡ greatest_of (plain_filters filters.now) }
+{
+    let mut greatest = 0;
+    for filter in filters {
+        if let Some(filter) = filter {
+            greatest = greatest.max(filter.point_bound());
+        }
+    }
+    greatest
+}
+
+// A copy of each filter's tree.
+fn copies(alloc: Global, filters: &[Option<Handle>]) -> Result<Vec<Option<Node>>, TreeFault>
+    ensures value { IfOk result (λ v. filter_trees v.items ≡ map (option_map (λ f. f.tree)) filters.now) }
+    ensures refused { IfErr result (λ e. e ≡ TreeFault.NoMemory) }
+{
+    let mut copied = Vec::new(alloc);
+    for filter in filters {
+        let filter = match filter {
+            None => None,
+            Some(filter) => Some(root_copy(alloc, filter)?),
+        };
+        copied.push(filter).map_err(|_| TreeFault::NoMemory)?;
+    }
+    Ok(copied)
 }

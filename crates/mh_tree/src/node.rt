@@ -127,7 +127,7 @@ fn filtered_type(target: MethodType, position: usize, filters: &[Option<Node>]) 
 }
 
 // The type with another kind of one parameter.
-fn with_parameter(method_type: &MethodType, place: usize, kind: Kind) -> MethodType
+pub(crate) fn with_parameter(method_type: &MethodType, place: usize, kind: Kind) -> MethodType
     requires inside { place < length method_type.now.parameters }
     requires few { length method_type.now.parameters ≤ 16 }
     ensures value { result ≡ record { ret = method_type.now.ret; parameters = slice_set method_type.now.parameters place kind } }
