@@ -6,6 +6,7 @@ use mh_eval::{Stack, eval, fits};
 use mh_tree::Handle;
 use mh_type::{Kind, MethodType, Op, Outcome, Text, Throw, Value};
 use std::alloc::{AllocError, Global};
+use std::process::Abort;
 use std::test::Fail;
 
 /// Evaluates a handle on arguments that fit it.
@@ -79,11 +80,12 @@ fn a_guard_runs_one_branch(rt: HostRuntime) -> Result<(), Fail> {
 }
 
 /// An argument of a kind, from its text.
-fn argument(kind: Kind, text: &str) -> Result<Value, Fail> {
+fn argument(alloc: Global, kind: Kind, text: &str) -> Result<Value, Fail> {
     match kind {
         Kind::Int => Ok(Value::Int(text.parse::<i32>()?)),
         Kind::Long => Ok(Value::Long(text.parse::<i64>()?)),
-        Kind::Boolean | Kind::Text => Err("a number was to come")?,
+        Kind::Boolean => Ok(Value::Boolean(text == "true")),
+        Kind::Text => Ok(Value::Text(Text::new(alloc, text)?)),
     }
 }
 
@@ -99,49 +101,82 @@ fn shown(alloc: Global, outcome: &Outcome) -> Result<String, AllocError> {
     }
 }
 
+/// What an operation gives on arguments with spaces between them.
+fn given(alloc: Global, op: Op, arguments: &str) -> Result<String, Fail> {
+    let handle = Handle::op(alloc, op)?;
+    let parameters = handle.method_type().parameters();
+    let kind = parameters.first().copied().ok_or("no parameter")?;
+    let mut values = Vec::new(alloc);
+    for text in arguments.split(' ') {
+        values.push(argument(alloc, kind, text)?)?;
+    }
+    let (outcome, _) = evaluated(alloc, &[], &handle, values.as_slice())?;
+    Ok(shown(alloc, &outcome)?)
+}
+
+/// Compares a case, and what its operation gives.
+fn compare(rt: &impl Abort, alloc: Global, case: &str) -> Result<(), Fail> {
+    let (name, rest) = case.split_once(' ').ok_or("no arguments")?;
+    let (arguments, wanted) = rest.rsplit_once(' ').ok_or("no result")?;
+    let op = Op::from_name(name).ok_or("no operation")?;
+    let text = given(alloc, op, arguments)?;
+    assert_eq!(rt; text.as_str(), wanted, "at {case}");
+    Ok(())
+}
+
 #[test]
 fn operations_are_those_of_java(rt: HostRuntime) -> Result<(), Fail> {
     let mut tried = 0u32;
-    for line in CASES.lines() {
-        let (name, rest) = line.split_once(' ').ok_or("no arguments")?;
-        let (arguments, wanted) = rest.rsplit_once(' ').ok_or("no result")?;
-        let op = Op::from_name(name).ok_or("no operation")?;
-        let handle = Handle::op(rt.alloc(), op)?;
-        let kind = handle
-            .method_type()
-            .parameters()
-            .first()
-            .copied()
-            .ok_or("no parameter")?;
-        let mut values = Vec::new(rt.alloc());
-        for text in arguments.split(' ') {
-            values.push(argument(kind, text)?)?;
-        }
-        let (outcome, steps) = evaluated(rt.alloc(), &[], &handle, values.as_slice())?;
-        let given = shown(rt.alloc(), &outcome)?;
-        assert_eq!(rt; given.as_str(), wanted, "at {line}");
-        assert_eq!(rt; steps, 1);
+    for case in CASES.lines() {
+        compare(&rt, rt.alloc(), case)?;
         tried = tried.saturating_add(1);
     }
     assert_eq!(rt; tried, 528);
     Ok(())
 }
 
-/// A fold's combiner and a permutation on values whose results wrap.
 #[test]
-fn folds_and_permutations_wrap(rt: HostRuntime) -> Result<(), Fail> {
+fn other_operations_have_their_values(rt: HostRuntime) -> Result<(), Fail> {
+    let cases = [
+        "not true false",
+        "not false true",
+        "beq true false false",
+        "beq false false true",
+        "concat ab c abc",
+        "seq ab ab true",
+        "seq ab c false",
+        "len ab 2",
+    ];
+    for case in cases {
+        compare(&rt, rt.alloc(), case)?;
+    }
+    Ok(())
+}
+
+#[test]
+fn a_combiner_may_wrap(rt: HostRuntime) -> Result<(), Fail> {
     let add = Handle::op(rt.alloc(), Op::Iadd)?;
     let negate = Handle::op(rt.alloc(), Op::Ineg)?;
     let fold = Handle::fold(rt.alloc(), &add, &negate)?;
     let (outcome, steps) = evaluated(rt.alloc(), &[], &fold, &[Value::Int(-2_147_483_648)])?;
     assert_eq!(rt; int(&outcome), Some(0));
     assert_eq!(rt; steps, 3);
+    Ok(())
+}
+
+#[test]
+fn an_argument_may_be_passed_twice(rt: HostRuntime) -> Result<(), Fail> {
     let multiply = Handle::op(rt.alloc(), Op::Imul)?;
     let unary = MethodType::parse("(int)int")?;
     let square = Handle::permute(rt.alloc(), &multiply, &unary, &[0, 0])?;
     let (outcome, steps) = evaluated(rt.alloc(), &[], &square, &[Value::Int(65_536)])?;
     assert_eq!(rt; int(&outcome), Some(0));
     assert_eq!(rt; steps, 2);
+    Ok(())
+}
+
+#[test]
+fn a_result_is_filtered(rt: HostRuntime) -> Result<(), Fail> {
     let join = Handle::op(rt.alloc(), Op::Concat)?;
     let length = Handle::op(rt.alloc(), Op::Len)?;
     let joined = Handle::filter_return(rt.alloc(), &join, &length)?;
@@ -149,6 +184,30 @@ fn folds_and_permutations_wrap(rt: HostRuntime) -> Result<(), Fail> {
     let c = Value::Text(Text::new(rt.alloc(), "c")?);
     let (outcome, steps) = evaluated(rt.alloc(), &[], &joined, &[ab, c])?;
     assert_eq!(rt; int(&outcome), Some(3));
+    assert_eq!(rt; steps, 3);
+    Ok(())
+}
+
+/// Filters run from left to right, and the first throw is the outcome.
+#[test]
+fn filters_run_from_left_to_right(rt: HostRuntime) -> Result<(), Fail> {
+    let divide = Handle::op(rt.alloc(), Op::Idiv)?;
+    let ten = Handle::insert(rt.alloc(), &divide, 0, &[Value::Int(10)])?;
+    let seven = Handle::insert(rt.alloc(), &divide, 0, &[Value::Int(7)])?;
+    let add = Handle::op(rt.alloc(), Op::Iadd)?;
+    let sums = Handle::filter(rt.alloc(), &add, 0, &[Some(ten), Some(seven)])?;
+    let zeros = [Value::Int(0), Value::Int(0)];
+    let (outcome, steps) = evaluated(rt.alloc(), &[], &sums, &zeros)?;
+    assert_eq!(rt; thrown(&outcome), Some(Throw::ArithmeticException));
+    assert_eq!(rt; steps, 3);
+    let (outcome, steps) = evaluated(rt.alloc(), &[], &sums, &[Value::Int(5), Value::Int(2)])?;
+    assert_eq!(rt; int(&outcome), Some(5));
+    assert_eq!(rt; steps, 6);
+    let subtract = Handle::op(rt.alloc(), Op::Isub)?;
+    let negate = Handle::op(rt.alloc(), Op::Ineg)?;
+    let sum = Handle::filter(rt.alloc(), &subtract, 0, &[None, Some(negate)])?;
+    let (outcome, steps) = evaluated(rt.alloc(), &[], &sum, &[Value::Int(5), Value::Int(2)])?;
+    assert_eq!(rt; int(&outcome), Some(7));
     assert_eq!(rt; steps, 3);
     Ok(())
 }
@@ -186,28 +245,5 @@ fn arguments_of_another_type_do_not_fit(rt: HostRuntime) -> Result<(), Fail> {
     assert!(rt; !fits(add, &[Value::Int(1), Value::Long(2)]));
     assert!(rt; !fits(add, &[Value::Int(1)]));
     assert!(rt; !fits(add, &[Value::Int(1), Value::Int(2), Value::Int(3)]));
-    Ok(())
-}
-
-#[test]
-fn other_operations_have_their_values(rt: HostRuntime) -> Result<(), Fail> {
-    let text = |bytes: &str| Text::new(rt.alloc(), bytes);
-    let (ab, c) = (Value::Text(text("ab")?), Value::Text(text("c")?));
-    let yes = Value::Boolean(true);
-    let no = Value::Boolean(false);
-    for (op, arguments, wanted) in [
-        (Op::Not, &[yes.share()?][..], "false"),
-        (Op::Not, &[no.share()?][..], "true"),
-        (Op::Beq, &[yes.share()?, no.share()?][..], "false"),
-        (Op::Beq, &[no.share()?, no.share()?][..], "true"),
-        (Op::Concat, &[ab.share()?, c.share()?][..], "abc"),
-        (Op::Seq, &[ab.share()?, ab.share()?][..], "true"),
-        (Op::Seq, &[ab.share()?, c.share()?][..], "false"),
-        (Op::Len, &[ab.share()?][..], "2"),
-    ] {
-        let handle = Handle::op(rt.alloc(), op)?;
-        let (outcome, _) = evaluated(rt.alloc(), &[], &handle, arguments)?;
-        assert_eq!(rt; shown(rt.alloc(), &outcome)?.as_str(), wanted);
-    }
     Ok(())
 }

@@ -250,6 +250,42 @@ fn arguments_are_reordered(rt: HostRuntime) -> Result<(), Fail> {
 }
 
 #[test]
+fn arguments_are_filtered(rt: HostRuntime) -> Result<(), Fail> {
+    let add = Handle::op(rt.alloc(), Op::Iadd)?;
+    let length = Handle::op(rt.alloc(), Op::Len)?;
+    let widen = Handle::op(rt.alloc(), Op::I2l)?;
+    let filtered = Handle::filter(rt.alloc(), &add, 0, &[None, Some(length)])?;
+    assert_eq!(rt;
+        filtered.method_type().write(rt.alloc())?.as_str(),
+        "(int,String)int"
+    );
+    assert_eq!(rt; filtered.size(), 3);
+    assert_eq!(rt;
+        Handle::filter(rt.alloc(), &add, FAR, &[None]).err(),
+        Some(TreeFault::BadPosition)
+    );
+    assert_eq!(rt;
+        Handle::filter(rt.alloc(), &add, 2, &[None]).err(),
+        Some(TreeFault::BadPosition)
+    );
+    assert_eq!(rt;
+        Handle::filter(rt.alloc(), &add, 1, &[Some(add.share()?)]).err(),
+        Some(TreeFault::NotUnary)
+    );
+    assert_eq!(rt;
+        Handle::filter(rt.alloc(), &add, 1, &[Some(widen)]).err(),
+        Some(TreeFault::TypeMismatch)
+    );
+    assert_eq!(rt;
+        Handle::filter(rt.alloc(), &add, 2, &[])?
+            .method_type()
+            .count(),
+        2
+    );
+    Ok(())
+}
+
+#[test]
 fn declared_trees_have_limits(rt: HostRuntime) -> Result<(), Fail> {
     let mut deep = Handle::identity(rt.alloc(), Kind::Int)?;
     for _ in 1..64 {
