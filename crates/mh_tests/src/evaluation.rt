@@ -1,30 +1,14 @@
 //! What trees give, and in how many steps.
 
+use crate::evaluate::evaluate;
 use crate::java_values::CASES;
 use crate::trees::example;
-use mh_eval::{Stack, eval, fits};
+use mh_eval::fits;
 use mh_tree::Handle;
 use mh_type::{Kind, MethodType, Op, Outcome, Text, Throw, Value};
 use std::alloc::{AllocError, Global};
 use std::process::Abort;
 use std::test::Fail;
-
-/// Evaluates a handle on arguments that fit it.
-fn evaluated(
-    alloc: Global,
-    valid: &[bool],
-    handle: &Handle,
-    arguments: &[Value],
-) -> Result<(Outcome, u64), Fail> {
-    if !fits(handle.method_type(), arguments) {
-        Err("the arguments do not fit")?;
-    }
-    if handle.point_bound() > valid.len() {
-        Err("a point is not there")?;
-    }
-    let mut stack = Stack::new(alloc)?;
-    Ok(eval(&mut stack, valid, handle, arguments)?)
-}
 
 /// The int of an outcome.
 fn int(outcome: &Outcome) -> Option<i32> {
@@ -52,7 +36,7 @@ fn the_example_site_is_evaluated(rt: HostRuntime) -> Result<(), Fail> {
         (false, -2_147_483_648, -2_147_483_648, 2),
         (true, 2_147_483_647, -2_147_483_648, 6),
     ] {
-        let (outcome, taken) = evaluated(rt.alloc(), &[valid], &handle, &[Value::Int(argument)])?;
+        let (outcome, taken) = evaluate(rt.alloc(), &[valid], &handle, &[Value::Int(argument)])?;
         assert_eq!(rt; int(&outcome), Some(result), "at {argument}");
         assert_eq!(rt; taken, steps, "at {argument}");
     }
@@ -69,11 +53,11 @@ fn a_guard_runs_one_branch(rt: HostRuntime) -> Result<(), Fail> {
     let divide = Handle::op(rt.alloc(), Op::Idiv)?;
     let tenth = Handle::insert(rt.alloc(), &divide, 0, &[Value::Int(10)])?;
     let guard = Handle::guard(rt.alloc(), &test, &seven, &tenth)?;
-    let (on_zero, _) = evaluated(rt.alloc(), &[], &guard, &[Value::Int(0)])?;
+    let (on_zero, _) = evaluate(rt.alloc(), &[], &guard, &[Value::Int(0)])?;
     assert_eq!(rt; int(&on_zero), Some(7));
-    let (on_three, _) = evaluated(rt.alloc(), &[], &guard, &[Value::Int(3)])?;
+    let (on_three, _) = evaluate(rt.alloc(), &[], &guard, &[Value::Int(3)])?;
     assert_eq!(rt; int(&on_three), Some(3));
-    let (alone, steps) = evaluated(rt.alloc(), &[], &tenth, &[Value::Int(0)])?;
+    let (alone, steps) = evaluate(rt.alloc(), &[], &tenth, &[Value::Int(0)])?;
     assert_eq!(rt; thrown(&alone), Some(Throw::ArithmeticException));
     assert_eq!(rt; steps, 2);
     Ok(())
@@ -110,7 +94,7 @@ fn given(alloc: Global, op: Op, arguments: &str) -> Result<String, Fail> {
     for text in arguments.split(' ') {
         values.push(argument(alloc, kind, text)?)?;
     }
-    let (outcome, _) = evaluated(alloc, &[], &handle, values.as_slice())?;
+    let (outcome, _) = evaluate(alloc, &[], &handle, values.as_slice())?;
     Ok(shown(alloc, &outcome)?)
 }
 
@@ -158,7 +142,7 @@ fn a_combiner_may_wrap(rt: HostRuntime) -> Result<(), Fail> {
     let add = Handle::op(rt.alloc(), Op::Iadd)?;
     let negate = Handle::op(rt.alloc(), Op::Ineg)?;
     let fold = Handle::fold(rt.alloc(), &add, &negate)?;
-    let (outcome, steps) = evaluated(rt.alloc(), &[], &fold, &[Value::Int(-2_147_483_648)])?;
+    let (outcome, steps) = evaluate(rt.alloc(), &[], &fold, &[Value::Int(-2_147_483_648)])?;
     assert_eq!(rt; int(&outcome), Some(0));
     assert_eq!(rt; steps, 3);
     Ok(())
@@ -169,7 +153,7 @@ fn an_argument_may_be_passed_twice(rt: HostRuntime) -> Result<(), Fail> {
     let multiply = Handle::op(rt.alloc(), Op::Imul)?;
     let unary = MethodType::parse("(int)int")?;
     let square = Handle::permute(rt.alloc(), &multiply, &unary, &[0, 0])?;
-    let (outcome, steps) = evaluated(rt.alloc(), &[], &square, &[Value::Int(65_536)])?;
+    let (outcome, steps) = evaluate(rt.alloc(), &[], &square, &[Value::Int(65_536)])?;
     assert_eq!(rt; int(&outcome), Some(0));
     assert_eq!(rt; steps, 2);
     Ok(())
@@ -182,7 +166,7 @@ fn a_result_is_filtered(rt: HostRuntime) -> Result<(), Fail> {
     let joined = Handle::filter_return(rt.alloc(), &join, &length)?;
     let ab = Value::Text(Text::new(rt.alloc(), "ab")?);
     let c = Value::Text(Text::new(rt.alloc(), "c")?);
-    let (outcome, steps) = evaluated(rt.alloc(), &[], &joined, &[ab, c])?;
+    let (outcome, steps) = evaluate(rt.alloc(), &[], &joined, &[ab, c])?;
     assert_eq!(rt; int(&outcome), Some(3));
     assert_eq!(rt; steps, 3);
     Ok(())
@@ -197,16 +181,16 @@ fn filters_run_from_left_to_right(rt: HostRuntime) -> Result<(), Fail> {
     let add = Handle::op(rt.alloc(), Op::Iadd)?;
     let sums = Handle::filter(rt.alloc(), &add, 0, &[Some(ten), Some(seven)])?;
     let zeros = [Value::Int(0), Value::Int(0)];
-    let (outcome, steps) = evaluated(rt.alloc(), &[], &sums, &zeros)?;
+    let (outcome, steps) = evaluate(rt.alloc(), &[], &sums, &zeros)?;
     assert_eq!(rt; thrown(&outcome), Some(Throw::ArithmeticException));
     assert_eq!(rt; steps, 3);
-    let (outcome, steps) = evaluated(rt.alloc(), &[], &sums, &[Value::Int(5), Value::Int(2)])?;
+    let (outcome, steps) = evaluate(rt.alloc(), &[], &sums, &[Value::Int(5), Value::Int(2)])?;
     assert_eq!(rt; int(&outcome), Some(5));
     assert_eq!(rt; steps, 6);
     let subtract = Handle::op(rt.alloc(), Op::Isub)?;
     let negate = Handle::op(rt.alloc(), Op::Ineg)?;
     let sum = Handle::filter(rt.alloc(), &subtract, 0, &[None, Some(negate)])?;
-    let (outcome, steps) = evaluated(rt.alloc(), &[], &sum, &[Value::Int(5), Value::Int(2)])?;
+    let (outcome, steps) = evaluate(rt.alloc(), &[], &sum, &[Value::Int(5), Value::Int(2)])?;
     assert_eq!(rt; int(&outcome), Some(7));
     assert_eq!(rt; steps, 3);
     Ok(())
@@ -220,14 +204,14 @@ fn joined_texts_have_a_limit(rt: HostRuntime) -> Result<(), Fail> {
     }
     let join = Handle::op(rt.alloc(), Op::Concat)?;
     let first = Value::Text(Text::new(rt.alloc(), long.as_str())?);
-    let (outcome, _) = evaluated(
+    let (outcome, _) = evaluate(
         rt.alloc(),
         &[],
         &join,
         &[first.share()?, Value::Text(Text::new(rt.alloc(), "")?)],
     )?;
     assert_eq!(rt; thrown(&outcome), None);
-    let (outcome, _) = evaluated(
+    let (outcome, _) = evaluate(
         rt.alloc(),
         &[],
         &join,

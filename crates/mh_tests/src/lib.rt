@@ -1,6 +1,7 @@
 //! Tests of the library crates: what no clause says, and each public call once with ample memory.
 #![tactic(auto)]
 
+pub mod evaluate;
 #[cfg(test)]
 mod evaluation;
 #[cfg(test)]
