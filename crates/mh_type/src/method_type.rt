@@ -90,7 +90,7 @@ impl MethodType {
         ensures value { result ≡ length self.now.parameters }
         ensures few { length self.now.parameters ≤ 16 }
     {
-        self.count
+        self.parameters().len()
     }
 
     /// The kind of a parameter.
