@@ -1,9 +1,14 @@
 //! One command line, over a reader and two writers.
-ghost use Rattle.std.specs.Prelude.{◌≡◌, ◌≤◌};
-ghost use Rattle.mhlink.specs.Statuses.{status_told};
+ghost use Rattle.std.specs.Prelude.{◌≡◌, ◌≢◌, ◌⊎◌, ◌≤◌, ◌↔◌, [], ◌∷◌, Some, codes, map, IsTrue, IfOk, IfErr, IfSome, OnOk};
+ghost use Rattle.clap.specs.Words.{app_of, fault_of, kind_of, subcommand_name_of};
+ghost use Rattle.clap.specs.declared.error.kind.ErrorKind.{ErrorKind};
+ghost use Rattle.std.specs.Io.KnownBytes.{Keeps};
+ghost use Rattle.mh_text.specs.declared.fault.Fault.{Fault};
+ghost use Rattle.mhlink.specs.CommandLine.{program, IsRun, AsksHelp, status_answered, IsAnswer};
+ghost use Rattle.mhlink.specs.Statuses.{status_told, RunsWhole, RefusesInput, EndsInFault, IsTold, IsScript, IsNoScript};
 
 use clap::error::ErrorKind;
-use clap::{Command, Error};
+use clap::{ArgMatches, Command, Error};
 use mh_text::{Fault, TextFault, Watched, run_bytes};
 use std::alloc::{AllocError, Global};
 use std::convert::AsStr;
@@ -25,7 +30,9 @@ pub const IO_FAILED: u8 = 3;
 pub const NO_MEMORY: u8 = 4;
 
 /// The command lines that the program takes.
-fn build<'a>(alloc: Global) -> Result<Command<'a>, AllocError> {
+fn build<'a>(alloc: Global) -> Result<Command<'a>, AllocError>
+    ensures app { IfOk result (λ c. app_of c ≡ program) }
+{
     let run = Command::new(alloc, "run");
     Command::new(alloc, "mhlink")
         .subcommand_required(true)
@@ -34,8 +41,7 @@ fn build<'a>(alloc: Global) -> Result<Command<'a>, AllocError> {
 
 /// Writes a text to its end, and gives the status, or the one for a failed write.
 fn write_text<W: Write>(writer: &mut W, text: &str, status: u8) -> u8
-    requires known { status ≤ 4 }
-    ensures known { result ≤ 4 }
+    ensures value { (result ≡ status) ⊎ (result ≡ 3) }
 {
     if writer.write_all(text.as_bytes()).is_err() || writer.flush().is_err() {
         return IO_FAILED;
@@ -55,9 +61,9 @@ fn status_of(fault: Fault) -> u8
     }
 }
 
-/// Writes the line of a fault, and gives its status.
+/// Writes the line of a fault, and gives its status, or the one for what kept the line back.
 fn tell_fault<E: Write>(alloc: Global, fault: Fault, err: &mut E) -> u8
-    ensures known { result ≤ 4 }
+    ensures value { IsTold result fault.kind }
 {
     let Ok(line) = format!(in alloc; "{fault}\n") else {
         return NO_MEMORY;
@@ -65,47 +71,89 @@ fn tell_fault<E: Write>(alloc: Global, fault: Fault, err: &mut E) -> u8
     write_text(err, line.as_str(), status_of(fault))
 }
 
-/// Runs the script that the reader gives.
-fn run<R: Read + Drop, W: Write + Drop, E: Write>(
+/// Runs the script that the reader gives, and flushes what it wrote, also after a fault.
+fn run_flushed<R: Read, W: Write>(
     alloc: Global,
-    reader: R,
-    out: W,
-    err: &mut E,
-) -> u8
-    ensures known { result ≤ 4 }
+    reader: &mut Watched<R>,
+    writer: &mut Watched<W>,
+) -> Result<(), Fault>
+    ensures ok { OnOk result (RunsWhole (R.remaining reader.old.inner) (W.contents writer.old.inner) (W.contents writer.new.inner)) }
+    ensures failed { IfErr result (EndsInFault (R.remaining reader.old.inner)
+        (W.contents writer.old.inner) (W.contents writer.new.inner)
+        reader.new.failed writer.new.failed) }
 {
-    let mut reader = Watched::new(reader);
-    let mut writer = Watched::new(out);
-    let ran = run_bytes(alloc, &mut reader, &mut writer);
+    let ran = run_bytes(alloc, reader, writer);
     let flushed = writer.inner.flush();
-    if let Err(fault) = ran {
-        return tell_fault(alloc, fault, err);
-    }
+    ran?;
     if flushed.is_err() {
-        let fault = Fault {
+        return Err(Fault {
             kind: TextFault::WriteFailed,
             at: 0,
-        };
-        return tell_fault(alloc, fault, err);
+        });
     }
-    DONE
+    Ok(())
+}
+
+/// Runs the script that the reader gives, tells a fault, and gives the status.
+fn run<R: Read, W: Write, E: Write>(
+    alloc: Global,
+    reader: &mut Watched<R>,
+    writer: &mut Watched<W>,
+    err: &mut E,
+) -> u8
+    ensures done { result ≡ 0 → RunsWhole (R.remaining reader.old.inner) (W.contents writer.old.inner) (W.contents writer.new.inner) }
+    ensures quiet { result ≡ 0 → Keeps (E.contents err.old) (E.contents err.new) }
+    ensures refused { result ≡ 1 → RefusesInput (R.remaining reader.old.inner) (W.contents writer.old.inner) (W.contents writer.new.inner) }
+    ensures failed { result ≢ 0 → (e : Fault) × IsTold result e.kind × EndsInFault (R.remaining reader.old.inner)
+        (W.contents writer.old.inner) (W.contents writer.new.inner)
+        reader.new.failed writer.new.failed e }
+{
+    match run_flushed(alloc, reader, writer) {
+        Ok(()) => DONE,
+        Err(fault) => tell_fault(alloc, fault, err),
+    }
+}
+
+/// The status of a command line that is answered with this kind.
+fn status_answered(kind: ErrorKind) -> u8
+    ensures value { result ≡ status_answered kind }
+{
+    match kind {
+        ErrorKind::OutOfMemory => NO_MEMORY,
+        ErrorKind::DisplayHelp | ErrorKind::DisplayVersion => DONE,
+        _ => COMMAND_LINE,
+    }
 }
 
 /// Writes what a command line is answered with where it runs nothing: help to `out`, a fault to
 /// `err`.
 fn tell<W: Write, E: Write>(alloc: Global, error: &Error, out: &mut W, err: &mut E) -> u8
+    ensures value { IsAnswer result (kind_of error.now) }
+    ensures memory { kind_of error.now ≡ ErrorKind.OutOfMemory → result ≡ 4 }
     ensures known { result ≤ 4 }
+    ensures unread { result ≢ 1 }
 {
+    let status = status_answered(error.kind());
     if error.kind() == ErrorKind::OutOfMemory {
-        return NO_MEMORY;
+        return status;
     }
     let Ok(text) = error.to_string(alloc) else {
         return NO_MEMORY;
     };
     if error.use_stderr() {
-        write_text(err, text.as_str(), COMMAND_LINE)
+        write_text(err, text.as_str(), status)
     } else {
-        write_text(out, text.as_str(), DONE)
+        write_text(out, text.as_str(), status)
+    }
+}
+
+/// Whether the subcommand that was used is `run`.
+fn is_run(matches: &ArgMatches) -> bool
+    ensures value { IsTrue result ↔ (subcommand_name_of matches.now ≡ Some (codes "run")) }
+{
+    match matches.subcommand() {
+        Some((name, _)) => name == "run",
+        None => false,
     }
 }
 
@@ -123,17 +171,24 @@ pub fn command<S: AsStr, R: Read + Drop, W: Write + Drop, E: Write + Drop>(
     err: E,
 ) -> u8
     ensures known { result ≤ 4 }
+    ensures answered { (kind : ErrorKind) → fault_of program (map S.text words.now) ≡ kind ∷ [] → IsAnswer result kind }
+    ensures help { AsksHelp (map S.text words.now) → IsAnswer result ErrorKind.DisplayHelp }
+    ensures run { IsRun (map S.text words.now) → result ≢ 2 }
+    ensures done { IsRun (map S.text words.now) → result ≡ 0 → IfSome (R.remaining reader) IsScript }
+    ensures refused { result ≡ 1 → IfSome (R.remaining reader) IsNoScript }
 {
-    let mut out = out;
+    let mut reader = Watched::new(reader);
+    let mut out = Watched::new(out);
     let mut err = err;
     let Ok(command) = build(alloc) else {
         return NO_MEMORY;
     };
-    match command.try_get_matches_from(words) {
-        Ok(matches) => match matches.subcommand() {
-            Some(("run", _)) => run(alloc, reader, out, &mut err),
-            _ => COMMAND_LINE,
-        },
-        Err(error) => tell(alloc, &error, &mut out, &mut err),
+    let matches = match command.try_get_matches_from(words) {
+        Ok(matches) => matches,
+        Err(error) => return tell(alloc, &error, &mut out.inner, &mut err),
+    };
+    if !is_run(&matches) {
+        return COMMAND_LINE;
     }
+    run(alloc, &mut reader, &mut out, &mut err)
 }

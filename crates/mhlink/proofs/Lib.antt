@@ -1,0 +1,3 @@
+mod CommandLineLemmas
+mod Flushed
+mod Unread
