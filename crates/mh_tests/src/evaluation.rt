@@ -196,6 +196,20 @@ fn filters_run_from_left_to_right(rt: HostRuntime) -> Result<(), Fail> {
     Ok(())
 }
 
+/// Each of the trees but the first is the one before it, twice: 4,095 nodes in the end, each of which is
+/// entered.
+#[test]
+fn a_doubled_tree_enters_each_node(rt: HostRuntime) -> Result<(), Fail> {
+    let mut tree = Handle::op(rt.alloc(), Op::Ineg)?;
+    for _ in 1..12 {
+        tree = Handle::filter_return(rt.alloc(), &tree, &tree)?;
+    }
+    let (outcome, steps) = evaluate(rt.alloc(), &[], &tree, &[Value::Int(1)])?;
+    assert_eq!(rt; int(&outcome), Some(1));
+    assert_eq!(rt; steps, 4095);
+    Ok(())
+}
+
 #[test]
 fn joined_texts_have_a_limit(rt: HostRuntime) -> Result<(), Fail> {
     let mut long = String::new(rt.alloc());

@@ -5,3 +5,4 @@ pub mod MachineLemmas
 pub mod NameLemmas
 pub mod Runs
 pub mod Shapes
+pub mod SharedPairs

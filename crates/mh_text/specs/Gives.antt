@@ -6,7 +6,7 @@ use Rattle.mh_tree.specs.declared.fault.TreeFault.{TreeFault}
 use Rattle.mh_tree.specs.declared.fault.TreeFault.TheVariants as tree_fault
 use Rattle.mh_text.specs.declared.definition.DefinitionFault.{DefinitionFault}
 use Rattle.mh_text.specs.declared.fault.ReadFault.{ReadFault}
-use Rattle.mh_text.specs.declared.fault.ReadFault.TheVariants.{NoMemory, TooLong, NotJson, BadShape, BadValue, Tree, Definition, BadType}
+use Rattle.mh_text.specs.declared.fault.ReadFault.TheVariants.{NoMemory, TooLong, NotJson, BadShape, BadValue, UnknownShared, Tree, Definition, BadType}
 use Rattle.mh_text.specs.declared.fault.TextFault.{TextFault}
 use Rattle.mh_text.specs.declared.fault.TextFault.TheVariants as text
 use Rattle.mh_text.specs.declared.fault.Fault.{Fault}
@@ -48,6 +48,7 @@ told TooLong = text.TooLong
 told NotJson = text.NotJson
 told BadShape = text.BadShape
 told BadValue = text.BadValue
+told UnknownShared = text.UnknownShared
 told (Tree cause) = text.Tree cause
 told (Definition cause) = text.Definition cause
 told (BadType cause) = text.BadType cause

@@ -10,6 +10,7 @@ pub mod Names
 pub mod Output
 pub mod Script
 pub mod Shape
+pub mod Shared
 pub mod Tests
 pub mod Trees
 pub mod Values

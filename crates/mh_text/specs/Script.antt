@@ -3,7 +3,6 @@ use Rattle.std.specs.Prelude.{ℕ, ◌^◌, ◌-◌, List, [], ◌∷◌, Result
 use Rattle.std.specs.Str.{bytes_eq}
 use Rattle.serde_json.specs.Data.{Data}
 use Rattle.mh_type.specs.declared.kind.Kind.{Kind}
-use Rattle.mh_type.specs.Written.{parsed}
 use Rattle.mh_text.specs.declared.fault.Fault.{Fault}
 use Rattle.mh_text.specs.declared.fault.ReadFault.{ReadFault}
 use Rattle.mh_text.specs.declared.fault.ReadFault.TheVariants.{BadShape, Definition}
@@ -12,13 +11,15 @@ use Rattle.mh_text.specs.declared.definition.Point.{Point}
 use Rattle.mh_text.specs.declared.definition.Site.{Site}
 use Rattle.mh_text.specs.declared.event.Event.{Event}
 use Rattle.mh_text.specs.declared.event.Event.TheVariants.{Call, Target, Invalidate}
+use Rattle.mh_text.specs.declared.scope.Scope.{Scope}
 use Rattle.mh_text.specs.declared.script.Script.{Script}
 use Rattle.mh_text.specs.Definitions.{definition_made}
-use Rattle.mh_text.specs.Gives.{◌>>=◌, at_place, caused, of_type}
+use Rattle.mh_text.specs.Gives.{◌>>=◌, at_place, caused}
 use Rattle.mh_text.specs.Names.{with_name}
 use Rattle.mh_text.specs.Shape.{list_of, text_of, member_of, count_of, each_from, each_of}
-use Rattle.mh_text.specs.Trees.{tree_of, point_place}
-use Rattle.mh_text.specs.Values.{values_for}
+use Rattle.mh_text.specs.Shared.{scope_of}
+use Rattle.mh_text.specs.Trees.{declared_of, point_place}
+use Rattle.mh_text.specs.Values.{type_of, values_for}
 
 -- a point: its name, then its cost
 abbrev pub point_of : Data → Result Point ReadFault
@@ -33,16 +34,15 @@ point_of d = do
 abbrev pub names_of : List Point → List (List ℕ)
 names_of points = fold (λ names p. with_name names p.name) [] points
 
--- a site over the points of these names: its name, its type, its target
-abbrev pub site_of : List (List ℕ) → Data → Result Site ReadFault
-site_of points d = do
+-- a site: its name, its type, its target
+abbrev pub site_of : Scope → Data → Result Site ReadFault
+site_of scope d = do
   name ← member_of (codes "name") d
   name ← text_of name
-  type_text ← member_of (codes "type") d
-  type_text ← text_of type_text
-  method_type ← caused of_type (parsed type_text)
+  method_type ← member_of (codes "type") d
+  method_type ← type_of method_type
   target ← member_of (codes "target") d
-  target ← tree_of points target
+  target ← declared_of scope target
   Ok (record { name = name; method_type = method_type; target = target })
 
 -- the one item of a list
@@ -65,21 +65,24 @@ points_of d = do
   each_of point_of points
 
 -- the one site of a definition
-abbrev pub only_site_of : List (List ℕ) → Data → Result Site ReadFault
-only_site_of points d = do
+abbrev pub only_site_of : Scope → Data → Result Site ReadFault
+only_site_of scope d = do
   sites ← member_of (codes "sites") d
   sites ← list_of sites
   site ← only sites
-  site_of points site
+  site_of scope site
 
--- the version, the points, the site, and then the faults of the definition that they make
-abbrev pub definition_of : Data → Result DefinitionData ReadFault
+-- The version, the points, the shared trees, the site, and then the faults of the definition that they make. The names
+-- that trees may use go on to the events.
+abbrev pub definition_of : Data → Result (DefinitionData × Scope) ReadFault
 definition_of d = do
   definition ← member_of (codes "definition") d
   version ← version_of definition
   points ← points_of definition
-  site ← only_site_of (names_of points) definition
-  caused Definition (definition_made points site)
+  scope ← scope_of (names_of points) definition
+  site ← only_site_of scope definition
+  definition ← caused Definition (definition_made points site)
+  Ok (definition, scope)
 
 -- the number of workers: 1 to 64
 abbrev pub workers_of : Data → Result ℕ ReadFault
@@ -107,12 +110,12 @@ call_from site (worker ∷ name ∷ values ∷ []) = do
 call_from site _ = Err BadShape
 
 -- SITE, TREE
-abbrev pub target_from : List (List ℕ) → Site → List Data → Result Event ReadFault
-target_from points site (name ∷ tree ∷ []) = do
+abbrev pub target_from : Scope → Site → List Data → Result Event ReadFault
+target_from scope site (name ∷ tree ∷ []) = do
   name ← text_of name
-  tree ← tree_of points tree
+  tree ← declared_of scope tree
   Ok (Target (site_place site name) tree)
-target_from points site _ = Err BadShape
+target_from scope site _ = Err BadShape
 
 -- the name of a point, as its number
 abbrev pub named_point_of : List (List ℕ) → Data → Result ℕ ReadFault
@@ -129,36 +132,36 @@ invalidate_from points (names ∷ []) = do
 invalidate_from points _ = Err BadShape
 
 -- what a word heads
-abbrev pub event_named : List (List ℕ) → Site → List ℕ → List Data → Result Event ReadFault
-event_named points site word args = if bytes_eq word (codes "call") then call_from site args else (if bytes_eq word (codes "target") then target_from points site args else (if bytes_eq word (codes "invalidate") then invalidate_from points args else Err BadShape))
+abbrev pub event_named : Scope → Site → List ℕ → List Data → Result Event ReadFault
+event_named scope site word args = if bytes_eq word (codes "call") then call_from site args else (if bytes_eq word (codes "target") then target_from scope site args else (if bytes_eq word (codes "invalidate") then invalidate_from scope.points args else Err BadShape))
 
 -- a word, and what it heads
-abbrev pub event_from : List (List ℕ) → Site → List Data → Result Event ReadFault
-event_from points site [] = Err BadShape
-event_from points site (head ∷ args) = do
+abbrev pub event_from : Scope → Site → List Data → Result Event ReadFault
+event_from scope site [] = Err BadShape
+event_from scope site (head ∷ args) = do
   word ← text_of head
-  event_named points site word args
+  event_named scope site word args
 
-abbrev pub event_of : List (List ℕ) → Site → Data → Result Event ReadFault
-event_of points site d = do
+abbrev pub event_of : Scope → Site → Data → Result Event ReadFault
+event_of scope site d = do
   parts ← list_of d
-  event_from points site parts
+  event_from scope site parts
 
 -- the events, of which the first has the number 1
-abbrev pub events_of : List (List ℕ) → Site → List Data → Result (List Event) Fault
-events_of points site ds = each_from (λ n d. at_place n (event_of points site d)) 1 ds
+abbrev pub events_of : Scope → Site → List Data → Result (List Event) Fault
+events_of scope site ds = each_from (λ n d. at_place n (event_of scope site d)) 1 ds
 
 -- the events of a script of this definition
-abbrev pub event_list_of : DefinitionData → Data → Result (List Event) Fault
-event_list_of definition d = do
+abbrev pub event_list_of : Scope → DefinitionData → Data → Result (List Event) Fault
+event_list_of scope definition d = do
   events ← at_place 0 (member_of (codes "events") d)
   events ← at_place 0 (list_of events)
-  events_of (names_of definition.points) definition.site events
+  events_of scope definition.site events
 
 -- the definition, the workers, the events
 abbrev pub script_of : Data → Result Script Fault
 script_of d = do
-  definition ← at_place 0 (definition_of d)
+  declared ← at_place 0 (definition_of d)
   workers ← at_place 0 (workers_of d)
-  events ← event_list_of definition d
-  Ok (record { definition = definition; workers = workers; events = events })
+  events ← event_list_of declared.1 declared.0 d
+  Ok (record { definition = declared.0; workers = workers; events = events })

@@ -1,22 +1,26 @@
 -- The tree that a JSON value is.
-use Rattle.std.specs.Prelude.{ℕ, ◌^◌, ◌-◌, min, List, [], ◌∷◌, drop, Result, Ok, Err, codes, if◌then◌else◌}
+use Rattle.std.specs.Prelude.{ℕ, ◌^◌, ◌-◌, min, List, [], ◌∷◌, drop, Option, Some, None, Result, Ok, Err, codes, is_some, if◌then◌else◌}
+use Rattle.std.specs.List.{slice_get}
 use Rattle.std.specs.Str.{bytes_eq}
 use Rattle.serde_json.specs.Data.{Data, null, boolean, number, string, array, object, Items, no_items, item}
+use Rattle.serde_json.specs.Find.{as_null}
 use Rattle.serde_json.specs.View.{view}
 use Rattle.serde_json.specs.declared.value.Value.{Value}
 use Rattle.mh_tree.specs.Handle.{TypedTree}
-use Rattle.mh_tree.specs.Constructors.{constant_made, identity_made, op_made, insert_made, drop_made, guard_made, point_made}
+use Rattle.mh_tree.specs.Constructors.{constant_made, identity_made, op_made, insert_made, drop_made, permute_made, filter_made, filter_return_made, fold_made, guard_made, point_made, declared_made}
 use Rattle.mh_text.specs.declared.fault.ReadFault.{ReadFault}
-use Rattle.mh_text.specs.declared.fault.ReadFault.TheVariants.{BadShape}
-use Rattle.mh_text.specs.Gives.{◌>>=◌, caused, of_tree}
+use Rattle.mh_text.specs.declared.fault.ReadFault.TheVariants.{BadShape, UnknownShared}
+use Rattle.mh_text.specs.declared.scope.Scope.{Scope}
+use Rattle.mh_text.specs.Gives.{◌>>=◌, or_fault, caused, of_tree}
 use Rattle.mh_text.specs.Names.{place_of}
 use Rattle.mh_text.specs.Shape.{list_of, text_of, count_of, each_of}
-use Rattle.mh_text.specs.Values.{kind_of, op_of, value_of_kind, values_for}
+use Rattle.mh_text.specs.Values.{kind_of, type_of, op_of, value_of_kind, values_for}
 
--- a value, and what it is as a tree
+-- a value, what it is as a tree, and what it is as a list of filters
 pub record Part : Type 0 where
   pub value : Data
   pub tree : Result TypedTree ReadFault
+  pub filters : Result (List (Option TypedTree)) ReadFault
 
 -- KIND, VALUE
 abbrev pub constant_from : List Part → Result TypedTree ReadFault
@@ -60,6 +64,41 @@ drop_from (target ∷ position ∷ kinds ∷ []) = do
   caused of_tree (drop_made target position kinds)
 drop_from _ = Err BadShape
 
+-- TREE, TYPE, [number..]
+abbrev pub permute_from : List Part → Result TypedTree ReadFault
+permute_from (target ∷ new_type ∷ reorder ∷ []) = do
+  target ← target.tree
+  new_type ← type_of new_type.value
+  reorder ← list_of reorder.value
+  reorder ← each_of (count_of (2 ^ 63 - 1)) reorder
+  caused of_tree (permute_made target new_type reorder)
+permute_from _ = Err BadShape
+
+-- TREE, pos, [TREE or null..]
+abbrev pub filter_from : List Part → Result TypedTree ReadFault
+filter_from (target ∷ position ∷ filters ∷ []) = do
+  target ← target.tree
+  position ← count_of (2 ^ 63 - 1) position.value
+  filters ← filters.filters
+  caused of_tree (filter_made target position filters)
+filter_from _ = Err BadShape
+
+-- TARGET, FILTER
+abbrev pub return_from : List Part → Result TypedTree ReadFault
+return_from (target ∷ last ∷ []) = do
+  target ← target.tree
+  last ← last.tree
+  caused of_tree (filter_return_made target last)
+return_from _ = Err BadShape
+
+-- TARGET, COMBINER
+abbrev pub fold_from : List Part → Result TypedTree ReadFault
+fold_from (target ∷ combiner ∷ []) = do
+  target ← target.tree
+  combiner ← combiner.tree
+  caused of_tree (fold_made target combiner)
+fold_from _ = Err BadShape
+
 -- TEST, TARGET, FALLBACK
 abbrev pub guard_from : List Part → Result TypedTree ReadFault
 guard_from (test ∷ target ∷ fallback ∷ []) = do
@@ -74,38 +113,78 @@ abbrev pub point_place : List (List ℕ) → List ℕ → ℕ
 point_place points name = min (place_of points name) (2 ^ 32 - 1)
 
 -- NAME, TARGET, FALLBACK
-abbrev pub point_from : List (List ℕ) → List Part → Result TypedTree ReadFault
-point_from points (name ∷ target ∷ fallback ∷ []) = do
+abbrev pub point_from : Scope → List Part → Result TypedTree ReadFault
+point_from scope (name ∷ target ∷ fallback ∷ []) = do
   name ← text_of name.value
   target ← target.tree
   fallback ← fallback.tree
-  caused of_tree (point_made (point_place points name) target fallback)
-point_from points _ = Err BadShape
+  caused of_tree (point_made (point_place scope.points name) target fallback)
+point_from scope _ = Err BadShape
 
--- what a word heads, where the points have these names
-abbrev pub form_named : List (List ℕ) → List ℕ → List Part → Result TypedTree ReadFault
-form_named points word args = if bytes_eq word (codes "const") then constant_from args else (if bytes_eq word (codes "id") then identity_from args else (if bytes_eq word (codes "op") then op_from args else (if bytes_eq word (codes "insert") then insert_from args else (if bytes_eq word (codes "drop") then drop_from args else (if bytes_eq word (codes "guard") then guard_from args else (if bytes_eq word (codes "point") then point_from points args else Err BadShape))))))
+-- the shared tree of a name, among those that stand earlier
+abbrev pub shared_named : Scope → List ℕ → Result TypedTree ReadFault
+shared_named scope name = or_fault UnknownShared (slice_get scope.trees (place_of scope.names name))
+
+-- NAME
+abbrev pub ref_from : Scope → List Part → Result TypedTree ReadFault
+ref_from scope (name ∷ []) = do
+  name ← text_of name.value
+  shared_named scope name
+ref_from scope _ = Err BadShape
+
+-- what a word heads
+abbrev pub form_named : Scope → List ℕ → List Part → Result TypedTree ReadFault
+form_named scope word args = if bytes_eq word (codes "const") then constant_from args else (if bytes_eq word (codes "id") then identity_from args else (if bytes_eq word (codes "op") then op_from args else (if bytes_eq word (codes "ref") then ref_from scope args else (if bytes_eq word (codes "insert") then insert_from args else (if bytes_eq word (codes "drop") then drop_from args else (if bytes_eq word (codes "permute") then permute_from args else (if bytes_eq word (codes "filter") then filter_from args else (if bytes_eq word (codes "return") then return_from args else (if bytes_eq word (codes "fold") then fold_from args else (if bytes_eq word (codes "guard") then guard_from args else (if bytes_eq word (codes "point") then point_from scope args else Err BadShape)))))))))))
 
 -- a word, and what it heads
-abbrev pub form_from : List (List ℕ) → List Part → Result TypedTree ReadFault
-form_from points [] = Err BadShape
-form_from points (head ∷ args) = do
+abbrev pub form_from : Scope → List Part → Result TypedTree ReadFault
+form_from scope [] = Err BadShape
+form_from scope (head ∷ args) = do
   word ← text_of head.value
-  form_named points word args
+  form_named scope word args
+
+-- an item of a list of filters: none where it is null, and else the tree that it is
+abbrev pub filter_or_none : Data → Result TypedTree ReadFault → Result (Option TypedTree) ReadFault
+filter_or_none d tree = if is_some (as_null d) then Ok None else (tree >>= λ filter. Ok (Some filter))
 
 abbrev mutual
-  pub tree_of : List (List ℕ) → Data → Result TypedTree ReadFault
-  tree_of points (array ds) = form_from points (parts_of points ds)
-  tree_of points null = Err BadShape
-  tree_of points (boolean b) = Err BadShape
-  tree_of points (number n) = Err BadShape
-  tree_of points (string s) = Err BadShape
-  tree_of points (object ms) = Err BadShape
+  pub tree_of : Scope → Data → Result TypedTree ReadFault
+  tree_of scope (array ds) = form_from scope (parts_of scope ds)
+  tree_of scope null = Err BadShape
+  tree_of scope (boolean b) = Err BadShape
+  tree_of scope (number n) = Err BadShape
+  tree_of scope (string s) = Err BadShape
+  tree_of scope (object ms) = Err BadShape
 
-  pub parts_of : List (List ℕ) → Items → List Part
-  parts_of points no_items = []
-  parts_of points (item d ds) = record { value = d; tree = tree_of points d } ∷ parts_of points ds
+  pub parts_of : Scope → Items → List Part
+  parts_of scope no_items = []
+  parts_of scope (item d ds) = record { value = d; tree = tree_of scope d; filters = filters_of scope d } ∷ parts_of scope ds
+
+  pub filters_of : Scope → Data → Result (List (Option TypedTree)) ReadFault
+  filters_of scope (array ds) = filters_in scope ds
+  filters_of scope null = Err BadShape
+  filters_of scope (boolean b) = Err BadShape
+  filters_of scope (number n) = Err BadShape
+  filters_of scope (string s) = Err BadShape
+  filters_of scope (object ms) = Err BadShape
+
+  pub filters_in : Scope → Items → Result (List (Option TypedTree)) ReadFault
+  filters_in scope no_items = Ok []
+  filters_in scope (item d ds) = do
+    filter ← filter_or_none d (tree_of scope d)
+    filters ← filters_in scope ds
+    Ok (filter ∷ filters)
+
+-- a tree within the limits of declared trees
+abbrev pub declared_of : Scope → Data → Result TypedTree ReadFault
+declared_of scope d = do
+  tree ← tree_of scope d
+  caused of_tree (declared_made tree)
 
 -- a value of the code as a part
-abbrev pub part : List (List ℕ) → Value → Part
-part points v = record { value = view v; tree = tree_of points (view v) }
+abbrev pub part : Scope → Value → Part
+part scope v = record { value = view v; tree = tree_of scope (view v); filters = filters_of scope (view v) }
+
+-- a value of the code as an item of a list of filters
+abbrev pub filter_of : Scope → Data → Result (Option TypedTree) ReadFault
+filter_of scope d = filter_or_none d (tree_of scope d)

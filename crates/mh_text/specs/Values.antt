@@ -1,4 +1,4 @@
--- Kinds, operations and values in JSON.
+-- Kinds, types, operations and values in JSON.
 use Rattle.std.specs.Prelude.{ℕ, ◌^◌, ◌&&◌, ℤ, pos, neg_ℤ, int_lt, Bool, not, List, Option, Some, None, Result, Ok, Err, option_and_then, if◌then◌else◌}
 use Rattle.std.specs.List.{slice_get}
 use Rattle.serde_json.specs.Data.{Data, null, boolean, number, string, array, object}
@@ -9,11 +9,13 @@ use Rattle.mh_type.specs.declared.operation.Op.{Op}
 use Rattle.mh_type.specs.declared.value.Value.{Value}
 use Rattle.mh_type.specs.declared.value.Value.TheVariants.{Int, Long, Boolean, Text}
 use Rattle.mh_type.specs.Kinds.{kind_named}
+use Rattle.mh_type.specs.Signature.{Signature}
+use Rattle.mh_type.specs.Written.{parsed}
 use Rattle.mh_type.specs.Operations.{op_named}
 use Rattle.mh_type.specs.Printable.{is_text}
 use Rattle.mh_text.specs.declared.fault.ReadFault.{ReadFault}
 use Rattle.mh_text.specs.declared.fault.ReadFault.TheVariants.{BadShape, BadValue}
-use Rattle.mh_text.specs.Gives.{or_fault, ◌>>=◌}
+use Rattle.mh_text.specs.Gives.{or_fault, ◌>>=◌, caused, of_type}
 use Rattle.mh_text.specs.Shape.{text_of, each_from}
 
 -- the name of a kind
@@ -21,6 +23,12 @@ abbrev pub kind_of : Data → Result Kind ReadFault
 kind_of d = do
   name ← text_of d
   or_fault BadShape (kind_named name)
+
+-- the text of a method type
+abbrev pub type_of : Data → Result Signature ReadFault
+type_of d = do
+  written ← text_of d
+  caused of_type (parsed written)
 
 -- the name of an operation
 abbrev pub op_of : Data → Result Op ReadFault

@@ -7,7 +7,7 @@ ghost use Rattle.mh_text.specs.Definitions.{definition_made, definition_fault, p
 
 use crate::listing::Listing;
 use crate::names::Name;
-use mh_tree::Handle;
+use mh_tree::Declared;
 use mh_type::MethodType;
 use std::marker::Model;
 
@@ -32,7 +32,7 @@ pub struct Point {
 pub struct Site {
     pub name: Name,
     pub method_type: MethodType,
-    pub target: Handle,
+    pub target: Declared,
 }
 
 /// Why a definition is refused.
@@ -164,10 +164,11 @@ fn test_site(points: usize, site: &Site) -> Result<(), DefinitionFault>
     if !is_name(site.name.as_str().as_bytes()) {
         return Err(DefinitionFault::BadName);
     }
-    if site.target.point_bound() > points {
+    let target = site.target.handle();
+    if target.point_bound() > points {
         return Err(DefinitionFault::NoPoint);
     }
-    if !site.target.method_type().equals(&site.method_type) {
+    if !target.method_type().equals(&site.method_type) {
         return Err(DefinitionFault::TypeMismatch);
     }
     Ok(())
@@ -185,8 +186,8 @@ fn is_among(points: &[Point], name: &str) -> bool
     false
 }
 
-// Whether bytes make a name.
-fn is_name(name: &[u8]) -> bool
+/// Whether bytes make a name.
+pub(crate) fn is_name(name: &[u8]) -> bool
     ensures value { result ≡ is_lawful name.now }
 {
     let [first, rest @ ..] = name else {

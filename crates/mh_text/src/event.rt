@@ -1,7 +1,7 @@
 //! What a machine is asked.
 
 use crate::listing::Listing;
-use mh_tree::Handle;
+use mh_tree::Declared;
 use mh_type::Value;
 
 /// One step of one actor. Sites and points are given by number; a number past the last is one that
@@ -17,7 +17,7 @@ pub enum Event {
     /// A site gets another target (`MutableCallSite.setTarget`).
     Target {
         site: usize,
-        tree: Handle,
+        tree: Declared,
     },
     /// Points become invalid, for good (`SwitchPoint.invalidateAll`).
     Invalidate {

@@ -8,10 +8,10 @@ use crate::definition::Site;
 use crate::event::Event;
 use crate::fault::{Fault, ReadFault, TextFault};
 use crate::listing::Listing;
-use crate::names::Names;
+use crate::scope::Scope;
 use crate::shape::{count, each, list, text};
 use crate::site::{parameters, site_number};
-use crate::trees::{point_number, read_tree};
+use crate::trees::read_declared;
 use crate::values::read_values;
 use serde_json::Value;
 use std::alloc::Global;
@@ -37,76 +37,76 @@ fn read_call(alloc: Global, site: &Site, args: &[Value]) -> Result<Event, ReadFa
 
 fn read_target(
     alloc: Global,
-    points: &Names,
+    scope: &Scope,
     site: &Site,
     args: &[Value],
 ) -> Result<Event, ReadFault>
-    ensures value { Gives (λ x. x) result (target_from points.now site.now (map view args.now)) }
+    ensures value { Gives (λ x. x) result (target_from scope.now site.now (map view args.now)) }
 {
     let [name, tree] = args else {
         return Err(ReadFault::BadShape);
     };
     let site = site_number(site, text(name)?);
-    let tree = read_tree(alloc, points, tree)?;
+    let tree = read_declared(alloc, scope, tree)?;
     Ok(Event::Target { site, tree })
 }
 
-fn read_named_point(points: &Names, value: &Value) -> Result<u32, ReadFault>
-    ensures value { Gives (λ x. x) result (named_point_of points.now (view value.now)) }
+fn read_named_point(scope: &Scope, value: &Value) -> Result<u32, ReadFault>
+    ensures value { Gives (λ x. x) result (named_point_of scope.now.points (view value.now)) }
 {
-    Ok(point_number(points, text(value)?))
+    Ok(scope.point_number(text(value)?))
 }
 
-fn read_invalidate(alloc: Global, points: &Names, args: &[Value]) -> Result<Event, ReadFault>
-    ensures value { Gives (λ x. x) result (invalidate_from points.now (map view args.now)) }
+fn read_invalidate(alloc: Global, scope: &Scope, args: &[Value]) -> Result<Event, ReadFault>
+    ensures value { Gives (λ x. x) result (invalidate_from scope.now.points (map view args.now)) }
 {
     let [names] = args else {
         return Err(ReadFault::BadShape);
     };
-    let points = each(alloc, list(names)?, |name| read_named_point(points, name))?;
+    let points = each(alloc, list(names)?, |name| read_named_point(scope, name))?;
     Ok(Event::Invalidate { points })
 }
 
 /// What stands behind the word of an event.
 fn read_named(
     alloc: Global,
-    points: &Names,
+    scope: &Scope,
     site: &Site,
     word: &str,
     args: &[Value],
 ) -> Result<Event, ReadFault>
-    ensures value { Gives (λ x. x) result (event_named points.now site.now word.now (map view args.now)) }
+    ensures value { Gives (λ x. x) result (event_named scope.now site.now word.now (map view args.now)) }
 {
     match word {
         "call" => read_call(alloc, site, args),
-        "target" => read_target(alloc, points, site, args),
-        "invalidate" => read_invalidate(alloc, points, args),
+        "target" => read_target(alloc, scope, site, args),
+        "invalidate" => read_invalidate(alloc, scope, args),
         _ => Err(ReadFault::BadShape),
     }
 }
 
-fn read_event(alloc: Global, points: &Names, site: &Site, value: &Value) -> Result<Event, ReadFault>
-    ensures value { Gives (λ x. x) result (event_of points.now site.now (view value.now)) }
+fn read_event(alloc: Global, scope: &Scope, site: &Site, value: &Value) -> Result<Event, ReadFault>
+    ensures value { Gives (λ x. x) result (event_of scope.now site.now (view value.now)) }
 {
     let [head, args @ ..] = list(value)? else {
         return Err(ReadFault::BadShape);
     };
-    read_named(alloc, points, site, text(head)?, args)
+    read_named(alloc, scope, site, text(head)?, args)
 }
 
 /// The events, the first fault of which is told with its event's number from 1.
 pub(crate) fn read_events(
     alloc: Global,
-    points: &Names,
+    scope: &Scope,
     site: &Site,
     values: &[Value],
 ) -> Result<Listing<Event>, Fault>
-    ensures value { GivesAt (λ x. x) result (events_of points.now site.now (map view values.now)) }
+    ensures value { GivesAt (λ x. x) result (events_of scope.now site.now (map view values.now)) }
 {
     let mut events = Vec::new(alloc);
     for (i, value) in values.iter().enumerate() {
         let at = i as u64 + 1;
-        let event = read_event(alloc, points, site, value).map_err(|cause| Fault {
+        let event = read_event(alloc, scope, site, value).map_err(|cause| Fault {
             kind: TextFault::from(cause),
             at,
         })?;

@@ -23,6 +23,8 @@ pub enum ReadFault {
     BadShape,
     /// A value does not stand for an int, a long, a boolean or a text.
     BadValue,
+    /// A shared tree that stands nowhere earlier.
+    UnknownShared,
     /// A constructor of trees refused.
     Tree(TreeFault),
     /// The definition is not lawful.
@@ -99,6 +101,8 @@ pub enum TextFault {
     BadShape,
     #[error("5 BadValue")]
     BadValue,
+    #[error("6 UnknownShared")]
+    UnknownShared,
     #[error("7 Tree {}", .0.number())]
     Tree(TreeFault),
     #[error("8 Definition {}", .0.number())]
@@ -121,6 +125,7 @@ impl From<ReadFault> for TextFault {
             ReadFault::NotJson => TextFault::NotJson,
             ReadFault::BadShape => TextFault::BadShape,
             ReadFault::BadValue => TextFault::BadValue,
+            ReadFault::UnknownShared => TextFault::UnknownShared,
             ReadFault::Tree(cause) => TextFault::Tree(cause),
             ReadFault::Definition(cause) => TextFault::Definition(cause),
             ReadFault::BadType(cause) => TextFault::BadType(cause),

@@ -8,7 +8,7 @@ use std::alloc::Global;
 use std::io::Read;
 
 /// The most bytes that an input may have.
-const LIMIT: usize = 1_048_576;
+pub(crate) const LIMIT: usize = 1_048_576;
 
 /// The input to its end, or up to the first byte past the limit.
 pub(crate) fn read_input<R: Read>(

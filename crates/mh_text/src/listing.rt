@@ -1,6 +1,7 @@
 //! Lists that contracts see as the list of its items.
-ghost use Rattle.std.specs.Prelude.{◌≡◌, List, length};
+ghost use Rattle.std.specs.Prelude.{◌≡◌, ◌∷◌, ◌++◌, [], List, length, OnOk, OnErr};
 
+use std::alloc::AllocFailed;
 use std::marker::Model;
 
 /// Values in order.
@@ -26,7 +27,7 @@ impl<T> Listing<T> {
     }
 
     /// The items, with no copy.
-    pub fn into_vec(self) -> Vec<T>
+    pub(crate) fn into_vec(self) -> Vec<T>
         ensures value { result.items ≡ self }
     {
         self.items
@@ -36,6 +37,14 @@ impl<T> Listing<T> {
         ensures value { result.now ≡ self.now }
     {
         self.items.as_slice()
+    }
+
+    /// Puts an item last.
+    pub fn push(&mut self, item: T) -> Result<(), AllocFailed<T>>
+        ensures value { OnOk result (self.new ≡ self.old ++ item ∷ []) }
+        ensures refused { OnErr result (self.new ≡ self.old) }
+    {
+        self.items.push(item)
     }
 
     pub fn len(&self) -> usize

@@ -11,7 +11,7 @@ use crate::event::Event;
 use crate::listing::Listing;
 use crate::reply::{Refusal, Reply};
 use mh_eval::{Stack, eval, fits};
-use mh_tree::Handle;
+use mh_tree::{Declared, Handle};
 use mh_type::Value;
 use std::alloc::{AllocError, Global};
 use std::marker::Model;
@@ -25,7 +25,7 @@ pub struct Machine {
     definition: Definition,
     workers: u32,
     events: Vec<Event>,
-    base: Handle,
+    base: Declared,
     valid: Vec<bool>,
     stack: Stack,
 }
@@ -90,7 +90,7 @@ impl Machine {
                 site,
                 arguments,
             } => self.test_call(*worker, *site, arguments),
-            Event::Target { site, tree } => self.test_target(*site, tree),
+            Event::Target { site, tree } => self.test_target(*site, tree.handle()),
             Event::Invalidate { points } => self.test_points(points),
         }
     }
@@ -188,7 +188,7 @@ impl Machine {
         let evaluated = eval(
             &mut self.stack,
             self.valid.as_slice(),
-            &self.base,
+            self.base.handle(),
             arguments.as_slice(),
         );
         let Ok((outcome, steps)) = evaluated else {
@@ -203,7 +203,7 @@ impl Machine {
         Ok(Reply::Called { outcome, steps })
     }
 
-    fn accept_target(&mut self, site: usize, tree: Handle) -> Result<Reply, AllocError>
+    fn accept_target(&mut self, site: usize, tree: Declared) -> Result<Reply, AllocError>
         requires passes { Passes (tests self.old (Target site tree)) }
         ensures reply { IfOk result (λ reply. reply ≡ answer self.old (Target site tree)) }
         ensures taken { OnOk result (self.new ≡ accepted self.old (Target site tree)) }

@@ -1,5 +1,7 @@
 //! Names, and the numbers that they have by the order of their first appearance.
 ghost use Rattle.std.specs.Prelude.{◌≡◌, [], IfOk, OnOk, OnErr};
+ghost use Rattle.std.specs.List.{list_any};
+ghost use Rattle.std.specs.Str.{bytes_eq};
 ghost use Rattle.mh_text.specs.Names.{place_of, with_name};
 
 use indexmap::IndexSet;
@@ -69,6 +71,13 @@ impl Names {
         let name = String::from_str(self.alloc, name)?;
         self.set.insert_full(name)?;
         Ok(())
+    }
+
+    /// Whether the name is among them.
+    pub fn contains(&self, name: &str) -> bool
+        ensures value { result ≡ list_any (bytes_eq name.now) self.now }
+    {
+        self.set.contains(name)
     }
 
     /// The number of a name, or one past the last.

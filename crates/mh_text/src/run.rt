@@ -1,48 +1,23 @@
 //! Bytes in, lines out.
 ghost use Rattle.std.specs.Prelude.{◌≡◌, Ok, IfOk, IfErr, OnOk, IfSome, MatchResult};
-ghost use Rattle.serde_json.specs.View.{view};
 ghost use Rattle.std.specs.Io.KnownBytes.{Appends};
 ghost use Rattle.mh_text.specs.declared.script.Script.{Script};
 ghost use Rattle.mh_text.specs.declared.reply.Reply.{Reply};
 ghost use Rattle.mh_text.specs.Bytes.{AppendsFront};
 ghost use Rattle.mh_text.specs.Lines.{line_of};
 ghost use Rattle.mh_text.specs.Legal.{Step};
-ghost use Rattle.mh_text.specs.Gives.{Gives, GivesAt};
-ghost use Rattle.mh_text.specs.Output.{json_in, script_in, script_of_input, first, AppendsRun, EndsIn, EndsEarly, IsUnread, Failed, IsEnd};
+ghost use Rattle.mh_text.specs.Output.{script_of_input, first, AppendsRun, EndsIn, EndsEarly, IsUnread, Failed, IsEnd};
 
 use crate::event::Event;
-use crate::fault::{Fault, ReadFault, TextFault};
+use crate::fault::{Fault, TextFault};
 use crate::input::read_input;
 use crate::lines::line;
 use crate::machine::Machine;
 use crate::reply::Reply;
 use crate::script::{Script, read_script};
 use crate::watched::Watched;
-use serde_json::Value;
 use std::alloc::Global;
 use std::io::{Read, Write};
-
-/// The JSON value of an input.
-fn parse(alloc: Global, input: &[u8]) -> Result<Value, ReadFault>
-    ensures value { Gives view result (json_in input.now) }
-{
-    match Value::from_slice(alloc, input) {
-        Ok(value) => Ok(value),
-        Err(error) => {
-            if error.is_memory() {
-                return Err(ReadFault::NoMemory);
-            }
-            Err(ReadFault::NotJson)
-        }
-    }
-}
-
-/// The script of an input within the limit.
-fn script(alloc: Global, input: &[u8]) -> Result<Script, Fault>
-    ensures value { GivesAt (λ x. x) result (script_in input.now) }
-{
-    read_script(alloc, &parse(alloc, input)?)
-}
 
 /// The line of a reply to the event of this number.
 fn write_line<W: Write>(
@@ -112,7 +87,7 @@ fn read_whole<R: Read>(alloc: Global, reader: &mut Watched<R>) -> Result<Script,
     ensures failed { IfErr result (IsUnread (R.remaining reader.old.inner) reader.new.failed) }
 {
     let input = read_input(alloc, reader)?;
-    script(alloc, &input)
+    read_script(alloc, &input)
 }
 
 /// Runs a script, and writes the line of each reply.

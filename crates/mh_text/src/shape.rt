@@ -1,5 +1,5 @@
 //! The parts of a JSON value, each with the fault that is told where it is not of its form.
-ghost use Rattle.std.specs.Prelude.{◌≡◌, map, Result};
+ghost use Rattle.std.specs.Prelude.{◌≡◌, ◌^◌, ◌-◌, map, Result};
 ghost use Rattle.std.specs.Fn.{FnReturnsAt};
 ghost use Rattle.serde_json.specs.Data.{Data};
 ghost use Rattle.serde_json.specs.declared.value.Value.{Value};
@@ -49,6 +49,13 @@ pub(crate) fn count(value: &Value, bound: u64) -> Result<u64, ReadFault>
         Some(number) if number <= bound => Ok(number),
         _ => Err(ReadFault::BadShape),
     }
+}
+
+/// A place in a list: 0 to 2^63 - 1.
+pub(crate) fn place(value: &Value) -> Result<usize, ReadFault>
+    ensures value { Gives (λ x. x) result (count_of (2 ^ 63 - 1) (view value.now)) }
+{
+    Ok(count(value, MOST)? as usize)
 }
 
 /// What each item of a list is read as, up to the first fault.

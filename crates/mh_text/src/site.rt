@@ -6,19 +6,21 @@ ghost use Rattle.mh_text.specs.Script.{site_of, only_site_of, site_place, parame
 
 use crate::definition::Site;
 use crate::fault::ReadFault;
-use crate::names::{Name, Names};
+use crate::names::Name;
+use crate::scope::Scope;
 use crate::shape::{list, member, text};
-use crate::trees::read_tree;
-use mh_type::{Kind, MethodType};
+use crate::trees::read_declared;
+use crate::values::read_type;
+use mh_type::Kind;
 use serde_json::Value;
 use std::alloc::Global;
 
-fn read_one(alloc: Global, points: &Names, value: &Value) -> Result<Site, ReadFault>
-    ensures value { Gives (λ x. x) result (site_of points.now (view value.now)) }
+fn read_one(alloc: Global, scope: &Scope, value: &Value) -> Result<Site, ReadFault>
+    ensures value { Gives (λ x. x) result (site_of scope.now (view value.now)) }
 {
     let name = Name::new(alloc, text(member(value, "name")?)?)?;
-    let method_type = MethodType::parse(text(member(value, "type")?)?)?;
-    let target = read_tree(alloc, points, member(value, "target")?)?;
+    let method_type = read_type(member(value, "type")?)?;
+    let target = read_declared(alloc, scope, member(value, "target")?)?;
     Ok(Site {
         name,
         method_type,
@@ -29,15 +31,15 @@ fn read_one(alloc: Global, points: &Names, value: &Value) -> Result<Site, ReadFa
 /// The one site of a definition: its name, its type and its target.
 pub(crate) fn read_site(
     alloc: Global,
-    points: &Names,
+    scope: &Scope,
     definition: &Value,
 ) -> Result<Site, ReadFault>
-    ensures value { Gives (λ x. x) result (only_site_of points.now (view definition.now)) }
+    ensures value { Gives (λ x. x) result (only_site_of scope.now (view definition.now)) }
 {
     let [site] = list(member(definition, "sites")?)? else {
         return Err(ReadFault::BadShape);
     };
-    read_one(alloc, points, site)
+    read_one(alloc, scope, site)
 }
 
 /// The number of the site that is named: 0, or 1 where no site has the name.

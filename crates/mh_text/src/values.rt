@@ -1,13 +1,13 @@
-//! Kinds, operations and values in JSON.
+//! Kinds, types, operations and values in JSON.
 ghost use Rattle.std.specs.Prelude.{◌≡◌, map, Some, None, slice_get, if◌then◌else◌};
 ghost use Rattle.serde_json.specs.View.{view};
 ghost use Rattle.mh_text.specs.Gives.{Gives};
-ghost use Rattle.mh_text.specs.Values.{kind_of, op_of, long_of, is_int, text_value, value_of_kind, value_by_form, value_for, values_for};
+ghost use Rattle.mh_text.specs.Values.{kind_of, type_of, op_of, long_of, is_int, text_value, value_of_kind, value_by_form, value_for, values_for};
 
 use crate::fault::ReadFault;
 use crate::listing::Listing;
 use crate::shape::text;
-use mh_type::{Kind, Op, Text, TypeFault, Value};
+use mh_type::{Kind, MethodType, Op, Text, TypeFault, Value};
 use serde_json::Value as Json;
 use std::alloc::Global;
 
@@ -16,6 +16,13 @@ pub(crate) fn read_kind(value: &Json) -> Result<Kind, ReadFault>
     ensures value { Gives (λ x. x) result (kind_of (view value.now)) }
 {
     Kind::from_name(text(value)?).ok_or(ReadFault::BadShape)
+}
+
+/// The method type of a text.
+pub(crate) fn read_type(value: &Json) -> Result<MethodType, ReadFault>
+    ensures value { Gives (λ x. x) result (type_of (view value.now)) }
+{
+    Ok(MethodType::parse(text(value)?)?)
 }
 
 /// The operation of a name.

@@ -189,6 +189,72 @@ fn calls_of_sites(rt: HostRuntime) -> Result<(), Fail> {
             "[[\"call\",0,\"f\",[]]]",
             "long -5\n",
         ),
+        (
+            "(int)int",
+            "[\"fold\",[\"op\",\"iadd\"],[\"op\",\"ineg\"]]",
+            "[[\"call\",0,\"f\",[-2147483648]],[\"call\",0,\"f\",[7]]]",
+            "int 0\nint 0\n",
+        ),
+        (
+            "(int)int",
+            "[\"permute\",[\"op\",\"imul\"],\"(int)int\",[0,0]]",
+            "[[\"call\",0,\"f\",[65536]],[\"call\",0,\"f\",[-3]]]",
+            "int 0\nint 9\n",
+        ),
+        (
+            "(String,int,int)int",
+            "[\"permute\",[\"op\",\"isub\"],\"(String,int,int)int\",[2,1]]",
+            "[[\"call\",0,\"f\",[\"x\",1,5]]]",
+            "int 4\n",
+        ),
+        (
+            "(int,int)int",
+            "[\"filter\",[\"op\",\"iadd\"],0,[[\"insert\",[\"op\",\"idiv\"],0,[10]],[\"insert\",[\"op\",\"idiv\"],0,[7]]]]",
+            "[[\"call\",0,\"f\",[0,0]],[\"call\",0,\"f\",[5,2]]]",
+            "thrown ArithmeticException\nint 5\n",
+        ),
+        (
+            "(int,int)int",
+            "[\"filter\",[\"op\",\"isub\"],0,[null,[\"op\",\"ineg\"]]]",
+            "[[\"call\",0,\"f\",[5,2]]]",
+            "int 7\n",
+        ),
+        (
+            "(int)int",
+            "[\"filter\",[\"op\",\"ineg\"],1,[]]",
+            "[[\"call\",0,\"f\",[5]]]",
+            "int -5\n",
+        ),
+        (
+            "(String,String)int",
+            "[\"return\",[\"op\",\"concat\"],[\"op\",\"len\"]]",
+            "[[\"call\",0,\"f\",[\"ab\",\"c\"]]]",
+            "int 3\n",
+        ),
+        (
+            "(long)long",
+            "[\"return\",[\"op\",\"l2i\"],[\"op\",\"i2l\"]]",
+            "[[\"call\",0,\"f\",[2147483648]],[\"call\",0,\"f\",[4294967301]],[\"call\",0,\"f\",[-1]]]",
+            "long -2147483648\nlong 5\nlong -1\n",
+        ),
+        (
+            "(int,int)int",
+            "[\"op\",\"idiv\"]",
+            "[[\"call\",0,\"f\",[-2147483648,-1]],[\"call\",0,\"f\",[-7,2]]]",
+            "int -2147483648\nint -3\n",
+        ),
+        (
+            "(long,long)long",
+            "[\"op\",\"ldiv\"]",
+            "[[\"call\",0,\"f\",[-9223372036854775808,-1]],[\"call\",0,\"f\",[9223372036854775807,0]]]",
+            "long -9223372036854775808\nthrown ArithmeticException\n",
+        ),
+        (
+            "(int)int",
+            "[\"guard\",[\"return\",[\"insert\",[\"op\",\"idiv\"],0,[10]],[\"insert\",[\"op\",\"ieq\"],1,[0]]],[\"op\",\"ineg\"],[\"id\",\"int\"]]",
+            "[[\"call\",0,\"f\",[0]],[\"call\",0,\"f\",[20]],[\"call\",0,\"f\",[5]]]",
+            "thrown ArithmeticException\nint -20\nint 5\n",
+        ),
     ];
     for (method_type, target, events, lines) in cases {
         let site = site(rt.alloc(), method_type, target)?;
@@ -267,6 +333,86 @@ fn faults_in_targets(rt: HostRuntime) -> Result<(), Fail> {
             "8 Definition 13",
         ),
         ("[\"op\",\"iadd\"]", "8 Definition 15"),
+        ("[\"ref\",\"nowhere\"]", "6 UnknownShared"),
+        ("[\"ref\",\"not a name\"]", "6 UnknownShared"),
+        ("[\"ref\",1]", "4 BadShape"),
+        ("[\"ref\"]", "4 BadShape"),
+        (
+            "[\"drop\",[\"id\",\"int\"],0,[\"int\",\"int\",\"int\",\"int\",\"int\",\"int\",\"int\",\"int\",\"int\",\"int\",\"int\",\"int\",\"int\",\"int\",\"int\",\"int\"]]",
+            "7 Tree 7",
+        ),
+        (
+            "[\"drop\",[\"op\",\"ineg\"],9223372036854775807,[]]",
+            "7 Tree 2",
+        ),
+        (
+            "[\"permute\",[\"op\",\"ineg\"],\"(int,int,int,int,int,int,int,int,int,int,int,int,int,int,int,int,int)int\",[0]]",
+            "12 BadType 2",
+        ),
+        (
+            "[\"permute\",[\"op\",\"ineg\"],\"(int)\",null]",
+            "12 BadType 3",
+        ),
+        ("[\"permute\",[\"op\",\"ineg\"],1,[0]]", "4 BadShape"),
+        (
+            "[\"permute\",[\"op\",\"ineg\"],\"(int)int\",0]",
+            "4 BadShape",
+        ),
+        (
+            "[\"permute\",[\"op\",\"ineg\"],\"(int)int\",[-1]]",
+            "4 BadShape",
+        ),
+        (
+            "[\"permute\",[\"op\",\"ineg\"],\"(int)int\",[]]",
+            "7 Tree 6",
+        ),
+        (
+            "[\"permute\",[\"op\",\"ineg\"],\"(int)int\",[9223372036854775807]]",
+            "7 Tree 6",
+        ),
+        (
+            "[\"permute\",[\"op\",\"ineg\"],\"(long)int\",[0]]",
+            "7 Tree 3",
+        ),
+        (
+            "[\"filter\",[\"op\",\"ineg\"],0,[[\"op\",\"iadd\"]]]",
+            "7 Tree 4",
+        ),
+        (
+            "[\"filter\",[\"op\",\"ineg\"],0,[[\"op\",\"lneg\"]]]",
+            "7 Tree 3",
+        ),
+        (
+            "[\"filter\",[\"op\",\"ineg\"],9223372036854775807,[null]]",
+            "7 Tree 2",
+        ),
+        (
+            "[\"filter\",[\"op\",\"ineg\"],0,[null,false]]",
+            "4 BadShape",
+        ),
+        ("[\"filter\",[\"op\",\"ineg\"],0,null]", "4 BadShape"),
+        (
+            "[\"filter\",[\"op\",\"ineg\"],-1,[[\"op\",\"neg\"]]]",
+            "4 BadShape",
+        ),
+        (
+            "[\"return\",[\"op\",\"ineg\"],[\"op\",\"iadd\"]]",
+            "7 Tree 4",
+        ),
+        (
+            "[\"return\",[\"op\",\"ineg\"],[\"op\",\"lneg\"]]",
+            "7 Tree 3",
+        ),
+        ("[\"return\",[\"op\",\"ineg\"]]", "4 BadShape"),
+        (
+            "[\"fold\",[\"const\",\"int\",1],[\"const\",\"int\",1]]",
+            "7 Tree 3",
+        ),
+        (
+            "[\"fold\",[\"op\",\"ineg\"],[\"op\",\"ineg\"]]",
+            "7 Tree 3",
+        ),
+        ("[\"fold\",[\"op\",\"ineg\"]]", "4 BadShape"),
     ];
     for (target, fault) in cases {
         let site = site(rt.alloc(), "(int)int", target)?;
@@ -278,6 +424,131 @@ fn faults_in_targets(rt: HostRuntime) -> Result<(), Fail> {
         assert_eq!(rt; ran.err.as_slice(), line.as_bytes(), "at {target}");
         assert!(rt; ran.out.is_empty(), "at {target}");
         assert_eq!(rt; ran.status, 1, "at {target}");
+    }
+    Ok(())
+}
+
+/// A script with these shared trees, and a site `f` of type `(int)int` with this target.
+fn with_shared(alloc: Global, shared: &str, target: &str) -> Result<String, Fail> {
+    Ok(format!(in alloc;
+        "{{\"definition\":{{\"version\":1,\"points\":[],\"shared\":{shared},\"sites\":[{{\"name\":\"f\",\"type\":\"(int)int\",\"target\":{target}}}]}},\"workers\":1,\"events\":[[\"call\",0,\"f\",[1]]]}}"
+    )?)
+}
+
+#[test]
+fn shared_trees(rt: HostRuntime) -> Result<(), Fail> {
+    let cases = [
+        ("[]", "[\"op\",\"ineg\"]", "int -1\n"),
+        (
+            "[[\"g\",[\"op\",\"ineg\"]]]",
+            "[\"ref\",\"g\"]",
+            "int -1\n",
+        ),
+        (
+            "[[\"g\",[\"op\",\"iadd\"]],[\"h\",[\"fold\",[\"ref\",\"g\"],[\"op\",\"ineg\"]]],[\"i\",[\"insert\",[\"ref\",\"g\"],0,[20]]]]",
+            "[\"return\",[\"ref\",\"h\"],[\"ref\",\"i\"]]",
+            "int 20\n",
+        ),
+        (
+            "[[\"unused\",[\"point\",\"z\",[\"op\",\"ineg\"],[\"op\",\"ineg\"]]]]",
+            "[\"op\",\"ineg\"]",
+            "int -1\n",
+        ),
+    ];
+    for (shared, target, lines) in cases {
+        let ran = run_script(rt.alloc(), with_shared(rt.alloc(), shared, target)?.as_str());
+        assert_eq!(rt; ran.out.as_slice(), lines.as_bytes(), "at {shared}");
+        assert!(rt; ran.err.is_empty(), "at {shared}");
+        assert_eq!(rt; ran.status, 0, "at {shared}");
+    }
+    Ok(())
+}
+
+#[test]
+fn faults_in_shared_trees(rt: HostRuntime) -> Result<(), Fail> {
+    let cases = [
+        ("null", "4 BadShape"),
+        ("{}", "4 BadShape"),
+        ("[null]", "4 BadShape"),
+        ("[[]]", "4 BadShape"),
+        ("[[\"g\"]]", "4 BadShape"),
+        ("[[\"g\",[\"op\",\"ineg\"],1]]", "4 BadShape"),
+        ("[[1,[\"op\",\"idiv\"]]]", "4 BadShape"),
+        ("[[\"1\",[\"ref\",\"nowhere\"]]]", "4 BadShape"),
+        (
+            "[[\"g\",[\"op\",\"ineg\"]],[\"g\",[\"ref\",\"nowhere\"]]]",
+            "4 BadShape",
+        ),
+        ("[[\"g\",[\"ref\",\"g\"]]]", "6 UnknownShared"),
+        (
+            "[[\"h\",[\"ref\",\"g\"]],[\"g\",[\"op\",\"ineg\"]]]",
+            "6 UnknownShared",
+        ),
+        (
+            "[[\"g\",[\"return\",[\"op\",\"ineg\"],[\"op\",\"iadd\"]]]]",
+            "7 Tree 4",
+        ),
+        ("[[\"g\",[\"const\",\"int\",null]]]", "5 BadValue"),
+    ];
+    for (shared, fault) in cases {
+        let input = with_shared(rt.alloc(), shared, "null")?;
+        let ran = run_script(rt.alloc(), input.as_str());
+        let line = format!(in rt.alloc(); "fault {fault} at 0\n")?;
+        assert_eq!(rt; ran.err.as_slice(), line.as_bytes(), "at {shared}");
+        assert!(rt; ran.out.is_empty(), "at {shared}");
+        assert_eq!(rt; ran.status, 1, "at {shared}");
+    }
+    Ok(())
+}
+
+/// Negations behind one another: a tree of this depth.
+fn nested(alloc: Global, depth: usize) -> Result<String, Fail> {
+    let mut tree = String::from_str(alloc, "[\"op\",\"ineg\"]")?;
+    for _ in 1..depth {
+        tree = format!(in alloc; "[\"return\",{tree},[\"op\",\"ineg\"]]")?;
+    }
+    Ok(tree)
+}
+
+/// Shared trees `s1`, .. of which each but the first is the one before it, twice: sizes 1, 3, 7 and so on.
+fn doubled(alloc: Global, count: usize) -> Result<String, Fail> {
+    let mut shared = String::from_str(alloc, "[[\"s1\",[\"op\",\"ineg\"]]")?;
+    for k in 1..count {
+        let next = k + 1;
+        shared = format!(in alloc; "{shared},[\"s{next}\",[\"return\",[\"ref\",\"s{k}\"],[\"ref\",\"s{k}\"]]]")?;
+    }
+    shared.push(']')?;
+    Ok(shared)
+}
+
+#[test]
+fn the_deepest_target(rt: HostRuntime) -> Result<(), Fail> {
+    for (depth, lines, fault) in [
+        (64, "int 1\n", ""),
+        (65, "", "fault 7 Tree 8 at 0\n"),
+    ] {
+        let target = nested(rt.alloc(), depth)?;
+        let input = with_shared(rt.alloc(), "[]", target.as_str())?;
+        let ran = run_script(rt.alloc(), input.as_str());
+        assert_eq!(rt; ran.out.as_slice(), lines.as_bytes(), "at {depth}");
+        assert_eq!(rt; ran.err.as_slice(), fault.as_bytes(), "at {depth}");
+    }
+    Ok(())
+}
+
+#[test]
+fn the_largest_trees(rt: HostRuntime) -> Result<(), Fail> {
+    for (count, target, lines, fault) in [
+        (12, "[\"ref\",\"s12\"]", "int 1\n", ""),
+        (13, "[\"ref\",\"s13\"]", "", "fault 7 Tree 9 at 0\n"),
+        (18, "[\"ref\",\"s1\"]", "int -1\n", ""),
+        (19, "[\"ref\",\"s1\"]", "", "fault 7 Tree 9 at 0\n"),
+    ] {
+        let shared = doubled(rt.alloc(), count)?;
+        let input = with_shared(rt.alloc(), shared.as_str(), target)?;
+        let ran = run_script(rt.alloc(), input.as_str());
+        assert_eq!(rt; ran.out.as_slice(), lines.as_bytes(), "at {count}");
+        assert_eq!(rt; ran.err.as_slice(), fault.as_bytes(), "at {count}");
     }
     Ok(())
 }

@@ -1,45 +1,27 @@
-use Rattle.std.proofs.Common.{inr, map, take, drop, length, ◌-◌}
-use Rattle.mh_text.specs.Trees.{part}
-use Rattle.mh_text.proofs.Forms.{form_at, form_unknown}
+use Rattle.std.proofs.Common.{sym, ◌∙◌, ap}
+use Rattle.std.proofs.lemmas.Result.{err_from_is_err_and}
+use Rattle.serde_json.specs.View.{view}
+use Rattle.mh_text.specs.Trees.{filter_of, filters_of}
+use Rattle.mh_text.proofs.Forms.{form_at, filters_of_array}
+use Rattle.mh_text.proofs.Loop.{one_more, stops_or, is_done}
 use Rattle.mh_text.proofs.trees.+tree.Goals as goal
 
-pub read_tree-returns-in-const : goal.read_tree-returns-in-const
-read_tree-returns-in-const t c =
-    let e = form_at c.args.points.now c.in-Array.items c.as_slice.result.now c.head-item.result c.in_ok-text.field-0.now c.as_slice.ensures.value c.in-len1-up.len_at_least c.head-item.is c.in_ok-text.ensures.value in
-    record { value = rw (c.in-Array.is, e, c.in-const.is) c.read_leaf_constant.ensures.value }
+pub read_filters-loop-item-init : goal.read_filters-loop-item-init
+read_filters-loop-item-init t c =
+    rw (c.in-Array.is, c.new-filters.ensures.items) (filters_of_array c.args.scope.now c.in-Array.items c.as_slice-item-items.result.now c.as_slice-item-items.ensures.value)
 
-pub read_tree-returns-in-id : goal.read_tree-returns-in-id
-read_tree-returns-in-id t c =
-    let e = form_at c.args.points.now c.in-Array.items c.as_slice.result.now c.head-item.result c.in_ok-text.field-0.now c.as_slice.ensures.value c.in-len1-up.len_at_least c.head-item.is c.in_ok-text.ensures.value in
-    record { value = rw (c.in-Array.is, e, c.in-id.is) c.read_identity.ensures.value }
+pub read_filters-returns-in_err-read_filter_or_none : goal.read_filters-returns-in_err-read_filter_or_none
+read_filters-returns-in_err-read_filter_or_none t c =
+    let p = err_from_is_err_and c.from_residual.result c.from_residual.ensures.1 in
+    record {
+      value = rw (p.1, p.2) (stops_or (λ _ d. filter_of c.args.scope.now d) c.loop-item.filters.items c.as_slice-item-items.result.now c.loop-item.item-index c.loop-item.item-index c.item-item.result c.in_err-read_filter_or_none.field-0.0 _ c.loop-item-test.true c.item-item.is c.in_err-read_filter_or_none.ensures.value c.loop-item.invariant);
+    }
 
-pub read_tree-returns-in-op : goal.read_tree-returns-in-op
-read_tree-returns-in-op t c =
-    let e = form_at c.args.points.now c.in-Array.items c.as_slice.result.now c.head-item.result c.in_ok-text.field-0.now c.as_slice.ensures.value c.in-len1-up.len_at_least c.head-item.is c.in_ok-text.ensures.value in
-    record { value = rw (c.in-Array.is, e, c.in-op.is) c.read_operation.ensures.value }
+pub read_filters-loop-item-preserved : goal.read_filters-loop-item-preserved
+read_filters-loop-item-preserved t c =
+    rw c.in_ok-push.ensures.items (one_more (λ _ d. filter_of c.args.scope.now d) c.loop-item.filters.items c.as_slice-item-items.result.now c.loop-item.item-index c.loop-item.item-index c.item-item.result c.in_ok-read_filter_or_none.field-0 _ c.loop-item-test.true c.item-item.is c.in_ok-read_filter_or_none.ensures.value c.loop-item.invariant)
 
-pub read_tree-returns-in-insert : goal.read_tree-returns-in-insert
-read_tree-returns-in-insert t c =
-    let e = form_at c.args.points.now c.in-Array.items c.as_slice.result.now c.head-item.result c.in_ok-text.field-0.now c.as_slice.ensures.value c.in-len1-up.len_at_least c.head-item.is c.in_ok-text.ensures.value in
-    record { value = rw (c.in-Array.is, e, c.in-insert.is) c.read_insert.ensures.value }
-
-pub read_tree-returns-in-drop : goal.read_tree-returns-in-drop
-read_tree-returns-in-drop t c =
-    let e = form_at c.args.points.now c.in-Array.items c.as_slice.result.now c.head-item.result c.in_ok-text.field-0.now c.as_slice.ensures.value c.in-len1-up.len_at_least c.head-item.is c.in_ok-text.ensures.value in
-    record { value = rw (c.in-Array.is, e, c.in-drop.is) c.read_drop.ensures.value }
-
-pub read_tree-returns-in-guard : goal.read_tree-returns-in-guard
-read_tree-returns-in-guard t c =
-    let e = form_at c.args.points.now c.in-Array.items c.as_slice.result.now c.head-item.result c.in_ok-text.field-0.now c.as_slice.ensures.value c.in-len1-up.len_at_least c.head-item.is c.in_ok-text.ensures.value in
-    record { value = rw (c.in-Array.is, e, c.in-guard.is) c.read_guard.ensures.value }
-
-pub read_tree-returns-in-point : goal.read_tree-returns-in-point
-read_tree-returns-in-point t c =
-    let e = form_at c.args.points.now c.in-Array.items c.as_slice.result.now c.head-item.result c.in_ok-text.field-0.now c.as_slice.ensures.value c.in-len1-up.len_at_least c.head-item.is c.in_ok-text.ensures.value in
-    record { value = rw (c.in-Array.is, e, c.in-point.is) c.read_branches.ensures.value }
-
-pub read_tree-returns-in_default-2 : goal.read_tree-returns-in_default-2
-read_tree-returns-in_default-2 t c =
-    let e = form_at c.args.points.now c.in-Array.items c.as_slice.result.now c.head-item.result c.in_ok-text.field-0.now c.as_slice.ensures.value c.in-len1-up.len_at_least c.head-item.is c.in_ok-text.ensures.value in
-    let n = c.in_default-2 in
-    record { value = inr (rw (c.in-Array.is, e) (form_unknown c.args.points.now c.in_ok-text.field-0.now (map (part c.args.points.now) (take (length c.as_slice.result.now - 1) (drop 1 c.as_slice.result.now))) n.not-const n.not-id n.not-op n.not-insert n.not-drop n.not-guard n.not-point)) }
+pub read_tree-returns : goal.read_tree-returns
+read_tree-returns t c =
+    let e = form_at c.args.scope.now c.in-Array.items c.as_slice.result.now c.head-item.result c.in_ok-text.field-0.now c.as_slice.ensures.value c.in-len1-up.len_at_least c.head-item.is c.in_ok-text.ensures.value in
+    record { value = rw (c.in-Array.is, e) c.read_form.ensures.value }

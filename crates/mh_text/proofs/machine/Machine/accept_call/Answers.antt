@@ -1,6 +1,8 @@
 use Rattle.std.proofs.Common.{◌≡◌, ◌<◌, ◌++◌, ◌∷◌, [], List, Bool, length, ap, sym, subst, ◌∙◌, arith, length-append}
 use Rattle.mh_text.specs.declared.event.Event.{Event}
 use Rattle.mh_text.specs.declared.event.Event.TheVariants.{Call}
+use Rattle.mh_tree.specs.Handle.{TypedTree}
+use Rattle.mh_tree.specs.Limits.{point_bound}
 use Rattle.mh_text.specs.Histories.{newest}
 use Rattle.mh_text.specs.Legal.{MachineState, tests}
 use Rattle.mh_text.specs.Tests.{Passes}
@@ -11,7 +13,7 @@ pub eval-evaluated-requires-clause-known : goal.eval-evaluated-requires-clause-k
 eval-evaluated-requires-clause-known c =
     let count = length-valid_points c.self.inside.definition (newest c.self.inside.events.items) in
     let bits = ap (λ (v : List Bool). length v) (c.as_slice.ensures.value ∙ c.self.invariant.valid) in
-    omega (arith, c.self.invariant.known)
+    omega (arith, c.self.invariant.known, ap (λ (t : TypedTree). point_bound t.tree) c.handle.ensures.value)
 
 pub invariant_of-self-2 : goal.invariant_of-self-2
 invariant_of-self-2 c =

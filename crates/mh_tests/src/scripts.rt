@@ -1,0 +1,120 @@
+//! Scripts and definitions as values.
+use mh_text::{
+    Definition, DefinitionFault, Event, Fault, Listing, Name, Point, Script, Site, TextFault,
+    read_script,
+};
+use mh_tree::{Declared, Handle};
+use mh_type::{Kind, MethodType, Op, Value};
+use std::alloc::Global;
+use std::test::Fail;
+
+/// Two points, a shared tree, and a site that uses it.
+const SCRIPT: &str =
+    "{\"definition\":{\"version\":1,\"points\":[{\"name\":\"a\",\"cost\":5},{\"name\":\"b\",\"cost\":7}],\"shared\":[[\"g\",[\"op\",\"ineg\"]]],\"sites\":[{\"name\":\"f\",\"type\":\"(int)int\",\"target\":[\"point\",\"b\",[\"ref\",\"g\"],[\"ref\",\"g\"]]}]},\"workers\":2,\"events\":[[\"call\",1,\"f\",[7]],[\"target\",\"h\",[\"ref\",\"g\"]],[\"invalidate\",[\"b\",\"c\"]]]}";
+
+/// A script that is read.
+fn read(alloc: Global, input: &str) -> Result<Script, Fail> {
+    match read_script(alloc, input.as_bytes()) {
+        Ok(script) => Ok(script),
+        Err(_) => Err(Fail::from("the script is not read")),
+    }
+}
+
+/// Why an input is not read.
+fn refused(alloc: Global, input: &str) -> Option<Fault> {
+    read_script(alloc, input.as_bytes()).err()
+}
+
+#[test]
+fn a_definition_is_read(rt: HostRuntime) -> Result<(), Fail> {
+    let script = read(rt.alloc(), SCRIPT)?;
+    let [a, b] = script.definition.points() else {
+        return Err(Fail::from("there are other points"));
+    };
+    assert_eq!(rt; a.name.as_str(), "a");
+    assert_eq!(rt; a.cost, 5);
+    assert_eq!(rt; b.name.as_str(), "b");
+    assert_eq!(rt; b.cost, 7);
+    let site = script.definition.site();
+    assert_eq!(rt; site.name.as_str(), "f");
+    assert_eq!(rt; site.method_type.ret(), Kind::Int);
+    assert_eq!(rt; site.method_type.parameters(), [Kind::Int].as_slice());
+    assert_eq!(rt; site.target.handle().size(), 3);
+    assert_eq!(rt; site.target.handle().point_bound(), 2);
+    assert_eq!(rt; script.workers, 2);
+    Ok(())
+}
+
+#[test]
+fn events_are_read(rt: HostRuntime) -> Result<(), Fail> {
+    let script = read(rt.alloc(), SCRIPT)?;
+    assert_eq!(rt; script.events.len(), 3);
+    let [
+        Event::Call {
+            worker,
+            site,
+            arguments,
+        },
+        Event::Target { site: other, tree },
+        Event::Invalidate { points },
+    ] = script.events.as_slice()
+    else {
+        return Err(Fail::from("there are other events"));
+    };
+    assert_eq!(rt; *worker, 1);
+    assert_eq!(rt; *site, 0);
+    assert!(rt; matches!(arguments.as_slice(), [Value::Int(7)]));
+    assert_eq!(rt; *other, 1);
+    assert_eq!(rt; tree.handle().size(), 1);
+    assert_eq!(rt; points.as_slice(), [1, 2].as_slice());
+    Ok(())
+}
+
+#[test]
+fn a_fault_has_its_place(rt: HostRuntime) -> Result<(), Fail> {
+    let none = Fault {
+        kind: TextFault::NotJson,
+        at: 0,
+    };
+    assert_eq!(rt; refused(rt.alloc(), "{"), Some(none));
+    let mut long = String::new(rt.alloc());
+    for _ in 0..1_048_577 {
+        long.push(' ')?;
+    }
+    let too_long = Fault {
+        kind: TextFault::TooLong,
+        at: 0,
+    };
+    assert_eq!(rt; refused(rt.alloc(), long.as_str()), Some(too_long));
+    Ok(())
+}
+
+/// So many points `p0`, `p1`, .. of cost 1.
+fn points(alloc: Global, count: usize) -> Result<Listing<Point>, Fail> {
+    let mut points = Listing::from_vec(Vec::new(alloc));
+    for k in 0..count {
+        let name = format!(in alloc; "p{k}")?;
+        let name = Name::new(alloc, name.as_str())?;
+        points.push(Point { name, cost: 1 })?;
+    }
+    Ok(points)
+}
+
+/// A site that negates.
+fn negation(alloc: Global) -> Result<Site, Fail> {
+    Ok(Site {
+        name: Name::new(alloc, "f")?,
+        method_type: MethodType::new(Kind::Int, &[Kind::Int])?,
+        target: Declared::new(&Handle::op(alloc, Op::Ineg)?)?,
+    })
+}
+
+#[test]
+fn points_have_a_limit(rt: HostRuntime) -> Result<(), Fail> {
+    let most = Definition::new(points(rt.alloc(), 1024)?, negation(rt.alloc())?);
+    assert!(rt; most.is_ok_and(|definition| definition.points().len() == 1024));
+    let more = Definition::new(points(rt.alloc(), 1025)?, negation(rt.alloc())?);
+    assert_eq!(rt; more.err(), Some(DefinitionFault::TooManyPoints));
+    assert_eq!(rt; DefinitionFault::TooManyPoints.number(), 2);
+    Ok(())
+}
