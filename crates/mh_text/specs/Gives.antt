@@ -4,7 +4,6 @@ use Rattle.mh_type.specs.declared.fault.TypeFault.{TypeFault}
 use Rattle.mh_type.specs.declared.fault.TypeFault.TheVariants as type_fault
 use Rattle.mh_tree.specs.declared.fault.TreeFault.{TreeFault}
 use Rattle.mh_tree.specs.declared.fault.TreeFault.TheVariants as tree_fault
-use Rattle.mh_text.specs.declared.definition.DefinitionFault.{DefinitionFault}
 use Rattle.mh_text.specs.declared.fault.ReadFault.{ReadFault}
 use Rattle.mh_text.specs.declared.fault.ReadFault.TheVariants.{NoMemory, TooLong, NotJson, BadShape, BadValue, UnknownShared, Tree, Definition, BadType}
 use Rattle.mh_text.specs.declared.fault.TextFault.{TextFault}

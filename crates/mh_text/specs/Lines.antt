@@ -1,12 +1,11 @@
 -- The text of lines.
-use Rattle.std.specs.Prelude.{ℕ, ℤ, true, false, Bool, List, [], ◌∷◌, ◌++◌, codes, if◌then◌else◌, ◌==◌, ◌||◌}
+use Rattle.std.specs.Prelude.{ℕ, true, false, List, [], ◌∷◌, ◌++◌, codes, if◌then◌else◌, ◌==◌, ◌||◌}
 use Rattle.std.specs.Fmt.{signed_decimal}
 use Rattle.std.specs.List.{flat_map}
 use Rattle.mh_type.specs.declared.value.Value as value
 use Rattle.mh_type.specs.declared.value.Value.TheVariants.{Int, Long, Boolean, Text}
 use Rattle.mh_type.specs.declared.outcome.Outcome.{Outcome}
 use Rattle.mh_type.specs.declared.outcome.Outcome.TheVariants.{Value, Thrown}
-use Rattle.mh_type.specs.declared.outcome.Throw.{Throw}
 use Rattle.mh_type.specs.declared.outcome.Throw.TheVariants.{ArithmeticException, TextTooLong}
 use Rattle.mh_text.specs.declared.reply.Reply.{Reply}
 use Rattle.mh_text.specs.declared.reply.Reply.TheVariants.{Called, Done, Refused}

@@ -29,11 +29,7 @@ fn read_one(alloc: Global, scope: &Scope, value: &Value) -> Result<Site, ReadFau
 }
 
 /// The one site of a definition: its name, its type and its target.
-pub(crate) fn read_site(
-    alloc: Global,
-    scope: &Scope,
-    definition: &Value,
-) -> Result<Site, ReadFault>
+pub(crate) fn read_site(alloc: Global, scope: &Scope, definition: &Value) -> Result<Site, ReadFault>
     ensures value { Gives (λ x. x) result (only_site_of scope.now (view definition.now)) }
 {
     let [site] = list(member(definition, "sites")?)? else {

@@ -161,12 +161,7 @@ fn read_branches(alloc: Global, scope: &Scope, args: &[Value]) -> Result<Handle,
 
 /// What a word heads.
 #[cycle(tree)]
-fn read_form(
-    alloc: Global,
-    scope: &Scope,
-    word: &str,
-    args: &[Value],
-) -> Result<Handle, ReadFault>
+fn read_form(alloc: Global, scope: &Scope, word: &str, args: &[Value]) -> Result<Handle, ReadFault>
     ensures value { Gives (λ x. x) result (form_named scope.now word.now (map (part scope.now) args.now)) }
 {
     match word {

@@ -1,9 +1,7 @@
-use Rattle.std.proofs.Common.{sym, ◌∙◌, ap}
 use Rattle.std.proofs.lemmas.Result.{err_from_is_err_and}
-use Rattle.serde_json.specs.View.{view}
-use Rattle.mh_text.specs.Trees.{filter_of, filters_of}
+use Rattle.mh_text.specs.Trees.{filter_of}
 use Rattle.mh_text.proofs.Forms.{form_at, filters_of_array}
-use Rattle.mh_text.proofs.Loop.{one_more, stops_or, is_done}
+use Rattle.mh_text.proofs.Loop.{one_more, stops_or}
 use Rattle.mh_text.proofs.trees.+tree.Goals as goal
 
 pub read_filters-loop-item-init : goal.read_filters-loop-item-init

@@ -1,4 +1,4 @@
-use Rattle.std.proofs.Common.{◌≡◌, ◌<◌, ◌++◌, ◌∷◌, [], List, Bool, length, ap, sym, subst, ◌∙◌, arith, length-append}
+use Rattle.std.proofs.Common.{◌≡◌, ◌++◌, ◌∷◌, [], List, Bool, length, ap, sym, subst, ◌∙◌, arith, length-append}
 use Rattle.mh_text.specs.declared.event.Event.{Event}
 use Rattle.mh_text.specs.declared.event.Event.TheVariants.{Call}
 use Rattle.mh_tree.specs.Handle.{TypedTree}

@@ -1,8 +1,7 @@
-use Rattle.std.proofs.Common.{◌≡◌, ◌<◌, ◌++◌, ◌∷◌, [], List, ℕ, Bool, false, length, fold, slice_set, ap, sym, subst, ◌∙◌, arith, length-append}
-use Rattle.std.specs.List.{All}
+use Rattle.std.proofs.Common.{◌≡◌, ◌++◌, ◌∷◌, [], List, ℕ, Bool, false, length, fold, slice_set, ap, sym, subst, ◌∙◌, arith, length-append}
 use Rattle.mh_text.specs.declared.event.Event.{Event}
 use Rattle.mh_text.specs.declared.event.Event.TheVariants.{Invalidate}
-use Rattle.mh_text.specs.Histories.{newest, base, valid_points}
+use Rattle.mh_text.specs.Histories.{newest}
 use Rattle.mh_text.specs.Legal.{MachineState, tests}
 use Rattle.mh_text.specs.Tests.{Passes}
 use Rattle.mh_text.proofs.MachineLemmas.{newest_push, length-newest, length-valid_points, valid_after}

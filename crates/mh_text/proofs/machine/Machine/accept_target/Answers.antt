@@ -1,4 +1,4 @@
-use Rattle.std.proofs.Common.{◌≡◌, ◌<◌, ◌≤◌, ◌++◌, ◌∷◌, [], List, length, ap, sym, subst, ◌∙◌, arith, length-append}
+use Rattle.std.proofs.Common.{◌≡◌, ◌++◌, ◌∷◌, [], List, length, ap, sym, subst, ◌∙◌, arith, length-append}
 use Rattle.mh_tree.specs.Handle.{TypedTree}
 use Rattle.mh_tree.specs.Limits.{point_bound}
 use Rattle.mh_text.specs.declared.event.Event.{Event}

@@ -1,10 +1,10 @@
-use Rattle.std.proofs.Common.{◌≡◌, ◌≤◌, ◌∷◌, [], List, Bool, true, length, refl, ap, sym, ◌∙◌, arith, replicate}
+use Rattle.std.proofs.Common.{◌≡◌, [], List, true, length, ap, ◌∙◌, arith, replicate}
 use Rattle.mh_tree.specs.Handle.{TypedTree}
 use Rattle.mh_tree.specs.Limits.{point_bound}
 use Rattle.mh_text.specs.declared.event.Event.{Event}
 use Rattle.mh_text.specs.declared.definition.Point.{Point}
 use Rattle.mh_text.specs.declared.definition.Site.{Site}
-use Rattle.mh_text.specs.Histories.{newest, base, valid_points}
+use Rattle.mh_text.specs.Histories.{newest}
 use Rattle.mh_text.proofs.Lawful.{lawful}
 use Rattle.mh_text.proofs.MachineLemmas.{all_valid}
 use Rattle.mh_text.proofs.machine.Machine.open.Goals as goal
