@@ -115,7 +115,7 @@ fn run<R: Read, W: Write, E: Write>(
 }
 
 /// The status of a command line that is answered with this kind.
-fn status_answered(kind: ErrorKind) -> u8
+fn status_of_kind(kind: ErrorKind) -> u8
     ensures value { result ≡ status_answered kind }
 {
     match kind {
@@ -133,7 +133,7 @@ fn tell<W: Write, E: Write>(alloc: Global, error: &Error, out: &mut W, err: &mut
     ensures known { result ≤ 4 }
     ensures unread { result ≢ 1 }
 {
-    let status = status_answered(error.kind());
+    let status = status_of_kind(error.kind());
     if error.kind() == ErrorKind::OutOfMemory {
         return status;
     }
