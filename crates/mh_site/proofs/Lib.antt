@@ -1,0 +1,4 @@
+pub mod Tests
+pub mod Sorting
+pub mod Mapped
+pub mod Lawful

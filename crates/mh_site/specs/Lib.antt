@@ -1,0 +1,6 @@
+pub mod Names
+pub mod Values
+pub mod Ascending
+pub mod Definitions
+pub mod Defined
+pub mod Lawful

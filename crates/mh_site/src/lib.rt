@@ -1,0 +1,24 @@
+//! What is declared, points with their costs and sites with their links, and the world that controls
+//! change: which points are valid, and the trees of each site.
+#![tactic(auto)]
+
+mod definition;
+mod fault;
+mod link;
+mod listing;
+mod name;
+mod order;
+mod point;
+mod point_tests;
+mod site;
+mod site_tests;
+mod values;
+
+pub use definition::Definition;
+pub use fault::DefinitionFault;
+pub use link::Link;
+pub use listing::Listing;
+pub use name::Name;
+pub use point::Point;
+pub use site::Site;
+pub use values::same_value;
