@@ -4,3 +4,7 @@ pub mod Ascending
 pub mod Definitions
 pub mod Defined
 pub mod Lawful
+pub mod Controls
+pub mod Worlds
+pub mod SiteStates
+pub mod LookBack

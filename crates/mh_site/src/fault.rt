@@ -1,9 +1,14 @@
-//! What a definition is refused.
+//! What the calls of this crate refuse.
 
 ghost use Rattle.std.specs.Prelude.{◌≡◌};
 ghost use Rattle.mh_site.specs.Definitions.{fault_number};
 
 use thiserror::Error;
+
+/// A growth was refused, or a further owner of a tree.
+#[derive(Clone, Copy, Debug, PartialEq, Eq, Error)]
+#[error("1 NoMemory")]
+pub struct NoMemory;
 
 /// Why points and sites make no definition. The tests 2 and 3 come first, then the points in order,
 /// then the sites in order; within a point or a site the tests stand in the order of their numbers,
