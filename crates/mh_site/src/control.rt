@@ -45,7 +45,8 @@ pub(crate) fn owner(handle: &Handle) -> Result<Handle, NoMemory>
     handle.share().map_err(|_| NoMemory)
 }
 
-/// Points that become invalid together, by their numbers (`SwitchPoint.invalidateAll`).
+/// Points that become invalid together, by their numbers (`SwitchPoint.invalidateAll`, Java SE 17).
+/// A point may stand twice, and may be invalid already.
 #[derive(Drop)]
 pub struct Points {
     points: Vec<u32>,
@@ -78,7 +79,8 @@ impl Points {
 /// What changes a world, with all the memory that the change takes.
 #[derive(Drop)]
 pub enum Control {
-    /// Gives a site another tree (`MutableCallSite.setTarget`). A site past the last is left out.
+    /// Gives a site another tree (`MutableCallSite.setTarget`, Java SE 17), and puts its linked tree
+    /// back to it. A site past the last is left out.
     Target(Retargeting),
     /// Invalidates points for good. A point past the last is left out.
     Invalidate(Points),

@@ -4,6 +4,8 @@
 
 mod control;
 mod definition;
+#[cfg(test)]
+mod examples;
 mod fault;
 mod laws;
 mod link;

@@ -3,8 +3,9 @@
 use crate::listing::Listing;
 use mh_type::Value;
 
-/// A case that an inline cache of a site may hold (Hölzle, Chambers, Ungar 1991): the calls whose
-/// argument at the key place is `when`.
+/// A case that the inline cache of a site may hold (Hölzle, Chambers and Ungar, Optimizing
+/// Dynamically-Typed Object-Oriented Languages With Polymorphic Inline Caches, 1991): the calls
+/// whose argument at the key place is `when`.
 #[derive(Drop)]
 pub struct Link {
     /// The key, of the kind of the key place. The keys of a site differ.
