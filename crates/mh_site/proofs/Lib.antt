@@ -1,0 +1,6 @@
+pub mod Tests
+pub mod Sorting
+pub mod Mapped
+pub mod Lawful
+pub mod Tables
+pub mod LookBack

@@ -1,0 +1,19 @@
+use Rattle.std.proofs.Common.{◌≡◌, List, None, map, ap, subst, sym, ◌∙◌}
+use Rattle.mh_site.specs.declared.point.Point.{Point}
+use Rattle.mh_site.specs.declared.site.Site.{Site}
+use Rattle.mh_site.specs.Definitions.{definition_fault, site_in_order}
+use Rattle.mh_site.specs.Lawful.{IsDefinition}
+use Rattle.mh_site.proofs.Lawful.{lawful}
+use Rattle.mh_site.proofs.definition.Definition.new.Goals as goal
+
+-- the parts that were tested are those that were given, and what is kept are the sites in order
+made : (ps tested : List Point) (ss others kept : List Site) → definition_fault tested others ≡ None → tested ≡ ps → others ≡ ss → kept ≡ map site_in_order ss
+    → IsDefinition record { points = ps; sites = kept }
+made ps tested ss others kept h same alike e =
+    let none : definition_fault ps ss ≡ None = sym (ap (λ xs. definition_fault xs ss) same) ∙ (sym (ap (λ xs. definition_fault tested xs) alike) ∙ h) in
+    subst (λ xs. IsDefinition record { points = ps; sites = xs }) (sym e) (lawful ps ss none)
+
+pub invariant_of-result : goal.invariant_of-result
+invariant_of-result c =
+    made c.args.points _ c.args.sites _ _ c.in_ok-test.ensures.value c.as_slice.ensures.value c.as_slice-2.ensures.value
+    (c.from_vec-sites.ensures.value ∙ (c.order_sites.ensures.value ∙ ap (map site_in_order) c.into_vec-sites.ensures.value))

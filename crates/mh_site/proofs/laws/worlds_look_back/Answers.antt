@@ -1,0 +1,10 @@
+use Rattle.mh_site.proofs.LookBack.{read, world_sites, valid_is, world_front}
+use Rattle.mh_site.proofs.laws.worlds_look_back.Goals as goal
+
+pub returns : goal.returns
+returns c = record {
+  sites = λ d newest s h. read d newest s h;
+  count = λ d newest. world_sites d newest;
+  points = λ d newest. valid_is d newest;
+  front = λ d newest. world_front d newest;
+}

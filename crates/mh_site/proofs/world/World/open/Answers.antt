@@ -1,0 +1,7 @@
+use Rattle.std.proofs.Common.{subst, sym}
+use Rattle.std.specs.List.{All}
+use Rattle.mh_site.proofs.Tables.{opening_keeps, Early}
+use Rattle.mh_site.proofs.world.World.open.Goals as goal
+
+pub invariant_of-result : goal.invariant_of-result
+invariant_of-result c = subst (All (Early 0)) (sym c.in_ok-sites.ensures.value) (opening_keeps _)

@@ -1,0 +1,137 @@
+-- Which points and sites make a definition, and what else is told.
+use Rattle.std.specs.Prelude.{ℕ, ◌^◌, ◌==◌, Bool, true, false, not, ◌&&◌, List, [], ◌∷◌, ◌++◌, length, map, nat_le, nat_lt, Option, Some, None, Result, Ok, Err}
+use Rattle.std.specs.List.{list_any, list_all}
+use Rattle.std.specs.Str.{bytes_eq}
+use Rattle.mh_type.specs.Kinds.{kind_of, kind_eq}
+use Rattle.mh_type.specs.Signature.{signature_eq}
+use Rattle.mh_tree.specs.Limits.{point_bound}
+use Rattle.mh_tree.specs.Typing.{kind_at}
+use Rattle.mh_site.specs.declared.point.Point.{Point}
+use Rattle.mh_site.specs.declared.link.Link.{Link}
+use Rattle.mh_site.specs.declared.site.Site.{Site}
+use Rattle.mh_site.specs.declared.fault.DefinitionFault.{DefinitionFault}
+use Rattle.mh_site.specs.declared.fault.DefinitionFault.TheVariants.{NoMemory, TooManyPoints, TooManySites, TooManyLinks, TooManyNeeds, BadName, NameTwice, CostTooLarge, WeightTooLarge, BadKeyPlace, KeyMismatch, KeyTwice, NoPoint, NeedTwice, TypeMismatch}
+use Rattle.mh_site.specs.Defined.{DefinitionData}
+use Rattle.mh_site.specs.Ascending.{ascending}
+use Rattle.mh_site.specs.Names.{is_name}
+use Rattle.mh_site.specs.Values.{same_value}
+
+abbrev pub fault_number : DefinitionFault → ℕ
+fault_number NoMemory = 1
+fault_number TooManyPoints = 2
+fault_number TooManySites = 3
+fault_number TooManyLinks = 4
+fault_number TooManyNeeds = 5
+fault_number BadName = 6
+fault_number NameTwice = 7
+fault_number CostTooLarge = 8
+fault_number WeightTooLarge = 9
+fault_number BadKeyPlace = 10
+fault_number KeyMismatch = 11
+fault_number KeyTwice = 12
+fault_number NoPoint = 13
+fault_number NeedTwice = 14
+fault_number TypeMismatch = 15
+
+-- no two are the same
+abbrev pub all_differ : {X : Type 0} → (X → X → Bool) → List X → Bool
+all_differ same [] = true
+all_differ same (x ∷ xs) = not (list_any (same x) xs) && all_differ same xs
+
+-- a test, the fault that is told where it fails, and the tests that come after
+abbrev pub check : Bool → DefinitionFault → Option DefinitionFault → Option DefinitionFault
+check true fault later = later
+check false fault later = Some fault
+
+-- the first fault of two
+abbrev pub first_of_both : Option DefinitionFault → Option DefinitionFault → Option DefinitionFault
+first_of_both (Some fault) later = Some fault
+first_of_both None later = later
+
+abbrev pub names_point : List ℕ → Point → Bool
+names_point name p = bytes_eq name p.name
+
+abbrev pub names_site : List ℕ → Site → Bool
+names_site name s = bytes_eq name s.name
+
+-- of a point behind earlier ones
+abbrev pub point_fault : List Point → Point → Option DefinitionFault
+point_fault earlier p =
+    check (is_name p.name) BadName
+    (check (not (list_any (names_point p.name) earlier)) NameTwice
+    (check (nat_le p.cost (2 ^ 40)) CostTooLarge None))
+
+abbrev pub points_fault : List Point → List Point → Option DefinitionFault
+points_fault earlier [] = None
+points_fault earlier (p ∷ ps) = first_of_both (point_fault earlier p) (points_fault (earlier ++ p ∷ []) ps)
+
+-- at most eight needs
+abbrev pub needs_few : Link → Bool
+needs_few l = nat_le (length l.needs) 8
+
+abbrev pub weighs_little : Link → Bool
+weighs_little l = nat_le l.weight (2 ^ 20)
+
+-- whether there is no link
+abbrev pub has_no : List Link → Bool
+has_no [] = true
+has_no (l ∷ ls) = false
+
+-- the key place is a parameter; a site with links has one
+abbrev pub has_place : Site → Bool
+has_place s = elim s.key as (λ _. Bool) [ None ↦ has_no s.links | Some q ↦ nat_lt q (length s.method_type.parameters) ]
+
+-- a key of the kind of the parameter at the key place
+abbrev pub fits_place : Site → Link → Bool
+fits_place s l = elim s.key as (λ _. Bool) [ None ↦ false | Some q ↦ nat_lt q (length s.method_type.parameters) && kind_eq (kind_of l.when) (kind_at s.method_type.parameters q) ]
+
+abbrev pub same_key : Link → Link → Bool
+same_key l k = same_value l.when k.when
+
+-- needs among so many points
+abbrev pub needs_known : ℕ → Link → Bool
+needs_known points l = list_all (λ p. nat_lt p points) l.needs
+
+abbrev pub needs_differ : Link → Bool
+needs_differ l = all_differ (λ p q. p == q) l.needs
+
+-- of a site behind earlier ones, beside so many points
+abbrev pub site_fault : ℕ → List Site → Site → Option DefinitionFault
+site_fault points earlier s =
+    check (nat_le (length s.links) 4) TooManyLinks
+    (check (list_all needs_few s.links) TooManyNeeds
+    (check (is_name s.name) BadName
+    (check (not (list_any (names_site s.name) earlier)) NameTwice
+    (check (list_all weighs_little s.links) WeightTooLarge
+    (check (has_place s) BadKeyPlace
+    (check (list_all (fits_place s) s.links) KeyMismatch
+    (check (all_differ same_key s.links) KeyTwice
+    (check (list_all (needs_known points) s.links && nat_le (point_bound s.target.tree) points) NoPoint
+    (check (list_all needs_differ s.links) NeedTwice
+    (check (signature_eq s.target.signature s.method_type) TypeMismatch None))))))))))
+
+abbrev pub sites_fault : ℕ → List Site → List Site → Option DefinitionFault
+sites_fault points earlier [] = None
+sites_fault points earlier (s ∷ ss) = first_of_both (site_fault points earlier s) (sites_fault points (earlier ++ s ∷ []) ss)
+
+-- The first test that fails: the two numbers, the points in order, the sites in order.
+abbrev pub definition_fault : List Point → List Site → Option DefinitionFault
+definition_fault points sites =
+    check (nat_le (length points) 1024) TooManyPoints
+    (check (nat_le (length sites) 1024) TooManySites
+    (first_of_both (points_fault [] points) (sites_fault (length points) [] sites)))
+
+-- a link and a site with their needs in ascending order, and all else as it was
+abbrev pub link_in_order : Link → Link
+link_in_order l = record { when = l.when; weight = l.weight; needs = ascending l.needs }
+
+abbrev pub site_in_order : Site → Site
+site_in_order s = record { name = s.name; method_type = s.method_type; key = s.key; target = s.target; links = map link_in_order s.links }
+
+abbrev pub made_unless : DefinitionData → Option DefinitionFault → Result DefinitionData DefinitionFault
+made_unless d None = Ok d
+made_unless d (Some fault) = Err fault
+
+-- what the parts make
+abbrev pub definition_made : List Point → List Site → Result DefinitionData DefinitionFault
+definition_made points sites = made_unless (record { points = points; sites = map site_in_order sites }) (definition_fault points sites)

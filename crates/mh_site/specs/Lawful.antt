@@ -1,0 +1,48 @@
+-- What each definition keeps.
+use Rattle.std.specs.Prelude.{◌≡◌, ◌≤◌, ◌<◌, ◌^◌, ℕ, true, length, Some}
+use Rattle.std.specs.List.{All}
+use Rattle.std.specs.List.Sorted.{IsStrictlyIncreasing}
+use Rattle.mh_type.specs.Kinds.{kind_of}
+use Rattle.mh_tree.specs.Limits.{point_bound}
+use Rattle.mh_tree.specs.Typing.{kind_at}
+use Rattle.mh_site.specs.declared.point.Point.{Point}
+use Rattle.mh_site.specs.declared.link.Link.{Link}
+use Rattle.mh_site.specs.declared.site.Site.{Site}
+use Rattle.mh_site.specs.Defined.{DefinitionData}
+use Rattle.mh_site.specs.Definitions.{all_differ, same_key}
+use Rattle.mh_site.specs.Names.{is_name}
+
+-- the key place is a parameter, and the key is of its kind
+pub record HasKey (s : Site) (l : Link) : Type 0 where
+  pub place : ℕ
+  pub is : s.key ≡ Some place
+  pub inside : place < length s.method_type.parameters
+  pub kind : kind_of l.when ≡ kind_at s.method_type.parameters place
+
+-- of a link at a site, beside so many points
+pub record IsLink (points : ℕ) (s : Site) (l : Link) : Type 0 where
+  pub few : length l.needs ≤ 8
+  pub light : l.weight ≤ 2 ^ 20
+  pub known : All (λ p. p < points) l.needs
+  pub ascending : IsStrictlyIncreasing l.needs
+  pub key : HasKey s l
+
+-- of a site beside so many points
+pub record IsSite (points : ℕ) (s : Site) : Type 0 where
+  pub name : is_name s.name ≡ true
+  pub few : length s.links ≤ 4
+  pub place : (q : ℕ) → s.key ≡ Some q → q < length s.method_type.parameters
+  pub links : All (IsLink points s) s.links
+  pub keys : all_differ same_key s.links ≡ true
+  pub known : point_bound s.target.tree ≤ points
+  pub typed : s.target.signature ≡ s.method_type
+
+pub record IsPoint (p : Point) : Type 0 where
+  pub name : is_name p.name ≡ true
+  pub cheap : p.cost ≤ 2 ^ 40
+
+pub record IsDefinition (d : DefinitionData) : Type 0 where
+  pub few_points : length d.points ≤ 1024
+  pub few_sites : length d.sites ≤ 1024
+  pub points : All IsPoint d.points
+  pub sites : All (IsSite (length d.points)) d.sites

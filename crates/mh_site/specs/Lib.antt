@@ -1,0 +1,10 @@
+pub mod Names
+pub mod Values
+pub mod Ascending
+pub mod Definitions
+pub mod Defined
+pub mod Lawful
+pub mod Controls
+pub mod Worlds
+pub mod SiteStates
+pub mod LookBack

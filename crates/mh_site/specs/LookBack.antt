@@ -1,0 +1,36 @@
+-- What is so after controls, newest first: by looking back for the last that tells.
+use Rattle.std.specs.Prelude.{ℕ, ◌+◌, ◌==◌, Bool, true, not, ◌&&◌, List, [], ◌∷◌, map, length, if◌then◌else◌}
+use Rattle.std.specs.List.{list_any, range_with_len}
+use Rattle.mh_tree.specs.Handle.{TypedTree}
+use Rattle.mh_site.specs.declared.control.Control.{Control}
+use Rattle.mh_site.specs.declared.control.Control.TheVariants.{Target, Invalidate}
+use Rattle.mh_site.specs.Defined.{DefinitionData, site_at}
+use Rattle.mh_site.specs.Worlds.{SiteState}
+
+-- the tree of the last retargeting, else the opening one
+abbrev pub base : DefinitionData → List Control → ℕ → TypedTree
+base d [] s = (site_at d s).target
+base d (Target r ∷ older) s = if r.site == s then r.tree else base d older s
+base d (Invalidate points ∷ older) s = base d older s
+
+-- how often a site was retargeted
+abbrev pub version : List Control → ℕ → ℕ
+version [] s = 0
+version (Target r ∷ older) s = if r.site == s then version older s + 1 else version older s
+version (Invalidate points ∷ older) s = version older s
+
+abbrev pub member : List ℕ → ℕ → Bool
+member ps p = list_any (λ q. q == p) ps
+
+-- no invalidation names the point
+abbrev pub is_valid : List Control → ℕ → Bool
+is_valid [] p = true
+is_valid (Target r ∷ older) p = is_valid older p
+is_valid (Invalidate points ∷ older) p = not (member points p) && is_valid older p
+
+abbrev pub valid_points : DefinitionData → List Control → List Bool
+valid_points d controls = map (is_valid controls) (range_with_len 0 (length d.points))
+
+-- a site, of which no control links a chain
+abbrev pub site_after : DefinitionData → List Control → ℕ → SiteState
+site_after d controls s = record { base = base d controls s; linked = base d controls s; kept = []; version = version controls s }

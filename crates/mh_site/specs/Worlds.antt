@@ -1,0 +1,69 @@
+-- A world as tables, and how controls change it.
+use Rattle.std.specs.List.{All}
+use Rattle.std.specs.Prelude.{ℕ, ◌≤◌, ◌+◌, List, [], map, fold, length, replicate, slice_set, slice_index_or, Bool, true, false, refl}
+use Rattle.std.specs.Coded.{Coded, code_by, coded×, coded_ℕ, coded_bool, coded_list}
+use Rattle.mh_tree.specs.Handle.{TypedTree}
+use Rattle.mh_tree.specs.TreeCode.{coded_typed_tree}
+use Rattle.mh_site.specs.declared.site.Site.{Site}
+use Rattle.mh_site.specs.declared.control.Control.{Control}
+use Rattle.mh_site.specs.declared.control.Control.TheVariants.{Target, Invalidate}
+use Rattle.mh_site.specs.Defined.{DefinitionData, no_tree}
+
+-- a site's base tree and linked tree, the links that the linked tree holds, and how often the site was retargeted
+pub record SiteState : Type 0 where
+  pub base : TypedTree
+  pub linked : TypedTree
+  pub kept : List ℕ
+  pub version : ℕ
+
+-- which points are valid, each site, and how many controls were absorbed
+pub record WorldState : Type 0 where
+  pub valid : List Bool
+  pub sites : List SiteState
+  pub front : ℕ
+
+-- no site was retargeted more often than there were controls
+abbrev pub IsWorld : WorldState → Type 0
+IsWorld w = All (λ x. x.version ≤ w.front) w.sites
+
+-- what stands past the last site
+abbrev pub no_state : SiteState
+no_state = record { base = no_tree; linked = no_tree; kept = []; version = 0 }
+
+abbrev pub state_at : WorldState → ℕ → SiteState
+state_at w s = slice_index_or w.sites s no_state
+
+-- a site before any control
+abbrev pub opening : Site → SiteState
+opening s = record { base = s.target; linked = s.target; kept = []; version = 0 }
+
+-- the world before any control: all points are valid (`SwitchPoint`, "in the valid state")
+abbrev pub opened : DefinitionData → WorldState
+opened d = record { valid = replicate (length d.points) true; sites = map opening d.sites; front = 0 }
+
+-- another tree of a site puts its linked tree back to the base
+abbrev pub retargeted : TypedTree → SiteState → SiteState
+retargeted t x = record { base = t; linked = t; kept = []; version = x.version + 1 }
+
+-- a point is invalid from then on (`SwitchPoint.invalidateAll`)
+abbrev pub clear_point : List Bool → ℕ → List Bool
+clear_point v p = slice_set v p false
+
+-- the world after a control
+abbrev pub after : WorldState → Control → WorldState
+after w (Target r) = record { valid = w.valid; sites = slice_set w.sites r.site (retargeted r.tree (state_at w r.site)); front = w.front + 1 }
+after w (Invalidate points) = record { valid = fold clear_point w.valid points; sites = w.sites; front = w.front + 1 }
+
+-- the world after controls, oldest first
+abbrev pub replay : WorldState → List Control → WorldState
+replay w controls = fold after w controls
+
+abbrev pub coded_state : Coded SiteState
+coded_state =
+    code_by ((TypedTree × TypedTree) × (List ℕ × ℕ)) (coded× (coded× coded_typed_tree coded_typed_tree) (coded× (coded_list coded_ℕ) coded_ℕ))
+    (λ x. ((x.base, x.linked), (x.kept, x.version))) (λ p. record { base = p.0.0; linked = p.0.1; kept = p.1.0; version = p.1.1 }) (λ _. refl)
+
+abbrev pub coded_world : Coded WorldState
+coded_world =
+    code_by (List Bool × (List SiteState × ℕ)) (coded× (coded_list coded_bool) (coded× (coded_list coded_state) coded_ℕ))
+    (λ w. (w.valid, (w.sites, w.front))) (λ p. record { valid = p.0; sites = p.1.0; front = p.1.1 }) (λ _. refl)

@@ -1,0 +1,173 @@
+//! Points and sites that fit together.
+
+ghost use Rattle.std.specs.Prelude.{◌≡◌, ◌<◌, Ok, Err, Some, None, length, IfOk, IfErr, MatchResult};
+ghost use Rattle.mh_site.specs.Defined.{point_at, site_at, link_of};
+ghost use Rattle.mh_site.specs.Definitions.{definition_made, definition_fault};
+ghost use Rattle.mh_site.specs.Lawful.{IsDefinition};
+
+use crate::fault::DefinitionFault;
+use crate::link::Link;
+use crate::listing::Listing;
+use crate::order::order_sites;
+use crate::point::Point;
+use crate::point_tests::test_points;
+use crate::site::Site;
+use crate::site_tests::test_sites;
+use mh_tree::Declared;
+use mh_type::{MethodType, Value};
+use std::marker::Model;
+
+/// The most points of a definition.
+pub const MOST_POINTS: usize = 1024;
+
+/// The most sites of a definition.
+pub const MOST_SITES: usize = 1024;
+
+/// Points and sites that fit together: within limits, well named, each target of its site's type,
+/// each link with a key of its own of the key place's kind, and with ascending needs.
+#[derive(Drop)]
+pub struct Definition {
+    points: Listing<Point>,
+    sites: Listing<Site>,
+}
+
+impl Model for Definition {
+    ghost use Rattle.mh_site.specs.Defined.{DefinitionData, coded_definition};
+
+    ghost Value = { DefinitionData };
+
+    ghost coded = { coded_definition };
+
+    ghost use Rattle.mh_site.specs.Lawful.{IsDefinition};
+
+    ghost view = { λ d. record { points = d.points; sites = d.sites } };
+
+    ghost invariant = { λ d. IsDefinition record { points = d.points; sites = d.sites } };
+}
+
+impl Definition {
+    /// The definition of these parts, with the needs of each link in ascending order. It takes no
+    /// memory; what is refused is dropped.
+    ///
+    /// Refused with the first test that fails, as `DefinitionFault` tells them.
+    pub fn new(points: Listing<Point>, sites: Listing<Site>) -> Result<Definition, DefinitionFault>
+        ensures value { IfOk result (λ d. definition_made points sites ≡ Ok d) }
+        ensures refused { IfErr result (λ e. definition_made points sites ≡ Err e) }
+    {
+        test(points.as_slice(), sites.as_slice())?;
+        let mut sites = sites.into_vec();
+        order_sites(&mut sites);
+        let sites = Listing::from_vec(sites);
+        Ok(Definition { points, sites })
+    }
+
+    /// The points, by number.
+    pub fn points(&self) -> &[Point]
+        ensures value { result.now ≡ self.now.points }
+        ensures lawful { IsDefinition self.now }
+    {
+        self.points.as_slice()
+    }
+
+    /// The sites, by number.
+    pub fn sites(&self) -> &[Site]
+        ensures value { result.now ≡ self.now.sites }
+        ensures lawful { IsDefinition self.now }
+    {
+        self.sites.as_slice()
+    }
+
+    /// The name of a point.
+    pub fn point_name(&self, point: usize) -> &str
+        requires inside { point < length self.now.points }
+        ensures value { result.now ≡ (point_at self.now point).name }
+    {
+        self.points()[point].name.as_str()
+    }
+
+    /// The cost of a point, 0 to 2^40.
+    pub fn cost(&self, point: usize) -> u64
+        requires inside { point < length self.now.points }
+        ensures value { result ≡ (point_at self.now point).cost }
+    {
+        self.points()[point].cost
+    }
+
+    /// The name of a site.
+    pub fn site_name(&self, site: usize) -> &str
+        requires inside { site < length self.now.sites }
+        ensures value { result.now ≡ (site_at self.now site).name }
+    {
+        self.sites()[site].name.as_str()
+    }
+
+    /// The type of a site.
+    pub fn method_type(&self, site: usize) -> &MethodType
+        requires inside { site < length self.now.sites }
+        ensures value { result.now ≡ (site_at self.now site).method_type }
+    {
+        &self.sites()[site].method_type
+    }
+
+    /// The key place of a site, where it has one.
+    pub fn key(&self, site: usize) -> Option<usize>
+        requires inside { site < length self.now.sites }
+        ensures value { result ≡ (site_at self.now site).key }
+    {
+        self.sites()[site].key
+    }
+
+    /// The tree that a site runs when its world is opened.
+    pub fn target(&self, site: usize) -> &Declared
+        requires inside { site < length self.now.sites }
+        ensures value { result.now ≡ (site_at self.now site).target }
+    {
+        &self.sites()[site].target
+    }
+
+    /// The links of a site, at most 4.
+    pub fn links(&self, site: usize) -> &[Link]
+        requires inside { site < length self.now.sites }
+        ensures value { result.now ≡ (site_at self.now site).links }
+    {
+        self.sites()[site].links.as_slice()
+    }
+
+    /// The key of a link.
+    pub fn when(&self, site: usize, link: usize) -> &Value
+        requires inside { (site < length self.now.sites) × (link < length (site_at self.now site).links) }
+        ensures value { result.now ≡ (link_of self.now site link).when }
+    {
+        &self.links(site)[link].when
+    }
+
+    /// What one hit of a link gains, 0 to 2^20.
+    pub fn weight(&self, site: usize, link: usize) -> u64
+        requires inside { (site < length self.now.sites) × (link < length (site_at self.now site).links) }
+        ensures value { result ≡ (link_of self.now site link).weight }
+    {
+        self.links(site)[link].weight
+    }
+
+    /// The points that a link needs, ascending, at most 8.
+    pub fn needs(&self, site: usize, link: usize) -> &[u32]
+        requires inside { (site < length self.now.sites) × (link < length (site_at self.now site).links) }
+        ensures value { result.now ≡ (link_of self.now site link).needs }
+    {
+        self.links(site)[link].needs.as_slice()
+    }
+}
+
+// All tests, in order.
+fn test(points: &[Point], sites: &[Site]) -> Result<(), DefinitionFault>
+    ensures value { MatchResult result (λ _. definition_fault points.now sites.now ≡ None) (λ e. definition_fault points.now sites.now ≡ Some e) }
+{
+    if points.len() > MOST_POINTS {
+        return Err(DefinitionFault::TooManyPoints);
+    }
+    if sites.len() > MOST_SITES {
+        return Err(DefinitionFault::TooManySites);
+    }
+    test_points(points)?;
+    test_sites(points.len(), sites)
+}
