@@ -1,7 +1,8 @@
 //! Lists that contracts see as the list of their items.
 
-ghost use Rattle.std.specs.Prelude.{◌≡◌, List, length};
+ghost use Rattle.std.specs.Prelude.{◌≡◌, ◌∷◌, ◌++◌, [], List, length, OnOk, OnErr};
 
+use std::alloc::AllocFailed;
 use std::marker::Model;
 
 /// Values in order.
@@ -32,6 +33,14 @@ impl<T> Listing<T> {
     {
         let Listing { items } = self;
         items
+    }
+
+    /// Puts an item last.
+    pub fn push(&mut self, item: T) -> Result<(), AllocFailed<T>>
+        ensures value { OnOk result (self.new ≡ self.old ++ item ∷ []) }
+        ensures refused { OnErr result (self.new ≡ self.old) }
+    {
+        self.items.push(item)
     }
 
     /// The items.

@@ -41,8 +41,9 @@ impl Name {
         self.text.as_str()
     }
 
-    // Whether this is a lawful name.
-    pub(crate) fn is_lawful(&self) -> bool
+    /// Whether this is a lawful name: 1 to 64 bytes, first a letter or `_`, then letters, digits, `_`, `.` and
+    /// `-`, all ASCII.
+    pub fn is_lawful(&self) -> bool
         ensures value { result ≡ is_lawful self.now }
     {
         is_name(self.as_str().as_bytes())

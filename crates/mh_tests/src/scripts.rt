@@ -1,7 +1,7 @@
 //! Scripts and definitions as values.
+use mh_site::{Listing, Name};
 use mh_text::{
-    Definition, DefinitionFault, Event, Fault, Listing, Name, Point, Script, Site, TextFault,
-    read_script,
+    Definition, DefinitionFault, Event, Fault, Point, Script, Site, TextFault, read_script,
 };
 use mh_tree::{Declared, Handle};
 use mh_type::{Kind, MethodType, Op, Value};

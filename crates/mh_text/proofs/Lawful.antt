@@ -9,7 +9,7 @@ use Rattle.mh_text.specs.declared.definition.Site.{Site}
 use Rattle.mh_text.specs.declared.definition.DefinitionFault.{DefinitionFault}
 use Rattle.mh_text.specs.declared.definition.DefinitionFault.TheVariants.{TooManyPoints, BadName, NoPoint, TypeMismatch}
 use Rattle.mh_text.specs.Definitions.{check, first_of_both, points_fault, site_fault, definition_fault}
-use Rattle.mh_text.specs.Names.{is_name}
+use Rattle.mh_site.specs.Names.{is_name}
 
 -- a test that tells nothing holds, and so do those after it
 check_none : (b : Bool) (fault : DefinitionFault) (later : Option DefinitionFault) → check b fault later ≡ None → (b ≡ true) × (later ≡ None)

@@ -9,7 +9,7 @@ use Rattle.mh_text.specs.declared.definition.Site.{Site}
 use Rattle.mh_text.specs.declared.definition.DefinitionFault.{DefinitionFault}
 use Rattle.mh_text.specs.declared.definition.DefinitionFault.TheVariants.{TooManyPoints, BadName, NameTwice, CostTooLarge, NoPoint, TypeMismatch}
 use Rattle.mh_text.specs.Defined.{DefinitionData}
-use Rattle.mh_text.specs.Names.{is_name}
+use Rattle.mh_site.specs.Names.{is_name}
 
 abbrev pub fault_number : DefinitionFault → ℕ
 fault_number TooManyPoints = 2

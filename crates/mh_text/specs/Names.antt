@@ -10,17 +10,3 @@ with_name names name = if list_any (bytes_eq name) names then names else names +
 -- the number of a name, or one past the last
 abbrev pub place_of : List (List ℕ) → List ℕ → ℕ
 place_of names name = position_or_len (bytes_eq name) names
-
--- Lawful names: 1 to 64 bytes, first a letter or `_` (95), then letters, digits, `_`, `.` (46) and `-` (45), all ASCII.
-abbrev pub is_between : ℕ → ℕ → ℕ → Bool
-is_between low high b = nat_le low b && nat_le b high
-
-abbrev pub begins_name : ℕ → Bool
-begins_name b = is_between 65 90 b || is_between 97 122 b || b == 95
-
-abbrev pub continues_name : ℕ → Bool
-continues_name b = begins_name b || is_between 48 57 b || b == 46 || b == 45
-
-abbrev pub is_name : List ℕ → Bool
-is_name [] = false
-is_name (b ∷ bs) = nat_lt (length bs) 64 && begins_name b && list_all continues_name bs

@@ -9,7 +9,8 @@ use Rattle.mh_text.specs.declared.fault.ReadFault.TheVariants.{BadShape}
 use Rattle.mh_text.specs.declared.scope.Scope.{Scope}
 use Rattle.mh_text.specs.declared.scope.Shared.{Shared}
 use Rattle.mh_text.specs.Gives.{◌>>=◌}
-use Rattle.mh_text.specs.Names.{is_name, with_name}
+use Rattle.mh_site.specs.Names.{is_name}
+use Rattle.mh_text.specs.Names.{with_name}
 use Rattle.mh_text.specs.Shape.{list_of, text_of}
 use Rattle.mh_text.specs.Trees.{tree_of}
 

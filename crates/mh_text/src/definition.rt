@@ -1,12 +1,10 @@
 //! What a script declares: points with their costs, and one site.
 
 ghost use Rattle.std.specs.Prelude.{◌≡◌, ◌≤◌, ◌∷◌, map, length, Some, None, Ok, Err, IfOk, IfErr, MatchResult, []};
-ghost use Rattle.mh_text.specs.Names.{is_name as is_lawful, begins_name as may_begin, continues_name as may_continue};
 ghost use Rattle.std.specs.List.{list_any, list_all};
 ghost use Rattle.mh_text.specs.Definitions.{definition_made, definition_fault, point_fault, points_fault, site_fault, has_name, fault_number};
 
-use crate::listing::Listing;
-use crate::names::Name;
+use mh_site::{Listing, Name};
 use mh_tree::Declared;
 use mh_type::MethodType;
 use std::marker::Model;
@@ -16,9 +14,6 @@ pub const MOST_POINTS: usize = 1024;
 
 /// The greatest cost of a point.
 pub const GREATEST_COST: u64 = 1 << 40;
-
-/// The most bytes of a name.
-pub const LONGEST_NAME: usize = 64;
 
 /// A switch point, and what it costs to keep it alive.
 #[derive(Drop)]
@@ -145,7 +140,7 @@ fn test_points(points: &[Point]) -> Result<(), DefinitionFault>
 fn test_point(earlier: &[Point], point: &Point) -> Result<(), DefinitionFault>
     ensures value { MatchResult result (λ _. point_fault earlier.now point.now ≡ None) (λ e. point_fault earlier.now point.now ≡ Some e) }
 {
-    if !is_name(point.name.as_str().as_bytes()) {
+    if !point.name.is_lawful() {
         return Err(DefinitionFault::BadName);
     }
     if is_among(earlier, point.name.as_str()) {
@@ -161,7 +156,7 @@ fn test_point(earlier: &[Point], point: &Point) -> Result<(), DefinitionFault>
 fn test_site(points: usize, site: &Site) -> Result<(), DefinitionFault>
     ensures value { MatchResult result (λ _. site_fault points site.now ≡ None) (λ e. site_fault points site.now ≡ Some e) }
 {
-    if !is_name(site.name.as_str().as_bytes()) {
+    if !site.name.is_lawful() {
         return Err(DefinitionFault::BadName);
     }
     let target = site.target.handle();
@@ -184,33 +179,4 @@ fn is_among(points: &[Point], name: &str) -> bool
         }
     }
     false
-}
-
-/// Whether bytes make a name.
-pub(crate) fn is_name(name: &[u8]) -> bool
-    ensures value { result ≡ is_lawful name.now }
-{
-    let [first, rest @ ..] = name else {
-        return false;
-    };
-    rest.len() < LONGEST_NAME && begins_name(*first) && all_continue(rest)
-}
-
-// Whether each byte may stand in a name behind the first.
-fn all_continue(bytes: &[u8]) -> bool
-    ensures value { result ≡ list_all may_continue bytes.now }
-{
-    bytes.iter().all(|byte| continues_name(*byte))
-}
-
-fn begins_name(byte: u8) -> bool
-    ensures value { result ≡ may_begin byte }
-{
-    matches!(byte, b'A'..=b'Z' | b'a'..=b'z' | b'_')
-}
-
-fn continues_name(byte: u8) -> bool
-    ensures value { result ≡ may_continue byte }
-{
-    begins_name(byte) || matches!(byte, b'0'..=b'9' | b'.' | b'-')
 }

@@ -1,6 +1,6 @@
 //! What a machine is asked.
 
-use crate::listing::Listing;
+use mh_site::Listing;
 use mh_tree::Declared;
 use mh_type::Value;
 

@@ -7,7 +7,7 @@ ghost use Rattle.mh_text.specs.Script.{call_from, target_from, invalidate_from, 
 use crate::definition::Site;
 use crate::event::Event;
 use crate::fault::{Fault, ReadFault, TextFault};
-use crate::listing::Listing;
+use mh_site::Listing;
 use crate::scope::Scope;
 use crate::shape::{count, each, list, text};
 use crate::site::{parameters, site_number};

@@ -8,7 +8,7 @@ ghost use Rattle.mh_text.specs.Tests.{Passes, Refuses};
 
 use crate::definition::Definition;
 use crate::event::Event;
-use crate::listing::Listing;
+use mh_site::Listing;
 use crate::reply::{Refusal, Reply};
 use mh_eval::{Stack, eval, fits};
 use mh_tree::{Declared, Handle};

@@ -1,4 +1,4 @@
-//! Names, and the numbers that they have by the order of their first appearance.
+//! The numbers that names have by the order of their first appearance.
 ghost use Rattle.std.specs.Prelude.{◌≡◌, [], IfOk, OnOk, OnErr};
 ghost use Rattle.std.specs.List.{list_any};
 ghost use Rattle.std.specs.Str.{bytes_eq};
@@ -7,36 +7,6 @@ ghost use Rattle.mh_text.specs.Names.{place_of, with_name};
 use indexmap::IndexSet;
 use std::alloc::{AllocError, Global};
 use std::marker::Model;
-
-/// A text that owns its bytes.
-#[derive(Drop)]
-pub struct Name {
-    text: String,
-}
-
-impl Model for Name {
-    ghost use Rattle.std.specs.Prelude.{List, ℕ, string_bytes};
-
-    ghost Value = { List ℕ };
-
-    ghost view = { λ a. string_bytes a.text };
-}
-
-impl Name {
-    pub fn new(alloc: Global, text: &str) -> Result<Name, AllocError>
-        ensures value { IfOk result (λ name. name ≡ text.now) }
-    {
-        Ok(Name {
-            text: String::from_str(alloc, text)?,
-        })
-    }
-
-    pub fn as_str(&self) -> &str
-        ensures value { result.now ≡ self.now }
-    {
-        self.text.as_str()
-    }
-}
 
 /// Names in the order of their first appearance.
 #[derive(Drop)]

@@ -5,8 +5,9 @@ ghost use Rattle.mh_text.specs.Shared.{without_shared, with_shared};
 ghost use Rattle.mh_text.specs.Trees.{point_place, shared_named};
 
 use crate::fault::ReadFault;
-use crate::listing::Listing;
-use crate::names::{Name, Names};
+use mh_site::Listing;
+use crate::names::Names;
+use mh_site::Name;
 use mh_tree::Handle;
 use std::alloc::Global;
 

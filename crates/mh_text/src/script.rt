@@ -10,7 +10,7 @@ use crate::event::Event;
 use crate::events::read_events;
 use crate::fault::{Fault, ReadFault, TextFault};
 use crate::input::LIMIT;
-use crate::listing::Listing;
+use mh_site::Listing;
 use crate::points::{number_names, read_points};
 use crate::scope::Scope;
 use crate::shape::{count, list, member};

@@ -9,7 +9,7 @@ ghost use Rattle.mh_text.specs.Gives.{Gives};
 ghost use Rattle.mh_text.specs.Shape.{list_of, text_of, member_of, count_of, each_of};
 
 use crate::fault::ReadFault;
-use crate::listing::Listing;
+use mh_site::Listing;
 use serde_json::Value;
 use std::alloc::Global;
 

@@ -4,9 +4,9 @@ ghost use Rattle.serde_json.specs.View.{view};
 ghost use Rattle.mh_text.specs.Gives.{Gives};
 ghost use Rattle.mh_text.specs.Shared.{new_name, shared_from, shared_of, scope_of};
 
-use crate::definition::is_name;
 use crate::fault::ReadFault;
-use crate::names::{Name, Names};
+use crate::names::Names;
+use mh_site::Name;
 use crate::scope::{Scope, Shared};
 use crate::shape::{list, text};
 use crate::trees::read_tree;
@@ -14,11 +14,11 @@ use serde_json::Value;
 use std::alloc::Global;
 
 /// A lawful name that no earlier shared tree has.
-fn read_new_name<'a>(names: &Names, value: &'a Value) -> Result<&'a str, ReadFault>
-    ensures value { Gives (λ x. x.now) result (new_name names.now (view value.now)) }
+fn read_new_name(alloc: Global, names: &Names, value: &Value) -> Result<Name, ReadFault>
+    ensures value { Gives (λ x. x) result (new_name names.now (view value.now)) }
 {
-    let name = text(value)?;
-    if !is_name(name.as_bytes()) || names.contains(name) {
+    let name = Name::new(alloc, text(value)?)?;
+    if !name.is_lawful() || names.contains(name.as_str()) {
         return Err(ReadFault::BadShape);
     }
     Ok(name)
@@ -31,8 +31,7 @@ fn read_pair(alloc: Global, scope: &Scope, parts: &[Value]) -> Result<Shared, Re
     let [name, tree] = parts else {
         return Err(ReadFault::BadShape);
     };
-    let name = read_new_name(&scope.names, name)?;
-    let name = Name::new(alloc, name)?;
+    let name = read_new_name(alloc, &scope.names, name)?;
     let tree = read_tree(alloc, scope, tree)?;
     Ok(Shared { name, tree })
 }

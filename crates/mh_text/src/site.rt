@@ -6,7 +6,7 @@ ghost use Rattle.mh_text.specs.Script.{site_of, only_site_of, site_place, parame
 
 use crate::definition::Site;
 use crate::fault::ReadFault;
-use crate::names::Name;
+use mh_site::Name;
 use crate::scope::Scope;
 use crate::shape::{list, member, text};
 use crate::trees::read_declared;
