@@ -7,12 +7,12 @@ ghost use Rattle.mh_text.specs.Script.{call_from, target_from, invalidate_from, 
 use crate::definition::Site;
 use crate::event::Event;
 use crate::fault::{Fault, ReadFault, TextFault};
-use mh_site::Listing;
 use crate::scope::Scope;
 use crate::shape::{count, each, list, text};
 use crate::site::{parameters, site_number};
 use crate::trees::read_declared;
 use crate::values::read_values;
+use mh_site::Listing;
 use serde_json::Value;
 use std::alloc::Global;
 

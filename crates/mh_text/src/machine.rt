@@ -8,9 +8,9 @@ ghost use Rattle.mh_text.specs.Tests.{Passes, Refuses};
 
 use crate::definition::Definition;
 use crate::event::Event;
-use mh_site::Listing;
 use crate::reply::{Refusal, Reply};
 use mh_eval::{Stack, eval, fits};
+use mh_site::Listing;
 use mh_tree::{Declared, Handle};
 use mh_type::Value;
 use std::alloc::{AllocError, Global};

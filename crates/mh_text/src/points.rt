@@ -6,10 +6,9 @@ ghost use Rattle.mh_text.specs.Script.{point_of, points_of, names_of};
 
 use crate::definition::Point;
 use crate::fault::ReadFault;
-use mh_site::Listing;
 use crate::names::Names;
-use mh_site::Name;
 use crate::shape::{MOST, count, each, list, member, text};
+use mh_site::{Listing, Name};
 use serde_json::Value;
 use std::alloc::{AllocError, Global};
 

@@ -5,9 +5,8 @@ ghost use Rattle.mh_text.specs.Shared.{without_shared, with_shared};
 ghost use Rattle.mh_text.specs.Trees.{point_place, shared_named};
 
 use crate::fault::ReadFault;
-use mh_site::Listing;
 use crate::names::Names;
-use mh_site::Name;
+use mh_site::{Listing, Name};
 use mh_tree::Handle;
 use std::alloc::Global;
 

@@ -10,12 +10,12 @@ use crate::event::Event;
 use crate::events::read_events;
 use crate::fault::{Fault, ReadFault, TextFault};
 use crate::input::LIMIT;
-use mh_site::Listing;
 use crate::points::{number_names, read_points};
 use crate::scope::Scope;
 use crate::shape::{count, list, member};
 use crate::shared::read_scope;
 use crate::site::read_site;
+use mh_site::Listing;
 use serde_json::Value;
 use std::alloc::Global;
 

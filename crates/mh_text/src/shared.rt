@@ -6,10 +6,10 @@ ghost use Rattle.mh_text.specs.Shared.{new_name, shared_from, shared_of, scope_o
 
 use crate::fault::ReadFault;
 use crate::names::Names;
-use mh_site::Name;
 use crate::scope::{Scope, Shared};
 use crate::shape::{list, text};
 use crate::trees::read_tree;
+use mh_site::Name;
 use serde_json::Value;
 use std::alloc::Global;
 

@@ -6,11 +6,11 @@ ghost use Rattle.mh_text.specs.Script.{site_of, only_site_of, site_place, parame
 
 use crate::definition::Site;
 use crate::fault::ReadFault;
-use mh_site::Name;
 use crate::scope::Scope;
 use crate::shape::{list, member, text};
 use crate::trees::read_declared;
 use crate::values::read_type;
+use mh_site::Name;
 use mh_type::Kind;
 use serde_json::Value;
 use std::alloc::Global;

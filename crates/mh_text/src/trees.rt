@@ -8,10 +8,10 @@ ghost use Rattle.mh_text.specs.Trees.{part, tree_of, declared_of, filter_of, fil
 
 use crate::fault::ReadFault;
 use crate::leaves::{read_identity, read_leaf_constant, read_operation, read_ref};
-use mh_site::Listing;
 use crate::scope::Scope;
 use crate::shape::{each, list, place, text};
 use crate::values::{read_kind, read_type, read_values};
+use mh_site::Listing;
 use mh_tree::{Declared, Handle};
 use mh_type::Kind;
 use serde_json::Value;

@@ -5,8 +5,8 @@ ghost use Rattle.mh_text.specs.Gives.{Gives};
 ghost use Rattle.mh_text.specs.Values.{kind_of, type_of, op_of, long_of, is_int, text_value, value_of_kind, value_by_form, value_for, values_for};
 
 use crate::fault::ReadFault;
-use mh_site::Listing;
 use crate::shape::text;
+use mh_site::Listing;
 use mh_type::{Kind, MethodType, Op, Text, TypeFault, Value};
 use serde_json::Value as Json;
 use std::alloc::Global;

@@ -408,10 +408,7 @@ fn faults_in_targets(rt: HostRuntime) -> Result<(), Fail> {
             "[\"fold\",[\"const\",\"int\",1],[\"const\",\"int\",1]]",
             "7 Tree 3",
         ),
-        (
-            "[\"fold\",[\"op\",\"ineg\"],[\"op\",\"ineg\"]]",
-            "7 Tree 3",
-        ),
+        ("[\"fold\",[\"op\",\"ineg\"],[\"op\",\"ineg\"]]", "7 Tree 3"),
         ("[\"fold\",[\"op\",\"ineg\"]]", "4 BadShape"),
     ];
     for (target, fault) in cases {
@@ -439,11 +436,7 @@ fn with_shared(alloc: Global, shared: &str, target: &str) -> Result<String, Fail
 fn shared_trees(rt: HostRuntime) -> Result<(), Fail> {
     let cases = [
         ("[]", "[\"op\",\"ineg\"]", "int -1\n"),
-        (
-            "[[\"g\",[\"op\",\"ineg\"]]]",
-            "[\"ref\",\"g\"]",
-            "int -1\n",
-        ),
+        ("[[\"g\",[\"op\",\"ineg\"]]]", "[\"ref\",\"g\"]", "int -1\n"),
         (
             "[[\"g\",[\"op\",\"iadd\"]],[\"h\",[\"fold\",[\"ref\",\"g\"],[\"op\",\"ineg\"]]],[\"i\",[\"insert\",[\"ref\",\"g\"],0,[20]]]]",
             "[\"return\",[\"ref\",\"h\"],[\"ref\",\"i\"]]",
@@ -456,7 +449,10 @@ fn shared_trees(rt: HostRuntime) -> Result<(), Fail> {
         ),
     ];
     for (shared, target, lines) in cases {
-        let ran = run_script(rt.alloc(), with_shared(rt.alloc(), shared, target)?.as_str());
+        let ran = run_script(
+            rt.alloc(),
+            with_shared(rt.alloc(), shared, target)?.as_str(),
+        );
         assert_eq!(rt; ran.out.as_slice(), lines.as_bytes(), "at {shared}");
         assert!(rt; ran.err.is_empty(), "at {shared}");
         assert_eq!(rt; ran.status, 0, "at {shared}");
@@ -515,7 +511,9 @@ fn doubled(alloc: Global, count: usize) -> Result<String, Fail> {
     let mut shared = String::from_str(alloc, "[[\"s1\",[\"op\",\"ineg\"]]")?;
     for k in 1..count {
         let next = k + 1;
-        shared = format!(in alloc; "{shared},[\"s{next}\",[\"return\",[\"ref\",\"s{k}\"],[\"ref\",\"s{k}\"]]]")?;
+        shared = format!(in alloc;
+            "{shared},[\"s{next}\",[\"return\",[\"ref\",\"s{k}\"],[\"ref\",\"s{k}\"]]]"
+        )?;
     }
     shared.push(']')?;
     Ok(shared)
@@ -523,10 +521,7 @@ fn doubled(alloc: Global, count: usize) -> Result<String, Fail> {
 
 #[test]
 fn the_deepest_target(rt: HostRuntime) -> Result<(), Fail> {
-    for (depth, lines, fault) in [
-        (64, "int 1\n", ""),
-        (65, "", "fault 7 Tree 8 at 0\n"),
-    ] {
+    for (depth, lines, fault) in [(64, "int 1\n", ""), (65, "", "fault 7 Tree 8 at 0\n")] {
         let target = nested(rt.alloc(), depth)?;
         let input = with_shared(rt.alloc(), "[]", target.as_str())?;
         let ran = run_script(rt.alloc(), input.as_str());
