@@ -5,7 +5,8 @@ ghost use Rattle.mh_site.specs.Defined.{point_at, site_at, link_of};
 ghost use Rattle.mh_site.specs.Definitions.{definition_made, definition_fault};
 ghost use Rattle.mh_site.specs.Lawful.{IsDefinition};
 
-use crate::fault::DefinitionFault;
+use crate::copies::{copy_points, copy_sites};
+use crate::fault::{DefinitionFault, NoMemory};
 use crate::link::Link;
 use crate::listing::Listing;
 use crate::order::order_sites;
@@ -15,6 +16,7 @@ use crate::site::Site;
 use crate::site_tests::test_sites;
 use mh_tree::Declared;
 use mh_type::{MethodType, Value};
+use std::alloc::Global;
 use std::marker::Model;
 
 /// The most points of a definition.
@@ -58,6 +60,16 @@ impl Definition {
         let mut sites = sites.into_vec();
         order_sites(&mut sites);
         let sites = Listing::from_vec(sites);
+        Ok(Definition { points, sites })
+    }
+
+    /// The same definition, of which the trees and texts get another owner. Refused where a growth was
+    /// refused, or a further owner.
+    pub fn share(&self, alloc: Global) -> Result<Definition, NoMemory>
+        ensures value { IfOk result (λ d. d ≡ self.now) }
+    {
+        let points = copy_points(alloc, self.points.as_slice())?;
+        let sites = copy_sites(alloc, self.sites.as_slice())?;
         Ok(Definition { points, sites })
     }
 

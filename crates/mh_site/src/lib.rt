@@ -3,6 +3,7 @@
 #![tactic(auto)]
 
 mod control;
+mod copies;
 mod definition;
 #[cfg(test)]
 mod examples;

@@ -1,0 +1,7 @@
+-- A book as plain data.
+use Rattle.std.specs.Prelude.{reverse}
+use Rattle.mh_core.specs.declared.book.Book.TheInside.{Inside}
+use Rattle.mh_core.specs.Books.{BookState}
+
+abbrev pub book_state : Inside → BookState
+book_state b = record { definition = b.definition; limits = b.limits; records = reverse b.records.items; world = b.world; calls = b.calls }

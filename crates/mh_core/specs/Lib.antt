@@ -1,0 +1,11 @@
+pub mod Refusals
+pub mod Tests
+pub mod Limits
+pub mod Records
+pub mod Rows
+pub mod Histories
+pub mod Legal
+pub mod Books
+pub mod Codes
+pub mod BookViews
+pub mod MachineViews
