@@ -4,6 +4,8 @@
 
 mod book;
 mod event;
+#[cfg(test)]
+mod examples;
 mod fault;
 mod laws;
 mod limits;
