@@ -1,6 +1,7 @@
 //! Scripts and command lines, with what they write and end with.
 use super::*;
 use std::alloc::Global;
+use std::io::Write;
 use std::test::Fail;
 
 /// Two points, and a site over the first. The keys `key` and `links` are read past.
@@ -818,5 +819,35 @@ fn command_lines(rt: HostRuntime) -> Result<(), Fail> {
         assert_eq!(rt; ran.out.is_empty(), status == 2);
         assert_eq!(rt; ran.err.is_empty(), status == 0);
     }
+    Ok(())
+}
+
+/// A writer that takes every byte, and fails where it is flushed.
+#[derive(Drop)]
+struct Unflushed;
+
+impl Write for Unflushed {
+    fn write(&mut self, buf: &[u8]) -> io::Result<usize> {
+        Ok(buf.len())
+    }
+
+    fn flush(&mut self) -> io::Result<()> {
+        Err(io::Error::from(ErrorKind::Other))
+    }
+}
+
+#[test]
+fn a_failed_last_flush_is_told(rt: HostRuntime) -> Result<(), Fail> {
+    let mut err = Vec::new(rt.alloc());
+    let input = with_events(rt.alloc(), "[[\"call\",0,\"f\",[1]]]")?;
+    let status = command(
+        rt.alloc(),
+        &["mhlink", "run"],
+        input.as_bytes(),
+        Unflushed,
+        &mut err,
+    );
+    assert_eq!(rt; err.as_slice(), "fault 11 WriteFailed at 0\n".as_bytes());
+    assert_eq!(rt; status, 3);
     Ok(())
 }
