@@ -1,2 +1,3 @@
 pub mod Branches
 pub mod FilterRuns
+pub mod SameArguments

@@ -1,6 +1,7 @@
 //! The evaluator.
 
-ghost use Rattle.std.specs.Prelude.{◌≡◌, ◌+◌, ◌<◌, ◌≤◌, ◌∷◌, [], length, IfOk, MatchResult};
+ghost use Rattle.std.specs.Prelude.{◌≡◌, ◌+◌, ◌<◌, ◌≤◌, ◌∷◌, [], length, is_none, IfOk, MatchResult};
+ghost use Rattle.std.specs.List.{list_all};
 ghost use Rattle.mh_tree.specs.Limits.{size, total_size, point_bound};
 ghost use Rattle.mh_tree.specs.Meaning.{mean, steps, filtered, filter_steps};
 ghost use Rattle.mh_tree.specs.Tree.{insert, discard, permute, filter, filter_return, fold, guard, point as point_tree, filters_of};
@@ -153,7 +154,7 @@ fn run_permute(
     Ok((outcome, 1 + steps))
 }
 
-// The target, on the arguments that the filters made.
+// The target, on the arguments that the filters made. Where there is no filter it gets them as they are.
 #[cycle(run)]
 fn run_filter(
     alloc: Global,
@@ -168,6 +169,10 @@ fn run_filter(
     ensures steps { IfOk result (λ r. r.1 ≡ steps valid.now (filter (tree_of target.now) position (filters_of (filter_trees filters.now))) arguments.now) }
     ensures few { IfOk result (λ r. r.1 ≤ size (filter (tree_of target.now) position (filters_of (filter_trees filters.now)))) }
 {
+    if are_absent(filters) {
+        let (outcome, steps) = run(alloc, valid, target, arguments)?;
+        return Ok((outcome, 1 + steps));
+    }
     let (filtered, before) = run_filters(alloc, valid, filters, position, arguments)?;
     let inner = match filtered {
         Ok(inner) => inner,
@@ -305,4 +310,11 @@ fn run_filters(
         }
     }
     Ok((Ok(passed), total))
+}
+
+// Whether there is no filter at any place.
+fn are_absent(filters: &[Option<Node>]) -> bool
+    ensures value { result ≡ list_all is_none filters.now }
+{
+    filters.iter().all(Option::is_none)
 }

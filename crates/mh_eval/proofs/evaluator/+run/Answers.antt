@@ -7,6 +7,7 @@ use Rattle.mh_tree.proofs.LeadingArguments.{filtered_length}
 use Rattle.mh_tree.proofs.Trees.{tree_of_filter}
 use Rattle.mh_eval.proofs.Branches.{guard_mean, guard_steps, fold_mean, fold_steps}
 use Rattle.mh_eval.proofs.FilterRuns.{runs_filters, target_runs}
+use Rattle.mh_eval.proofs.SameArguments.{none_mean, none_steps}
 use Rattle.mh_eval.proofs.evaluator.+run.Goals as goal
 
 pub run_guard-returns-in-Thrown-clause-outcome : goal.run_guard-returns-in-Thrown-clause-outcome
@@ -55,7 +56,20 @@ run_filter-run_filters-requires t c =
     (omega arith, both)
 
 pub run_filter-run-requires : goal.run_filter-run-requires
-run_filter-run-requires t c =
+run_filter-run-requires t c = (omega arith, target_runs _ _ _ _ _ c.requires.can_run)
+
+pub run_filter-returns-then-are_absent-clause-outcome : goal.run_filter-returns-then-are_absent-clause-outcome
+run_filter-returns-then-are_absent-clause-outcome t c =
+    let same = none_mean c.args.valid.now (tree_of c.args.target.now) c.args.position c.args.filters.now c.args.arguments.now (search rules) in
+    rw same (search rules)
+
+pub run_filter-returns-then-are_absent-clause-steps : goal.run_filter-returns-then-are_absent-clause-steps
+run_filter-returns-then-are_absent-clause-steps t c =
+    let same = none_steps c.args.valid.now (tree_of c.args.target.now) c.args.position c.args.filters.now c.args.arguments.now (search rules) in
+    rw same (search rules)
+
+pub run_filter-run-requires-2 : goal.run_filter-run-requires-2
+run_filter-run-requires-2 t c =
     let inner : c.deref.result.now ≡ c.in-Ok.inner.items = c.deref.ensures.value in
     let goes : filtered c.args.valid.now (filters_of (filter_trees c.args.filters.now)) c.args.position c.args.arguments.now ≡ Ok c.in-Ok.inner.items =
     rw c.in-Ok.is at c.in_ok-filtered.ensures.arguments in
