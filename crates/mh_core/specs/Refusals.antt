@@ -1,5 +1,5 @@
--- The numbers of refusals.
-use Rattle.std.specs.Prelude.{ℕ}
+-- The numbers and the names of refusals.
+use Rattle.std.specs.Prelude.{ℕ, List, codes}
 use Rattle.mh_core.specs.declared.refusal.Refusal.{Refusal}
 use Rattle.mh_core.specs.declared.refusal.Refusal.TheVariants.{NoMemory, HistoryFull, NoSite, NoPoint, WrongType, NoWorker}
 
@@ -10,3 +10,12 @@ refusal_number NoSite = 3
 refusal_number NoPoint = 4
 refusal_number WrongType = 5
 refusal_number NoWorker = 13
+
+-- the number and the name
+abbrev pub refusal_text : Refusal → List ℕ
+refusal_text NoMemory = codes "1 NoMemory"
+refusal_text HistoryFull = codes "2 HistoryFull"
+refusal_text NoSite = codes "3 NoSite"
+refusal_text NoPoint = codes "4 NoPoint"
+refusal_text WrongType = codes "5 WrongType"
+refusal_text NoWorker = codes "13 NoWorker"

@@ -18,7 +18,7 @@ pub use book::Book;
 pub use event::Event;
 pub use fault::NoMemory;
 pub use laws::records_look_back;
-pub use limits::Limits;
+pub use limits::{LARGEST_LEDGER, LARGEST_TOTAL, LONGEST_HISTORY, Limits};
 pub use machine::Machine;
 pub use record::Record;
 pub use refusal::Refusal;

@@ -3,28 +3,23 @@
 ghost use Rattle.std.specs.Prelude.{◌≡◌};
 ghost use Rattle.mh_core.specs.Refusals.{refusal_number};
 
-use thiserror::Error;
+use std::error::Error;
+use std::fmt;
 
 /// Why an event was refused. A refused event changes nothing.
-#[derive(Clone, Copy, Debug, PartialEq, Eq, Error)]
+#[derive(Clone, Copy, Debug, PartialEq, Eq)]
 pub enum Refusal {
     /// A growth or a further owner was refused. It is told only where no test fails.
-    #[error("1 NoMemory")]
     NoMemory,
     /// As many events were accepted as may be.
-    #[error("2 HistoryFull")]
     HistoryFull,
     /// A site that is not there.
-    #[error("3 NoSite")]
     NoSite,
     /// A point that is not there.
-    #[error("4 NoPoint")]
     NoPoint,
     /// Arguments that do not fit the site's type, or a tree of another type.
-    #[error("5 WrongType")]
     WrongType,
     /// A worker that is not there.
-    #[error("13 NoWorker")]
     NoWorker,
 }
 
@@ -43,3 +38,23 @@ impl Refusal {
         }
     }
 }
+
+impl fmt::Display for Refusal {
+    ghost use Rattle.mh_core.specs.Refusals.{refusal_text};
+    ghost use Rattle.std.specs.Prelude.{Some};
+
+    ghost output = { λ refusal. Some (refusal_text refusal) };
+
+    fn fmt<W: fmt::Write>(&self, f: &mut fmt::Formatter<W>) -> fmt::Result {
+        match self {
+            Refusal::NoMemory => write!(f, "1 NoMemory"),
+            Refusal::HistoryFull => write!(f, "2 HistoryFull"),
+            Refusal::NoSite => write!(f, "3 NoSite"),
+            Refusal::NoPoint => write!(f, "4 NoPoint"),
+            Refusal::WrongType => write!(f, "5 WrongType"),
+            Refusal::NoWorker => write!(f, "13 NoWorker"),
+        }
+    }
+}
+
+impl Error for Refusal {}

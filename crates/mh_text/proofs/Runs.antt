@@ -9,39 +9,30 @@ use Rattle.std.specs.Str.{IsUtf8, is_utf8}
 use Rattle.serde_json.specs.Data.{Data}
 use Rattle.serde_json.specs.Read.{read}
 use Rattle.mh_text.specs.declared.fault.ReadFault.TheVariants as fault
-use Rattle.mh_text.specs.declared.event.Event.{Event}
-use Rattle.mh_text.specs.declared.reply.Reply.{Reply}
+use Rattle.mh_core.specs.declared.event.Event.{Event}
+use Rattle.mh_core.specs.declared.reply.Reply.{Reply}
 use Rattle.mh_text.specs.Lines.{line_of, lines_of}
-use Rattle.mh_text.specs.Legal.{MachineState, Step, Run}
+use Rattle.mh_core.specs.Legal.{Setting, MachineState, Step, Run}
+use Rattle.mh_core.proofs.Runs.{run_more}
 use Rattle.mh_text.specs.declared.fault.Fault.{Fault}
 use Rattle.mh_text.specs.declared.script.Script.{Script}
 use Rattle.mh_text.specs.Output.{json_in, first, EndsIn, EndsEarly, IsEnd}
 
--- a run, and one step more
-run_push : (old : MachineState) (events : List Event) (replies : List Reply) (mid : MachineState) (event : Event) (reply : Reply) (new : MachineState)
-    → Run old events replies mid → Step mid event reply new → Run old (events ++ event ∷ []) (replies ++ reply ∷ []) new
-run_push old [] [] mid event reply new run step = (new, subst (λ s. Step s event reply new) run step, refl)
-run_push old [] (r ∷ rs) mid event reply new run step = absurd run
-run_push old (e ∷ es) [] mid event reply new run step = absurd run
-run_push old (e ∷ es) (r ∷ rs) mid event reply new run step = (run.0, run.1, run_push run.0 es rs mid event reply new run.2 step)
-
-pub run_more : (old : MachineState) (events : List Event) (i : ℕ) (d : Event) (replies : List Reply) (mid : MachineState) (reply : Reply) (new : MachineState)
-    → i < length events → Run old (take i events) replies mid → Step mid (get_or events i d) reply new → Run old (take (i + 1) events) (replies ++ reply ∷ []) new
-run_more old events i d replies mid reply new lt run step =
-    subst (λ es. Run old es (replies ++ reply ∷ []) new) (sym (take_more events i d lt)) (run_push old (take i events) replies mid (get_or events i d) reply new run step)
-
--- the same for the item that a loop has at number i
-pub run_next : (old : MachineState) (events : List Event) (i n : ℕ) (replies : List Reply) (mid : MachineState) (event : Event) (reply : Reply) (new : MachineState)
-    → i ≡ n → (n < length events) × (event ≡ get_or events n event) → Run old (take i events) replies mid → Step mid event reply new → Run old (take (i + 1) events) (replies ++ reply ∷ []) new
-run_next old events i n replies mid event reply new same turn run step =
-    run_more old events i event replies mid reply new (subst (λ k. k < length events) (sym same) turn.0) run
-    (subst (λ e. Step mid e reply new) (turn.1 ∙ ap (λ k. get_or events k event) (sym same)) step)
+-- a run of as many events as a loop has at number i, and a step for the next
+pub run_next : (x start : Setting) (h events : List Event) (i n : ℕ) (replies : List Reply) (mid : List Event) (event : Event) (reply : Reply) (new : List Event)
+    → i ≡ n → (n < length events) × (event ≡ get_or events n event) → Run start h (take i events) replies mid → x ≡ start → Step x mid event reply new
+    → Run start h (take (i + 1) events) (replies ++ reply ∷ []) new
+run_next x start h events i n replies mid event reply new at turn run same step =
+    let inside : i < length events = subst (λ k. k < length events) (sym at) turn.0 in
+    let next = subst (λ e. Step x mid e reply new) (turn.1 ∙ ap (λ k. get_or events k event) (sym at)) step in
+    subst (λ es. Run start h es (replies ++ reply ∷ []) new) (sym (take_more events i event inside))
+    (run_more x start h (take i events) replies (replies ++ reply ∷ []) mid (get_or events i event) reply new run same next refl)
 
 -- a run of as many events as there are
-pub run_whole : (old : MachineState) (events : List Event) (n : ℕ) (replies : List Reply) (new : MachineState)
-    → n ≡ length events → Run old (take n events) replies new → Run old events replies new
-run_whole old events n replies new same run =
-    subst (λ es. Run old es replies new) (ap (λ k. take k events) same ∙ take-length events) run
+pub run_whole : (x : Setting) (h events : List Event) (n : ℕ) (replies : List Reply) (new : List Event)
+    → n ≡ length events → Run x h (take n events) replies new → Run x h events replies new
+run_whole x h events n replies new same run =
+    subst (λ es. Run x h es replies new) (ap (λ k. take k events) same ∙ take-length events) run
 
 pub lines_more : (replies : List Reply) (reply : Reply) → lines_of replies ++ line_of reply ≡ lines_of (replies ++ reply ∷ [])
 lines_more replies reply = flat_map_more line_of [] replies reply

@@ -4,6 +4,8 @@ use Rattle.mh_type.specs.declared.fault.TypeFault.{TypeFault}
 use Rattle.mh_type.specs.declared.fault.TypeFault.TheVariants as type_fault
 use Rattle.mh_tree.specs.declared.fault.TreeFault.{TreeFault}
 use Rattle.mh_tree.specs.declared.fault.TreeFault.TheVariants as tree_fault
+use Rattle.mh_site.specs.declared.fault.DefinitionFault.{DefinitionFault}
+use Rattle.mh_site.specs.declared.fault.DefinitionFault.TheVariants as definition_fault
 use Rattle.mh_text.specs.declared.fault.ReadFault.{ReadFault}
 use Rattle.mh_text.specs.declared.fault.ReadFault.TheVariants.{NoMemory, TooLong, NotJson, BadShape, BadValue, UnknownShared, Tree, Definition, BadType}
 use Rattle.mh_text.specs.declared.fault.TextFault.{TextFault}
@@ -34,6 +36,11 @@ of_tree cause = Tree cause
 abbrev pub of_type : TypeFault → ReadFault
 of_type type_fault.NoMemory = NoMemory
 of_type cause = BadType cause
+
+-- what makes a definition refuses, as a fault of the input
+abbrev pub of_definition : DefinitionFault → ReadFault
+of_definition definition_fault.NoMemory = NoMemory
+of_definition cause = Definition cause
 
 -- what was made, or the cause as a fault of the input
 abbrev pub caused : {A C : Type 0} → (C → ReadFault) → Result A C → Result A ReadFault

@@ -1,16 +1,10 @@
 pub mod Bytes
-pub mod Defined
-pub mod Definitions
 pub mod Gives
-pub mod Histories
-pub mod Kept
-pub mod Legal
 pub mod Lines
 pub mod Names
 pub mod Output
 pub mod Script
 pub mod Shape
 pub mod Shared
-pub mod Tests
 pub mod Trees
 pub mod Values

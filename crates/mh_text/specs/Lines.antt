@@ -7,10 +7,9 @@ use Rattle.mh_type.specs.declared.value.Value.TheVariants.{Int, Long, Boolean, T
 use Rattle.mh_type.specs.declared.outcome.Outcome.{Outcome}
 use Rattle.mh_type.specs.declared.outcome.Outcome.TheVariants.{Value, Thrown}
 use Rattle.mh_type.specs.declared.outcome.Throw.TheVariants.{ArithmeticException, TextTooLong}
-use Rattle.mh_text.specs.declared.reply.Reply.{Reply}
-use Rattle.mh_text.specs.declared.reply.Reply.TheVariants.{Called, Done, Refused}
-use Rattle.mh_text.specs.declared.reply.Refusal.{Refusal}
-use Rattle.mh_text.specs.declared.reply.Refusal.TheVariants.{NoMemory, HistoryFull, NoSite, NoPoint, WrongType, NoWorker}
+use Rattle.mh_core.specs.declared.reply.Reply.{Reply}
+use Rattle.mh_core.specs.declared.reply.Reply.TheVariants.{Called, Done, Refused}
+use Rattle.mh_core.specs.Refusals.{refusal_text}
 
 -- a byte between quotes: 34 is a quote, 92 a backslash, and each has a backslash before it
 abbrev pub escaped : ℕ → List ℕ
@@ -34,20 +33,11 @@ outcome_text (Value value) = value_text value
 outcome_text (Thrown ArithmeticException) = codes "thrown ArithmeticException"
 outcome_text (Thrown TextTooLong) = codes "thrown TextTooLong"
 
--- why an event was refused: the number and the name
-abbrev pub refusal_text : Refusal → List ℕ
-refusal_text NoMemory = codes "refused 1 NoMemory"
-refusal_text HistoryFull = codes "refused 2 HistoryFull"
-refusal_text NoSite = codes "refused 3 NoSite"
-refusal_text NoPoint = codes "refused 4 NoPoint"
-refusal_text WrongType = codes "refused 5 WrongType"
-refusal_text NoWorker = codes "refused 13 NoWorker"
-
 -- a reply
 abbrev pub reply_text : Reply → List ℕ
 reply_text (Called outcome steps) = outcome_text outcome
 reply_text Done = codes "ok"
-reply_text (Refused refusal) = refusal_text refusal
+reply_text (Refused refusal) = codes "refused " ++ refusal_text refusal
 
 -- a reply, and the byte 0x0A
 abbrev pub line_of : Reply → List ℕ

@@ -9,12 +9,12 @@ use Rattle.mh_text.specs.declared.fault.ReadFault.{ReadFault}
 use Rattle.mh_text.specs.declared.fault.ReadFault.TheVariants as read_fault
 use Rattle.mh_text.specs.declared.fault.TextFault.{TextFault}
 use Rattle.mh_text.specs.declared.fault.TextFault.TheVariants as fault
-use Rattle.mh_text.specs.declared.event.Event.{Event}
-use Rattle.mh_text.specs.declared.reply.Reply.{Reply}
+use Rattle.mh_core.specs.declared.event.Event.{Event}
+use Rattle.mh_core.specs.declared.reply.Reply.{Reply}
 use Rattle.mh_text.specs.declared.script.Script.{Script}
 use Rattle.mh_text.specs.Gives.{◌>>=◌, or_fault, at_place}
 use Rattle.mh_text.specs.Lines.{line_of, lines_of}
-use Rattle.mh_text.specs.Legal.{MachineState, Run, start}
+use Rattle.mh_core.specs.Legal.{MachineState, Run, opened_machine}
 use Rattle.mh_text.specs.Script.{script_of}
 
 -- the JSON value of an input
@@ -34,20 +34,20 @@ script_of_input input = if nat_le (length input) 1048576 then script_in input el
 -- the lines of a whole run of these events were appended
 abbrev pub AppendsRun : MachineState → List Event → Option (List ℕ) → Option (List ℕ) → Type 0
 AppendsRun first events old new =
-    (replies : List Reply) × (last : MachineState) × Run first events replies last × Appends old new (lines_of replies)
+    (replies : List Reply) × (last : List Event) × Run first.setting first.history events replies last × Appends old new (lines_of replies)
 
 -- The run ended in event n: the lines of the events before it were appended, and a beginning of its own line.
 abbrev pub EndsIn : MachineState → List Event → ℕ → Option (List ℕ) → Option (List ℕ) → Type 0
 EndsIn first events n old new =
-    (replies : List Reply) × (reply : Reply) × (last : MachineState) × (front : List ℕ) × (rest : List ℕ)
+    (replies : List Reply) × (reply : Reply) × (last : List Event) × (front : List ℕ) × (rest : List ℕ)
     × (n ≡ length replies + 1)
-    × Run first (take n events) (replies ++ reply ∷ []) last
+    × Run first.setting first.history (take n events) (replies ++ reply ∷ []) last
     × (line_of reply ≡ front ++ rest)
     × Appends old new (lines_of replies ++ front)
 
 -- a machine before its first event, for a script
 abbrev pub first : Script → MachineState
-first script = start script.definition script.workers
+first script = opened_machine script.definition script.workers script.limits
 
 -- what may end a run early: memory, or a write that failed
 abbrev pub IsEnd : Bool → TextFault → Type 0

@@ -1,25 +1,32 @@
 -- The script that a JSON value is.
-use Rattle.std.specs.Prelude.{ℕ, ◌^◌, ◌-◌, List, [], ◌∷◌, Result, Ok, Err, codes, fold, if◌then◌else◌, ◌==◌}
+use Rattle.std.specs.Prelude.{ℕ, ◌^◌, ◌-◌, ◌&&◌, List, [], ◌∷◌, length, nat_lt, nat_le, Option, Some, None, option_and_then, is_some, Result, Ok, Err, codes, fold, if◌then◌else◌, ◌==◌}
+use Rattle.std.specs.List.{slice_get}
 use Rattle.std.specs.Str.{bytes_eq}
 use Rattle.serde_json.specs.Data.{Data}
+use Rattle.serde_json.specs.Find.{get, as_null, as_object}
 use Rattle.mh_type.specs.declared.kind.Kind.{Kind}
+use Rattle.mh_type.specs.Signature.{Signature}
+use Rattle.mh_site.specs.declared.point.Point.{Point}
+use Rattle.mh_site.specs.declared.link.Link.{Link}
+use Rattle.mh_site.specs.declared.site.Site.{Site}
+use Rattle.mh_site.specs.Defined.{DefinitionData, site_at}
+use Rattle.mh_site.specs.Definitions.{definition_made}
+use Rattle.mh_core.specs.declared.event.Event.{Event}
+use Rattle.mh_core.specs.declared.event.Event.TheVariants.{Call, Target, Invalidate}
+use Rattle.mh_core.specs.Limits.{LimitsData}
 use Rattle.mh_text.specs.declared.fault.Fault.{Fault}
 use Rattle.mh_text.specs.declared.fault.ReadFault.{ReadFault}
-use Rattle.mh_text.specs.declared.fault.ReadFault.TheVariants.{BadShape, Definition}
-use Rattle.mh_text.specs.Defined.{DefinitionData}
-use Rattle.mh_text.specs.declared.definition.Point.{Point}
-use Rattle.mh_text.specs.declared.definition.Site.{Site}
-use Rattle.mh_text.specs.declared.event.Event.{Event}
-use Rattle.mh_text.specs.declared.event.Event.TheVariants.{Call, Target, Invalidate}
+use Rattle.mh_text.specs.declared.fault.ReadFault.TheVariants.{BadShape}
+use Rattle.mh_text.specs.declared.declarations.Declarations.{Declarations}
 use Rattle.mh_text.specs.declared.scope.Scope.{Scope}
+use Rattle.mh_text.specs.declared.script.Schedule.{Schedule}
 use Rattle.mh_text.specs.declared.script.Script.{Script}
-use Rattle.mh_text.specs.Definitions.{definition_made}
-use Rattle.mh_text.specs.Gives.{◌>>=◌, at_place, caused}
-use Rattle.mh_text.specs.Names.{with_name}
+use Rattle.mh_text.specs.Gives.{◌>>=◌, at_place, caused, of_definition}
+use Rattle.mh_text.specs.Names.{with_name, place_of}
 use Rattle.mh_text.specs.Shape.{list_of, text_of, member_of, count_of, each_from, each_of}
 use Rattle.mh_text.specs.Shared.{scope_of}
 use Rattle.mh_text.specs.Trees.{declared_of, point_place}
-use Rattle.mh_text.specs.Values.{type_of, values_for}
+use Rattle.mh_text.specs.Values.{type_of, value_for, values_for}
 
 -- a point: its name, then its cost
 abbrev pub point_of : Data → Result Point ReadFault
@@ -34,21 +41,71 @@ point_of d = do
 abbrev pub names_of : List Point → List (List ℕ)
 names_of points = fold (λ names p. with_name names p.name) [] points
 
--- a site: its name, its type, its target
+-- the name of a point, as its number
+abbrev pub named_point_of : List (List ℕ) → Data → Result ℕ ReadFault
+named_point_of points d = do
+  name ← text_of d
+  Ok (point_place points name)
+
+-- [POINT..]
+abbrev pub named_points_of : List (List ℕ) → Data → Result (List ℕ) ReadFault
+named_points_of points d = do
+  names ← list_of d
+  each_of (named_point_of points) names
+
+-- a link: its key, read as of the kind of the key place, its weight, its needs
+abbrev pub link_of : List (List ℕ) → Option Kind → Data → Result Link ReadFault
+link_of points kind d = do
+  when ← member_of (codes "when") d
+  when ← value_for kind when
+  weight ← member_of (codes "weight") d
+  weight ← count_of (2 ^ 63 - 1) weight
+  needs ← member_of (codes "needs") d
+  needs ← named_points_of points needs
+  Ok (record { when = when; weight = weight; needs = needs })
+
+-- what stands at the key, which may be absent
+abbrev pub links_where : List (List ℕ) → Option Kind → Option Data → Result (List Link) ReadFault
+links_where points kind None = Ok []
+links_where points kind (Some d) = do
+  links ← list_of d
+  each_of (link_of points kind) links
+
+abbrev pub links_of : List (List ℕ) → Option Kind → Data → Result (List Link) ReadFault
+links_of points kind site = links_where points kind (get (codes "links") site)
+
+-- a place, or none where the value is null
+abbrev pub place_or_none : Data → Result (Option ℕ) ReadFault
+place_or_none d = if is_some (as_null d) then Ok None else (count_of (2 ^ 63 - 1) d >>= λ place. Ok (Some place))
+
+-- the key place, which may be absent
+abbrev pub key_where : Option Data → Result (Option ℕ) ReadFault
+key_where None = Ok None
+key_where (Some d) = place_or_none d
+
+abbrev pub key_of : Data → Result (Option ℕ) ReadFault
+key_of site = key_where (get (codes "key") site)
+
+-- the kind of the parameter at the key place, where there is one
+abbrev pub key_kind : Signature → Option ℕ → Option Kind
+key_kind method_type key = option_and_then (slice_get method_type.parameters) key
+
+-- a site: its name, its type, its key place, its target, its links
 abbrev pub site_of : Scope → Data → Result Site ReadFault
 site_of scope d = do
   name ← member_of (codes "name") d
   name ← text_of name
   method_type ← member_of (codes "type") d
   method_type ← type_of method_type
+  key ← key_of d
   target ← member_of (codes "target") d
   target ← declared_of scope target
-  Ok (record { name = name; method_type = method_type; target = target })
+  links ← links_of scope.points (key_kind method_type key) d
+  Ok (record { name = name; method_type = method_type; key = key; target = target; links = links })
 
--- the one item of a list
-abbrev pub only : List Data → Result Data ReadFault
-only (d ∷ []) = Ok d
-only _ = Err BadShape
+-- the names of the sites, by number
+abbrev pub site_names_of : List Site → List (List ℕ)
+site_names_of sites = fold (λ names s. with_name names s.name) [] sites
 
 -- the version, which is the number 1
 abbrev pub version_of : Data → Result ℕ ReadFault
@@ -64,25 +121,24 @@ points_of d = do
   points ← list_of points
   each_of point_of points
 
--- the one site of a definition
-abbrev pub only_site_of : Scope → Data → Result Site ReadFault
-only_site_of scope d = do
+-- the sites of a definition
+abbrev pub sites_of : Scope → Data → Result (List Site) ReadFault
+sites_of scope d = do
   sites ← member_of (codes "sites") d
   sites ← list_of sites
-  site ← only sites
-  site_of scope site
+  each_of (site_of scope) sites
 
--- The version, the points, the shared trees, the site, and then the faults of the definition that they make. The names
--- that trees may use go on to the events.
-abbrev pub definition_of : Data → Result (DefinitionData × Scope) ReadFault
-definition_of d = do
+-- The version, the points, the shared trees, the sites, and then the faults of the definition that they make. The names
+-- go on to the events.
+abbrev pub declarations_of : Data → Result Declarations ReadFault
+declarations_of d = do
   definition ← member_of (codes "definition") d
   version ← version_of definition
   points ← points_of definition
   scope ← scope_of (names_of points) definition
-  site ← only_site_of scope definition
-  definition ← caused Definition (definition_made points site)
-  Ok (definition, scope)
+  sites ← sites_of scope definition
+  definition ← caused of_definition (definition_made points sites)
+  Ok (record { definition = definition; scope = scope; sites = site_names_of definition.sites })
 
 -- the number of workers: 1 to 64
 abbrev pub workers_of : Data → Result ℕ ReadFault
@@ -91,77 +147,100 @@ workers_of d = do
   workers ← count_of 64 workers
   if workers == 0 then Err BadShape else Ok workers
 
--- the number of a site: 0, or 1 where no site has the name
-abbrev pub site_place : Site → List ℕ → ℕ
-site_place site name = if bytes_eq site.name name then 0 else 1
+-- a limit, which is the greatest where it is absent
+abbrev pub limit_where : ℕ → Option Data → Result ℕ ReadFault
+limit_where greatest None = Ok greatest
+limit_where greatest (Some d) = count_of (2 ^ 63 - 1) d
 
--- the parameters of a site that is named, none where no site has the name
-abbrev pub parameters_at : Site → List ℕ → List Kind
-parameters_at site name = if bytes_eq site.name name then site.method_type.parameters else []
+abbrev pub limit_of : List ℕ → ℕ → Data → Result ℕ ReadFault
+limit_of key greatest d = limit_where greatest (get key d)
+
+-- at most 2^20 events, 1 to 2^20 hits in a ledger, and at most 2^40 in the totals
+abbrev pub limits_made : ℕ → ℕ → ℕ → Result LimitsData ReadFault
+limits_made history ledger total = if nat_le history (2 ^ 20) && (nat_lt 0 ledger && nat_le ledger (2 ^ 20)) && nat_le total (2 ^ 40) then Ok (record { history = history; ledger = ledger; total = total }) else Err BadShape
+
+abbrev pub limits_in : Data → Result LimitsData ReadFault
+limits_in d = if is_some (as_object d) then (do
+  history ← limit_of (codes "history") (2 ^ 20) d
+  ledger ← limit_of (codes "ledger") (2 ^ 20) d
+  total ← limit_of (codes "total") (2 ^ 40) d
+  limits_made history ledger total) else Err BadShape
+
+-- the limits, which may be absent
+abbrev pub limits_where : Option Data → Result LimitsData ReadFault
+limits_where None = limits_made (2 ^ 20) (2 ^ 20) (2 ^ 40)
+limits_where (Some d) = limits_in d
+
+abbrev pub limits_of : Data → Result LimitsData ReadFault
+limits_of d = limits_where (get (codes "limits") d)
+
+-- the parameters of a site, none past the last
+abbrev pub parameters_at : DefinitionData → ℕ → List Kind
+parameters_at d s = if nat_lt s (length d.sites) then (site_at d s).method_type.parameters else []
 
 -- w, SITE, [VALUE..]
-abbrev pub call_from : Site → List Data → Result Event ReadFault
-call_from site (worker ∷ name ∷ values ∷ []) = do
+abbrev pub call_from : Declarations → List Data → Result Event ReadFault
+call_from declared (worker ∷ name ∷ values ∷ []) = do
   worker ← count_of (2 ^ 32 - 1) worker
   name ← text_of name
   values ← list_of values
-  values ← values_for (parameters_at site name) values
-  Ok (Call worker (site_place site name) values)
-call_from site _ = Err BadShape
+  values ← values_for (parameters_at declared.definition (place_of declared.sites name)) values
+  Ok (Call worker (place_of declared.sites name) values)
+call_from declared _ = Err BadShape
 
 -- SITE, TREE
-abbrev pub target_from : Scope → Site → List Data → Result Event ReadFault
-target_from scope site (name ∷ tree ∷ []) = do
+abbrev pub target_from : Declarations → List Data → Result Event ReadFault
+target_from declared (name ∷ tree ∷ []) = do
   name ← text_of name
-  tree ← declared_of scope tree
-  Ok (Target (site_place site name) tree)
-target_from scope site _ = Err BadShape
-
--- the name of a point, as its number
-abbrev pub named_point_of : List (List ℕ) → Data → Result ℕ ReadFault
-named_point_of points d = do
-  name ← text_of d
-  Ok (point_place points name)
+  tree ← declared_of declared.scope tree
+  Ok (Target (place_of declared.sites name) tree)
+target_from declared _ = Err BadShape
 
 -- [POINT..]
 abbrev pub invalidate_from : List (List ℕ) → List Data → Result Event ReadFault
 invalidate_from points (names ∷ []) = do
-  names ← list_of names
-  places ← each_of (named_point_of points) names
+  places ← named_points_of points names
   Ok (Invalidate places)
 invalidate_from points _ = Err BadShape
 
 -- what a word heads
-abbrev pub event_named : Scope → Site → List ℕ → List Data → Result Event ReadFault
-event_named scope site word args = if bytes_eq word (codes "call") then call_from site args else (if bytes_eq word (codes "target") then target_from scope site args else (if bytes_eq word (codes "invalidate") then invalidate_from scope.points args else Err BadShape))
+abbrev pub event_named : Declarations → List ℕ → List Data → Result Event ReadFault
+event_named declared word args = if bytes_eq word (codes "call") then call_from declared args else (if bytes_eq word (codes "target") then target_from declared args else (if bytes_eq word (codes "invalidate") then invalidate_from declared.scope.points args else Err BadShape))
 
 -- a word, and what it heads
-abbrev pub event_from : Scope → Site → List Data → Result Event ReadFault
-event_from scope site [] = Err BadShape
-event_from scope site (head ∷ args) = do
+abbrev pub event_from : Declarations → List Data → Result Event ReadFault
+event_from declared [] = Err BadShape
+event_from declared (head ∷ args) = do
   word ← text_of head
-  event_named scope site word args
+  event_named declared word args
 
-abbrev pub event_of : Scope → Site → Data → Result Event ReadFault
-event_of scope site d = do
+abbrev pub event_of : Declarations → Data → Result Event ReadFault
+event_of declared d = do
   parts ← list_of d
-  event_from scope site parts
+  event_from declared parts
 
 -- the events, of which the first has the number 1
-abbrev pub events_of : Scope → Site → List Data → Result (List Event) Fault
-events_of scope site ds = each_from (λ n d. at_place n (event_of scope site d)) 1 ds
+abbrev pub events_of : Declarations → List Data → Result (List Event) Fault
+events_of declared ds = each_from (λ n d. at_place n (event_of declared d)) 1 ds
 
--- the events of a script of this definition
-abbrev pub event_list_of : Scope → DefinitionData → Data → Result (List Event) Fault
-event_list_of scope definition d = do
+-- the events of a script that declares this
+abbrev pub event_list_of : Declarations → Data → Result (List Event) Fault
+event_list_of declared d = do
   events ← at_place 0 (member_of (codes "events") d)
   events ← at_place 0 (list_of events)
-  events_of scope definition.site events
+  events_of declared events
 
--- the definition, the workers, the events
+-- the workers, the limits, the events
+abbrev pub schedule_of : Declarations → Data → Result Schedule Fault
+schedule_of declared d = do
+  workers ← at_place 0 (workers_of d)
+  limits ← at_place 0 (limits_of d)
+  events ← event_list_of declared d
+  Ok (record { workers = workers; limits = limits; events = events })
+
+-- what is declared, and what is asked
 abbrev pub script_of : Data → Result Script Fault
 script_of d = do
-  declared ← at_place 0 (definition_of d)
-  workers ← at_place 0 (workers_of d)
-  events ← event_list_of declared.1 declared.0 d
-  Ok (record { definition = declared.0; workers = workers; events = events })
+  declared ← at_place 0 (declarations_of d)
+  schedule ← schedule_of declared d
+  Ok (record { definition = declared.definition; workers = schedule.workers; limits = schedule.limits; events = schedule.events })

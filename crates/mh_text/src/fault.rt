@@ -1,9 +1,10 @@
 //! Why an input could not be read or its lines not be written.
 ghost use Rattle.std.specs.Prelude.{◌≡◌};
 ghost use Rattle.mh_text.specs.declared.fault.TextFault.TheVariants as text;
-ghost use Rattle.mh_text.specs.Gives.{of_tree, of_type, told};
+ghost use Rattle.mh_text.specs.Gives.{of_tree, of_type, of_definition, told};
 
-use crate::definition::DefinitionFault;
+use mh_core::NoMemory;
+use mh_site::DefinitionFault;
 use mh_tree::TreeFault;
 use mh_type::TypeFault;
 use std::alloc::{AllocError, AllocFailed};
@@ -67,13 +68,13 @@ impl From<TreeFault> for ReadFault {
 }
 
 impl From<DefinitionFault> for ReadFault {
-    ghost use Rattle.std.specs.Prelude.{◌≡◌};
-    ghost use Rattle.mh_text.specs.declared.fault.ReadFault.TheVariants.{Definition};
-
-    ghost from_gives = { λ cause e. e ≡ Definition cause };
+    ghost from_gives = { λ cause e. e ≡ of_definition cause };
 
     fn from(cause: DefinitionFault) -> ReadFault {
-        ReadFault::Definition(cause)
+        match cause {
+            DefinitionFault::NoMemory => ReadFault::NoMemory,
+            _ => ReadFault::Definition(cause),
+        }
     }
 }
 
@@ -177,6 +178,17 @@ impl From<AllocError> for Fault {
     ghost from_gives = { λ _ e. e ≡ record { kind = text.NoMemory; at = 0 } };
 
     fn from(_e: AllocError) -> Fault {
+        Fault {
+            kind: TextFault::NoMemory,
+            at: 0,
+        }
+    }
+}
+
+impl From<NoMemory> for Fault {
+    ghost from_gives = { λ _ e. e ≡ record { kind = text.NoMemory; at = 0 } };
+
+    fn from(_e: NoMemory) -> Fault {
         Fault {
             kind: TextFault::NoMemory,
             at: 0,

@@ -1,17 +1,16 @@
 //! Scripts from JSON, and the lines of their replies.
 #![tactic(auto)]
 
-mod definition;
-mod event;
+mod declarations;
 mod events;
 mod fault;
 mod input;
 mod leaves;
+mod limits;
 mod lines;
-mod machine;
+mod links;
 mod names;
 mod points;
-mod reply;
 mod run;
 mod scope;
 mod script;
@@ -22,8 +21,6 @@ mod trees;
 mod values;
 mod watched;
 
-pub use definition::{Definition, DefinitionFault, Point, Site};
-pub use event::Event;
 pub use fault::{Fault, TextFault};
 pub use run::run_bytes;
 pub use script::{Script, read_script};

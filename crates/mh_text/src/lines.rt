@@ -1,30 +1,11 @@
 //! Lines of text: one for each reply.
 ghost use Rattle.std.specs.Prelude.{◌≡◌, ◌++◌, string_bytes, IfOk, OnOk, All, ◌<◌};
 ghost use Rattle.mh_type.specs.declared.value.Value.TheVariants as variant;
-ghost use Rattle.mh_text.specs.Lines.{quoted, value_text, outcome_text, reply_text, refusal_text, line_of};
+ghost use Rattle.mh_text.specs.Lines.{quoted, value_text, outcome_text, reply_text, line_of};
 
-use crate::reply::{Refusal, Reply};
+use mh_core::Reply;
 use mh_type::{Outcome, Text, Throw, Value};
 use std::alloc::{AllocError, Global};
-use std::fmt;
-
-impl fmt::Display for Refusal {
-    ghost use Rattle.mh_text.specs.Lines.{refusal_text};
-    ghost use Rattle.std.specs.Prelude.{Some};
-
-    ghost output = { λ refusal. Some (refusal_text refusal) };
-
-    fn fmt<W: fmt::Write>(&self, f: &mut fmt::Formatter<W>) -> fmt::Result {
-        match self {
-            Refusal::NoMemory => write!(f, "refused 1 NoMemory"),
-            Refusal::HistoryFull => write!(f, "refused 2 HistoryFull"),
-            Refusal::NoSite => write!(f, "refused 3 NoSite"),
-            Refusal::NoPoint => write!(f, "refused 4 NoPoint"),
-            Refusal::WrongType => write!(f, "refused 5 WrongType"),
-            Refusal::NoWorker => write!(f, "refused 13 NoWorker"),
-        }
-    }
-}
 
 /// Appends a text of ASCII between quotes, with a backslash before each quote and backslash.
 fn push_quoted(out: &mut String, text: &[u8]) -> Result<(), AllocError>
@@ -74,7 +55,7 @@ fn reply_line(alloc: Global, reply: &Reply) -> Result<String, AllocError>
             Outcome::Thrown(Throw::TextTooLong) => format!(in alloc; "thrown TextTooLong"),
         },
         Reply::Done => format!(in alloc; "ok"),
-        Reply::Refused(refusal) => format!(in alloc; "{refusal}"),
+        Reply::Refused(refusal) => format!(in alloc; "refused {refusal}"),
     }
 }
 

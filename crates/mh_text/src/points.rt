@@ -2,13 +2,13 @@
 ghost use Rattle.std.specs.Prelude.{◌≡◌, IfOk};
 ghost use Rattle.serde_json.specs.View.{view};
 ghost use Rattle.mh_text.specs.Gives.{Gives};
-ghost use Rattle.mh_text.specs.Script.{point_of, points_of, names_of};
+ghost use Rattle.mh_text.specs.Script.{point_of, points_of, names_of, named_point_of, named_points_of};
 
-use crate::definition::Point;
 use crate::fault::ReadFault;
 use crate::names::Names;
+use crate::scope::Scope;
 use crate::shape::{MOST, count, each, list, member, text};
-use mh_site::{Listing, Name};
+use mh_site::{Listing, Name, Point};
 use serde_json::Value;
 use std::alloc::{AllocError, Global};
 
@@ -37,4 +37,21 @@ pub(crate) fn number_names(alloc: Global, points: &[Point]) -> Result<Names, All
         names.add(point.name.as_str())?;
     }
     Ok(names)
+}
+
+fn read_named_point(scope: &Scope, value: &Value) -> Result<u32, ReadFault>
+    ensures value { Gives (λ x. x) result (named_point_of scope.now.points (view value.now)) }
+{
+    Ok(scope.point_number(text(value)?))
+}
+
+/// The numbers of points that are named in a list.
+pub(crate) fn read_named_points(
+    alloc: Global,
+    scope: &Scope,
+    value: &Value,
+) -> Result<Listing<u32>, ReadFault>
+    ensures value { Gives (λ x. x) result (named_points_of scope.now.points (view value.now)) }
+{
+    each(alloc, list(value)?, |name| read_named_point(scope, name))
 }

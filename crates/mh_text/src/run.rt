@@ -2,20 +2,18 @@
 ghost use Rattle.std.specs.Prelude.{◌≡◌, Ok, IfOk, IfErr, OnOk, IfSome, MatchResult};
 ghost use Rattle.std.specs.Io.KnownBytes.{Appends};
 ghost use Rattle.mh_text.specs.declared.script.Script.{Script};
-ghost use Rattle.mh_text.specs.declared.reply.Reply.{Reply};
+ghost use Rattle.mh_core.specs.declared.reply.Reply.{Reply};
 ghost use Rattle.mh_text.specs.Bytes.{AppendsFront};
 ghost use Rattle.mh_text.specs.Lines.{line_of};
-ghost use Rattle.mh_text.specs.Legal.{Step};
+ghost use Rattle.mh_core.specs.Legal.{Step};
 ghost use Rattle.mh_text.specs.Output.{script_of_input, first, AppendsRun, EndsIn, EndsEarly, IsUnread, Failed, IsEnd};
 
-use crate::event::Event;
 use crate::fault::{Fault, TextFault};
 use crate::input::read_input;
 use crate::lines::line;
-use crate::machine::Machine;
-use crate::reply::Reply;
 use crate::script::{Script, read_script};
 use crate::watched::Watched;
+use mh_core::{Event, Machine, Reply};
 use std::alloc::Global;
 use std::io::{Read, Write};
 
@@ -51,10 +49,11 @@ fn write_event<W: Write>(
     at: u64,
     writer: &mut Watched<W>,
 ) -> Result<(), Fault>
-    ensures step { (reply : Reply) × Step machine.old event reply machine.new
+    ensures step { (reply : Reply) × Step machine.old.setting machine.old.history event reply machine.new.history
         × MatchResult result
         (λ _. Appends (W.contents writer.old.inner) (W.contents writer.new.inner) (line_of reply))
         (λ e. (e.at ≡ at) × AppendsFront (W.contents writer.old.inner) (W.contents writer.new.inner) (line_of reply)) }
+    ensures setting { machine.new.setting ≡ machine.old.setting }
     ensures kind { IfErr result (λ e. IsEnd writer.new.failed e.kind) }
 {
     let reply = machine.step(event);
@@ -95,8 +94,14 @@ fn run_script<W: Write>(alloc: Global, script: Script, writer: &mut Watched<W>) 
     ensures ok { OnOk result (AppendsRun (first script) script.events (W.contents writer.old.inner) (W.contents writer.new.inner)) }
     ensures failed { IfErr result (EndsEarly script (W.contents writer.old.inner) (W.contents writer.new.inner) writer.new.failed) }
 {
-    let machine = Machine::open(alloc, script.definition, script.workers)?;
-    run_events(alloc, machine, script.events.into_vec(), writer)
+    let Script {
+        definition,
+        workers,
+        limits,
+        events,
+    } = script;
+    let machine = Machine::open(alloc, &definition, workers, limits)?;
+    run_events(alloc, machine, events.into_vec(), writer)
 }
 
 /// Runs the script that the reader gives, and writes the line of each reply.

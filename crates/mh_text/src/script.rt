@@ -2,20 +2,20 @@
 ghost use Rattle.std.specs.Prelude.{◌≡◌};
 ghost use Rattle.serde_json.specs.View.{view};
 ghost use Rattle.mh_text.specs.Gives.{Gives, GivesAt};
-ghost use Rattle.mh_text.specs.Script.{version_of, definition_of, workers_of, event_list_of, script_of};
+ghost use Rattle.mh_text.specs.Script.{version_of, declarations_of, workers_of, event_list_of, schedule_of, script_of};
 ghost use Rattle.mh_text.specs.Output.{json_in, script_in, script_of_input};
 
-use crate::definition::Definition;
-use crate::event::Event;
+use crate::declarations::Declarations;
 use crate::events::read_events;
 use crate::fault::{Fault, ReadFault, TextFault};
 use crate::input::LIMIT;
+use crate::limits::read_limits;
 use crate::points::{number_names, read_points};
-use crate::scope::Scope;
 use crate::shape::{count, list, member};
 use crate::shared::read_scope;
-use crate::site::read_site;
-use mh_site::Listing;
+use crate::site::{read_sites, site_names};
+use mh_core::{Event, Limits};
+use mh_site::{Definition, Listing};
 use serde_json::Value;
 use std::alloc::Global;
 
@@ -27,6 +27,15 @@ const MOST_WORKERS: u64 = 64;
 pub struct Script {
     pub definition: Definition,
     pub workers: u32,
+    pub limits: Limits,
+    pub events: Listing<Event>,
+}
+
+/// How many workers a script has, its limits and its events.
+#[derive(Drop)]
+pub struct Schedule {
+    pub workers: u32,
+    pub limits: Limits,
     pub events: Listing<Event>,
 }
 
@@ -40,18 +49,23 @@ fn read_version(definition: &Value) -> Result<u64, ReadFault>
     Ok(version)
 }
 
-/// The definition, and the names that its trees may use.
-fn read_definition(alloc: Global, value: &Value) -> Result<(Definition, Scope), ReadFault>
-    ensures value { Gives (λ x. x) result (definition_of (view value.now)) }
+/// What a script declares.
+fn read_declarations(alloc: Global, value: &Value) -> Result<Declarations, ReadFault>
+    ensures value { Gives (λ x. x) result (declarations_of (view value.now)) }
 {
     let definition = member(value, "definition")?;
     read_version(definition)?;
     let points = read_points(alloc, definition)?;
     let names = number_names(alloc, points.as_slice())?;
     let scope = read_scope(alloc, names, definition)?;
-    let site = read_site(alloc, &scope, definition)?;
-    let definition = Definition::new(points, site)?;
-    Ok((definition, scope))
+    let sites = read_sites(alloc, &scope, definition)?;
+    let definition = Definition::new(points, sites)?;
+    let sites = site_names(alloc, definition.sites())?;
+    Ok(Declarations {
+        definition,
+        scope,
+        sites,
+    })
 }
 
 fn read_workers(value: &Value) -> Result<u32, ReadFault>
@@ -66,26 +80,49 @@ fn read_workers(value: &Value) -> Result<u32, ReadFault>
 
 fn read_event_list(
     alloc: Global,
-    scope: &Scope,
-    definition: &Definition,
+    declared: &Declarations,
     value: &Value,
 ) -> Result<Listing<Event>, Fault>
-    ensures value { GivesAt (λ x. x) result (event_list_of scope.now definition.now (view value.now)) }
+    ensures value { GivesAt (λ x. x) result (event_list_of declared.now (view value.now)) }
 {
     let events = list(member(value, "events")?)?;
-    read_events(alloc, scope, definition.site(), events)
+    read_events(alloc, declared, events)
+}
+
+/// What is asked of the sites that are declared.
+fn read_schedule(
+    alloc: Global,
+    declared: &Declarations,
+    value: &Value,
+) -> Result<Schedule, Fault>
+    ensures value { GivesAt (λ x. x) result (schedule_of declared.now (view value.now)) }
+{
+    let workers = read_workers(value)?;
+    let limits = read_limits(value)?;
+    let events = read_event_list(alloc, declared, value)?;
+    Ok(Schedule {
+        workers,
+        limits,
+        events,
+    })
 }
 
 /// The script that a JSON value holds, or its first fault in the order of reading.
 fn read_value(alloc: Global, value: &Value) -> Result<Script, Fault>
     ensures value { GivesAt (λ x. x) result (script_of (view value.now)) }
 {
-    let (definition, scope) = read_definition(alloc, value)?;
-    let workers = read_workers(value)?;
-    let events = read_event_list(alloc, &scope, &definition, value)?;
+    let declared = read_declarations(alloc, value)?;
+    let schedule = read_schedule(alloc, &declared, value)?;
+    let Declarations { definition, .. } = declared;
+    let Schedule {
+        workers,
+        limits,
+        events,
+    } = schedule;
     Ok(Script {
         definition,
         workers,
+        limits,
         events,
     })
 }
@@ -113,7 +150,7 @@ fn read_within(alloc: Global, input: &[u8]) -> Result<Script, Fault>
 }
 
 /// The script of an input, or its first fault in the order of reading: its length, JSON, the
-/// definition (version, points, shared trees, site), the workers, the events.
+/// definition (version, points, shared trees, sites), the workers, the limits, the events.
 pub fn read_script(alloc: Global, input: &[u8]) -> Result<Script, Fault>
     ensures value { GivesAt (λ x. x) result (script_of_input input.now) }
 {

@@ -1,57 +1,84 @@
-//! The site of a script.
-ghost use Rattle.std.specs.Prelude.{◌≡◌, [], if◌then◌else◌};
+//! The sites of a script, and their names.
+ghost use Rattle.std.specs.Prelude.{◌≡◌, IfOk};
 ghost use Rattle.serde_json.specs.View.{view};
 ghost use Rattle.mh_text.specs.Gives.{Gives};
-ghost use Rattle.mh_text.specs.Script.{site_of, only_site_of, site_place, parameters_at};
+ghost use Rattle.mh_text.specs.Script.{place_or_none, key_of, key_kind as kind_of_key, site_of, sites_of, site_names_of};
 
-use crate::definition::Site;
 use crate::fault::ReadFault;
+use crate::links::read_links;
+use crate::names::Names;
 use crate::scope::Scope;
-use crate::shape::{list, member, text};
+use crate::shape::{each, list, member, place, text};
 use crate::trees::read_declared;
-use crate::values::read_type;
-use mh_site::Name;
-use mh_type::Kind;
+use crate::values::{kind_at, read_type};
+use mh_site::{Listing, Name, Site};
+use mh_type::{Kind, MethodType};
 use serde_json::Value;
-use std::alloc::Global;
+use std::alloc::{AllocError, Global};
+
+/// A place, or none where the value is null.
+fn read_place_or_none(value: &Value) -> Result<Option<usize>, ReadFault>
+    ensures value { Gives (λ x. x) result (place_or_none (view value.now)) }
+{
+    if value.is_null() {
+        return Ok(None);
+    }
+    Ok(Some(place(value)?))
+}
+
+/// The key place of a site, which may be absent or null.
+fn read_key(site: &Value) -> Result<Option<usize>, ReadFault>
+    ensures value { Gives (λ x. x) result (key_of (view site.now)) }
+{
+    match site.get("key") {
+        Some(key) => read_place_or_none(key),
+        None => Ok(None),
+    }
+}
+
+/// The kind of the parameter at the key place, where there is one.
+fn key_kind(method_type: &MethodType, key: Option<usize>) -> Option<Kind>
+    ensures value { result ≡ kind_of_key method_type.now key }
+{
+    kind_at(method_type.parameters(), key?)
+}
 
 fn read_one(alloc: Global, scope: &Scope, value: &Value) -> Result<Site, ReadFault>
     ensures value { Gives (λ x. x) result (site_of scope.now (view value.now)) }
 {
     let name = Name::new(alloc, text(member(value, "name")?)?)?;
     let method_type = read_type(member(value, "type")?)?;
+    let key = read_key(value)?;
     let target = read_declared(alloc, scope, member(value, "target")?)?;
+    let links = read_links(alloc, scope, key_kind(&method_type, key), value)?;
     Ok(Site {
         name,
         method_type,
+        key,
         target,
+        links,
     })
 }
 
-/// The one site of a definition: its name, its type and its target.
-pub(crate) fn read_site(alloc: Global, scope: &Scope, definition: &Value) -> Result<Site, ReadFault>
-    ensures value { Gives (λ x. x) result (only_site_of scope.now (view definition.now)) }
+/// The sites of a definition, each its name, its type, its key place, its target and its links.
+pub(crate) fn read_sites(
+    alloc: Global,
+    scope: &Scope,
+    definition: &Value,
+) -> Result<Listing<Site>, ReadFault>
+    ensures value { Gives (λ x. x) result (sites_of scope.now (view definition.now)) }
 {
-    let [site] = list(member(definition, "sites")?)? else {
-        return Err(ReadFault::BadShape);
-    };
-    read_one(alloc, scope, site)
+    let sites = list(member(definition, "sites")?)?;
+    each(alloc, sites, |site| read_one(alloc, scope, site))
 }
 
-/// The number of the site that is named: 0, or 1 where no site has the name.
-pub(crate) fn site_number(site: &Site, name: &str) -> usize
-    ensures value { result ≡ site_place site.now name.now }
+/// The names of the sites, by number.
+pub(crate) fn site_names(alloc: Global, sites: &[Site]) -> Result<Names, AllocError>
+    ensures value { IfOk result (λ names. names ≡ site_names_of sites.now) }
 {
-    if site.name.as_str() == name { 0 } else { 1 }
-}
-
-/// The parameters of the site that is named, none where no site has the name.
-pub(crate) fn parameters<'a>(site: &'a Site, name: &str) -> &'a [Kind]
-    ensures value { result.now ≡ parameters_at site.now name.now }
-{
-    if site.name.as_str() == name {
-        site.method_type.parameters()
-    } else {
-        &[]
+    let mut names = Names::new(alloc);
+    for site in sites {
+        names.add(site.name.as_str())?;
     }
+    Ok(names)
 }

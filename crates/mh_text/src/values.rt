@@ -96,7 +96,11 @@ fn read_by_form(alloc: Global, value: &Json) -> Result<Value, ReadFault>
 }
 
 /// A value of the kind that is wanted, where one is, and else by its own form.
-fn read_value(alloc: Global, kind: Option<Kind>, value: &Json) -> Result<Value, ReadFault>
+pub(crate) fn read_value(
+    alloc: Global,
+    kind: Option<Kind>,
+    value: &Json,
+) -> Result<Value, ReadFault>
     ensures value { Gives (λ x. x) result (value_for kind (view value.now)) }
 {
     let Some(kind) = kind else {
@@ -110,7 +114,7 @@ fn read_value(alloc: Global, kind: Option<Kind>, value: &Json) -> Result<Value, 
 }
 
 /// The kind at a place, where there is one.
-fn kind_at(kinds: &[Kind], place: usize) -> Option<Kind>
+pub(crate) fn kind_at(kinds: &[Kind], place: usize) -> Option<Kind>
     ensures value { result ≡ slice_get kinds.now place }
 {
     kinds.get(place).copied()

@@ -5,7 +5,7 @@ use Rattle.clap.specs.Simple.{built, entered, names_of}
 use Rattle.clap.specs.Faults.{built_fault}
 use Rattle.clap.specs.Takes.{built_takes}
 use Rattle.clap.specs.Walk.{nothing_held, stop_after}
-use Rattle.clap.specs.Words.{App, HasKind, HasMatchesOf, Row, Text, app_of, fault_of, is_simple, is_simple_and_free, kind_of, subcommand_name_of, subcommand_of, subcommand_rows, subcommand_rows_of, takes}
+use Rattle.clap.specs.Words.{HasKind, HasMatchesOf, Row, Text, app_of, fault_of, is_simple, is_simple_and_free, kind_of, subcommand_name_of, subcommand_of, subcommand_rows, subcommand_rows_of, takes}
 use Rattle.clap.specs.declared.builder.command.Command.{Command}
 use Rattle.clap.specs.declared.error.Error.{Error}
 use Rattle.clap.specs.declared.error.kind.ErrorKind.{ErrorKind}

@@ -1,13 +1,13 @@
 -- What a run left written stands after a flush, which keeps it.
-use Rattle.std.proofs.Common.{◌≡◌, ◌⊎◌, inl, inr, ℕ, List, ◌++◌, Option, Some, None, Bool, Ok, refl}
+use Rattle.std.proofs.Common.{inl, inr, ℕ, List, ◌++◌, Option, Some, None, Bool}
 use Rattle.std.proofs.KnownBytes.{Appends-kept, Keeps-trans}
 use Rattle.std.specs.Io.KnownBytes.{Keeps}
-use Rattle.mh_text.specs.declared.event.Event.{Event}
+use Rattle.mh_core.specs.declared.event.Event.{Event}
 use Rattle.mh_text.specs.declared.fault.Fault.{Fault}
 use Rattle.mh_text.specs.declared.script.Script.{Script}
-use Rattle.mh_text.specs.Legal.{MachineState}
+use Rattle.mh_core.specs.Legal.{MachineState}
 use Rattle.mh_text.specs.Lines.{lines_of}
-use Rattle.mh_text.specs.Output.{EndsIn, EndsEarly, Failed}
+use Rattle.mh_text.specs.Output.{first, EndsIn, EndsEarly, Failed}
 use Rattle.mhlink.specs.Statuses.{RunsWhole}
 
 module _ (old mid new : Option (List ℕ)) (kept : Keeps mid new) where
@@ -17,7 +17,7 @@ module _ (old mid new : Option (List ℕ)) (kept : Keeps mid new) where
 
   early_kept : (script : Script) (write_failed : Bool) (e : Fault) → EndsEarly script old mid write_failed e → EndsEarly script old new write_failed e
   early_kept script write_failed e (inl (same, memory)) = inl (Keeps-trans old mid new same kept, memory)
-  early_kept script write_failed e (inr (end, ends)) = inr (end, ends_kept _ _ _ ends)
+  early_kept script write_failed e (inr (end, ends)) = inr (end, ends_kept (first script) _ _ ends)
 
   pub failed_kept : (input : Option (List ℕ)) (read_failed write_failed : Bool) (e : Fault) → Failed input old mid read_failed write_failed e → Failed input old new read_failed write_failed e
   failed_kept input read_failed write_failed e (inl (same, unread)) = inl (Keeps-trans old mid new same kept, unread)

@@ -4,7 +4,7 @@ use std::alloc::Global;
 use std::io::Write;
 use std::test::Fail;
 
-/// Two points, and a site over the first. The keys `key` and `links` are read past.
+/// Two points, and a site over the first with two links.
 const DEFINITION: &str =
     "{\"version\":1,\"points\":[{\"name\":\"a\",\"cost\":5},{\"name\":\"b\",\"cost\":7}],\"sites\":[{\"name\":\"f\",\"type\":\"(int)int\",\"key\":0,\"target\":[\"point\",\"a\",[\"guard\",[\"insert\",[\"op\",\"ieq\"],1,[1]],[\"drop\",[\"const\",\"int\",100],0,[\"int\"]],[\"insert\",[\"op\",\"iadd\"],1,[1]]],[\"op\",\"ineg\"]],\"links\":[{\"when\":1,\"weight\":3,\"needs\":[\"a\"]},{\"when\":2,\"weight\":1,\"needs\":[\"a\",\"b\"]}]}]}";
 
@@ -552,7 +552,6 @@ fn the_largest_trees(rt: HostRuntime) -> Result<(), Fail> {
 #[test]
 fn faults_in_sites(rt: HostRuntime) -> Result<(), Fail> {
     let cases = [
-        ("", "4 BadShape"),
         ("1,2", "4 BadShape"),
         ("[]", "4 BadShape"),
         (
@@ -583,6 +582,10 @@ fn faults_in_sites(rt: HostRuntime) -> Result<(), Fail> {
         (
             "{\"name\":\"f\",\"type\":\"(int)int\",\"target\":null}",
             "4 BadShape",
+        ),
+        (
+            "{\"name\":\"f\",\"type\":\"(int)int\",\"target\":[\"drop\",[\"op\",\"ineg\"],2,[]],\"links\":null}",
+            "7 Tree 2",
         ),
         (
             "{\"name\":\"\",\"type\":\"(int)int\",\"target\":[\"op\",\"ineg\"]}",
@@ -623,6 +626,185 @@ fn faults_in_sites(rt: HostRuntime) -> Result<(), Fail> {
         assert_eq!(rt; ran.err.as_slice(), line.as_bytes(), "at {site}");
         assert!(rt; ran.out.is_empty(), "at {site}");
         assert_eq!(rt; ran.status, 1, "at {site}");
+    }
+    Ok(())
+}
+
+/// A script of two points, and of these sites and these events.
+fn with_sites(alloc: Global, sites: &str, events: &str) -> Result<String, Fail> {
+    Ok(format!(in alloc;
+        "{{\"definition\":{{\"version\":1,\"points\":[{{\"name\":\"a\",\"cost\":5}},{{\"name\":\"b\",\"cost\":7}}],\"sites\":[{sites}]}},\"workers\":1,\"events\":{events}}}"
+    )?)
+}
+
+#[test]
+fn faults_in_links(rt: HostRuntime) -> Result<(), Fail> {
+    let cases = [
+        ("\"key\":-1", "4 BadShape"),
+        ("\"key\":\"0\"", "4 BadShape"),
+        ("\"key\":0.0", "4 BadShape"),
+        ("\"key\":9223372036854775808", "4 BadShape"),
+        ("\"key\":4611686018427387904", "8 Definition 10"),
+        ("\"key\":1", "8 Definition 10"),
+        ("\"links\":null", "4 BadShape"),
+        ("\"links\":{}", "4 BadShape"),
+        ("\"links\":[null]", "4 BadShape"),
+        (
+            "\"key\":0,\"links\":[{\"weight\":1,\"needs\":[]}]",
+            "4 BadShape",
+        ),
+        (
+            "\"key\":0,\"links\":[{\"when\":null,\"weight\":1,\"needs\":[]}]",
+            "5 BadValue",
+        ),
+        (
+            "\"key\":0,\"links\":[{\"when\":1,\"needs\":[]}]",
+            "4 BadShape",
+        ),
+        (
+            "\"key\":0,\"links\":[{\"when\":1,\"weight\":-1,\"needs\":[]}]",
+            "4 BadShape",
+        ),
+        (
+            "\"key\":0,\"links\":[{\"when\":1,\"weight\":1048577,\"needs\":[]}]",
+            "8 Definition 9",
+        ),
+        (
+            "\"key\":0,\"links\":[{\"when\":1,\"weight\":1}]",
+            "4 BadShape",
+        ),
+        (
+            "\"key\":0,\"links\":[{\"when\":1,\"weight\":1,\"needs\":[1]}]",
+            "4 BadShape",
+        ),
+        (
+            "\"key\":0,\"links\":[{\"when\":1,\"weight\":1,\"needs\":[\"z\"]}]",
+            "8 Definition 13",
+        ),
+        (
+            "\"key\":0,\"links\":[{\"when\":1,\"weight\":1,\"needs\":[\"a\",\"a\"]}]",
+            "8 Definition 14",
+        ),
+        (
+            "\"key\":0,\"links\":[{\"when\":1,\"weight\":1,\"needs\":[\"a\",\"a\",\"a\",\"a\",\"a\",\"a\",\"a\",\"a\",\"a\"]}]",
+            "8 Definition 5",
+        ),
+        (
+            "\"key\":0,\"links\":[{\"when\":\"x\",\"weight\":1,\"needs\":[]}]",
+            "8 Definition 11",
+        ),
+        (
+            "\"key\":0,\"links\":[{\"when\":2147483648,\"weight\":1,\"needs\":[]}]",
+            "8 Definition 11",
+        ),
+        (
+            "\"links\":[{\"when\":1,\"weight\":1,\"needs\":[]}]",
+            "8 Definition 10",
+        ),
+        (
+            "\"key\":null,\"links\":[{\"when\":1,\"weight\":1,\"needs\":[]}]",
+            "8 Definition 10",
+        ),
+        (
+            "\"key\":0,\"links\":[{\"when\":1,\"weight\":1,\"needs\":[]},{\"when\":1,\"weight\":1,\"needs\":[]}]",
+            "8 Definition 12",
+        ),
+        (
+            "\"key\":0,\"links\":[{\"when\":0,\"weight\":1,\"needs\":[]},{\"when\":1,\"weight\":1,\"needs\":[]},{\"when\":2,\"weight\":1,\"needs\":[]},{\"when\":3,\"weight\":1,\"needs\":[]},{\"when\":4,\"weight\":1,\"needs\":[]}]",
+            "8 Definition 4",
+        ),
+    ];
+    for (parts, fault) in cases {
+        let site = format!(in rt.alloc();
+            "{{\"name\":\"f\",\"type\":\"(int)int\",\"target\":[\"op\",\"ineg\"],{parts}}}"
+        )?;
+        let input = with_sites(rt.alloc(), site.as_str(), "[]")?;
+        let ran = run_script(rt.alloc(), input.as_str());
+        let line = format!(in rt.alloc(); "fault {fault} at 0\n")?;
+        assert_eq!(rt; ran.err.as_slice(), line.as_bytes(), "at {parts}");
+        assert!(rt; ran.out.is_empty(), "at {parts}");
+        assert_eq!(rt; ran.status, 1, "at {parts}");
+    }
+    Ok(())
+}
+
+#[test]
+fn sites_of_a_definition(rt: HostRuntime) -> Result<(), Fail> {
+    let cases = [
+        (
+            "",
+            "[[\"call\",0,\"f\",[1]],[\"target\",\"f\",[\"op\",\"ineg\"]],[\"invalidate\",[]]]",
+            "refused 3 NoSite\nrefused 3 NoSite\nok\n",
+        ),
+        (
+            "{\"name\":\"f\",\"type\":\"(int)int\",\"target\":[\"op\",\"ineg\"]},{\"name\":\"g\",\"type\":\"(String)int\",\"target\":[\"op\",\"len\"]}",
+            "[[\"call\",0,\"g\",[\"ab\"]],[\"call\",0,\"f\",[2]],[\"call\",0,\"f\",[\"ab\"]],[\"call\",0,\"g\",[2]],[\"call\",0,\"h\",[2]]]",
+            "int 2\nint -2\nrefused 5 WrongType\nrefused 5 WrongType\nrefused 3 NoSite\n",
+        ),
+        (
+            "{\"name\":\"f\",\"type\":\"(int)int\",\"target\":[\"op\",\"ineg\"]},{\"name\":\"g\",\"type\":\"(String)int\",\"target\":[\"op\",\"len\"]}",
+            "[[\"target\",\"g\",[\"op\",\"ineg\"]],[\"target\",\"f\",[\"insert\",[\"op\",\"iadd\"],1,[1]]],[\"call\",0,\"f\",[1]],[\"call\",0,\"g\",[\"abc\"]]]",
+            "refused 5 WrongType\nok\nint 2\nint 3\n",
+        ),
+        (
+            "{\"name\":\"f\",\"type\":\"(int)int\",\"target\":[\"op\",\"ineg\"],\"key\":null}",
+            "[[\"call\",0,\"f\",[1]]]",
+            "int -1\n",
+        ),
+        (
+            "{\"name\":\"f\",\"type\":\"(int)int\",\"target\":[\"op\",\"ineg\"],\"key\":0}",
+            "[[\"call\",0,\"f\",[1]]]",
+            "int -1\n",
+        ),
+        (
+            "{\"name\":\"f\",\"type\":\"(int)int\",\"target\":[\"op\",\"ineg\"],\"key\":0,\"links\":[{\"when\":0,\"weight\":1048576,\"needs\":[\"b\",\"a\"]},{\"when\":1,\"weight\":1048576,\"needs\":[\"b\",\"a\"]},{\"when\":2,\"weight\":1048576,\"needs\":[\"b\",\"a\"]},{\"when\":3,\"weight\":1048576,\"needs\":[\"b\",\"a\"]}]}",
+            "[[\"call\",0,\"f\",[1]]]",
+            "int -1\n",
+        ),
+        (
+            "{\"name\":\"f\",\"type\":\"(int,String)int\",\"key\":1,\"target\":[\"drop\",[\"op\",\"ineg\"],1,[\"String\"]],\"links\":[{\"when\":\"x\",\"weight\":1,\"needs\":[]},{\"when\":\"\",\"weight\":1,\"needs\":[]}]}",
+            "[[\"call\",0,\"f\",[1,\"x\"]]]",
+            "int -1\n",
+        ),
+    ];
+    for (sites, events, lines) in cases {
+        let input = with_sites(rt.alloc(), sites, events)?;
+        let ran = run_script(rt.alloc(), input.as_str());
+        assert_eq!(rt; ran.out.as_slice(), lines.as_bytes(), "at {sites}");
+        assert!(rt; ran.err.is_empty(), "at {sites}");
+        assert_eq!(rt; ran.status, 0, "at {sites}");
+    }
+    Ok(())
+}
+
+#[test]
+fn histories_within_limits(rt: HostRuntime) -> Result<(), Fail> {
+    let cases = [
+        (
+            "{\"history\":2}",
+            "[[\"call\",0,\"f\",[1]],[\"call\",0,\"f\",[1]],[\"call\",0,\"f\",[1]],[\"call\",0,\"f\",[\"x\"]]]",
+            "int 100\nint 100\nrefused 2 HistoryFull\nrefused 5 WrongType\n",
+        ),
+        (
+            "{\"history\":0}",
+            "[[\"invalidate\",[]],[\"invalidate\",[\"z\"]],[\"target\",\"f\",[\"op\",\"ineg\"]]]",
+            "refused 2 HistoryFull\nrefused 4 NoPoint\nrefused 2 HistoryFull\n",
+        ),
+        (
+            "{\"history\":1}",
+            "[[\"call\",0,\"g\",[1]],[\"target\",\"f\",[\"op\",\"ineg\"]],[\"call\",0,\"f\",[1]]]",
+            "refused 3 NoSite\nok\nrefused 2 HistoryFull\n",
+        ),
+        ("{}", "[[\"call\",0,\"f\",[1]]]", "int 100\n"),
+    ];
+    for (limits, events, lines) in cases {
+        let input = format!(in rt.alloc();
+            "{{\"definition\":{DEFINITION},\"workers\":1,\"limits\":{limits},\"events\":{events}}}"
+        )?;
+        let ran = run_script(rt.alloc(), input.as_str());
+        assert_eq!(rt; ran.out.as_slice(), lines.as_bytes(), "at {limits}");
+        assert!(rt; ran.err.is_empty(), "at {limits}");
+        assert_eq!(rt; ran.status, 0, "at {limits}");
     }
     Ok(())
 }
@@ -721,8 +903,55 @@ fn parts_beside_the_definition(rt: HostRuntime) -> Result<(), Fail> {
             1,
         ),
         ("\"workers\":64,\"events\":[]", "", 0),
+        ("\"workers\":1,\"events\":[],\"more\":[{}]", "", 0),
         (
-            "\"workers\":1,\"events\":[],\"limits\":null,\"more\":[{}]",
+            "\"workers\":1,\"events\":[[]],\"limits\":null",
+            "fault 4 BadShape at 0\n",
+            1,
+        ),
+        (
+            "\"workers\":1,\"events\":[],\"limits\":[]",
+            "fault 4 BadShape at 0\n",
+            1,
+        ),
+        (
+            "\"workers\":1,\"events\":[],\"limits\":{\"history\":null}",
+            "fault 4 BadShape at 0\n",
+            1,
+        ),
+        (
+            "\"workers\":1,\"events\":[],\"limits\":{\"history\":-1}",
+            "fault 4 BadShape at 0\n",
+            1,
+        ),
+        (
+            "\"workers\":1,\"events\":[],\"limits\":{\"history\":1048577}",
+            "fault 4 BadShape at 0\n",
+            1,
+        ),
+        (
+            "\"workers\":1,\"events\":[],\"limits\":{\"ledger\":0}",
+            "fault 4 BadShape at 0\n",
+            1,
+        ),
+        (
+            "\"workers\":1,\"events\":[],\"limits\":{\"ledger\":1048577}",
+            "fault 4 BadShape at 0\n",
+            1,
+        ),
+        (
+            "\"workers\":1,\"events\":[],\"limits\":{\"total\":1099511627777}",
+            "fault 4 BadShape at 0\n",
+            1,
+        ),
+        ("\"workers\":1,\"events\":[],\"limits\":{}", "", 0),
+        (
+            "\"workers\":1,\"events\":[],\"limits\":{\"history\":0,\"ledger\":1,\"total\":0}",
+            "",
+            0,
+        ),
+        (
+            "\"workers\":1,\"events\":[],\"limits\":{\"history\":1048576,\"ledger\":1048576,\"total\":1099511627776,\"more\":null}",
             "",
             0,
         ),

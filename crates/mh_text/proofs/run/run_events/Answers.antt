@@ -19,7 +19,8 @@ loop-event-preserved g c =
     let (reply, step, told) = c.in_ok-write_event.ensures.step in
     record {
       count = omega (arith, length_push c.loop-event.yielded c.in-Some.event, c.loop-event.invariant.count);
-      told = (replies ++ reply ∷ [], omega (arith, length_push replies reply, count), run_next _ _ c.loop-event.at _ replies _ c.in-Some.event reply _ c.loop-event.invariant.count t run step, line_written _ _ _ replies reply written told);
+      setting = c.in_ok-write_event.ensures.setting ∙ c.loop-event.invariant.setting;
+      told = (replies ++ reply ∷ [], omega (arith, length_push replies reply, count), run_next _ _ _ _ c.loop-event.at _ replies _ c.in-Some.event reply _ c.loop-event.invariant.count t run c.loop-event.invariant.setting step, line_written _ _ _ replies reply written told);
     }
 
 pub returns-in_err-write_event-clause-ends : goal.returns-in_err-write_event-clause-ends
@@ -30,11 +31,11 @@ returns-in_err-write_event-clause-ends g c =
     let (replies, count, run, written) = c.loop-event.invariant.told in
     let (reply, step, told) = c.in_err-write_event.ensures.step in
     let begun = told.1 in
-    rw (p.1, p.2, told.0) (replies, reply, c.write_event.new.machine, begun.0, begun.1, omega (arith, count), run_next _ _ c.loop-event.at _ replies _ c.in-Some.event reply _ c.loop-event.invariant.count t run step, begun.2, Appends-trans _ _ _ _ _ written begun.3)
+    rw (p.1, p.2, told.0) (replies, reply, c.write_event.new.machine.history, begun.0, begun.1, omega (arith, count), run_next _ _ _ _ c.loop-event.at _ replies _ c.in-Some.event reply _ c.loop-event.invariant.count t run c.loop-event.invariant.setting step, begun.2, Appends-trans _ _ _ _ _ written begun.3)
 
 pub returns-clause-ok : goal.returns-clause-ok
 returns-clause-ok g c =
     let made = c.into_iter-event-iterator.ensures.into_iter_gives in
     let t = YieldsList-end (YieldsList-from_vec c.args.events.items made.0 (made.1 ∙ vec_length c.args.events)) c.loop-event.yielded c.loop-event.event-iterator c.loop-event.yielded_by c.next.result c.next.new.self c.in-None.is c.next.ensures.steps in
     let (replies, count, run, written) = c.loop-event.invariant.told in
-    (replies, _, run_whole _ _ _ replies _ (omega (arith, t.1, c.loop-event.invariant.count)) run, written)
+    (replies, _, run_whole c.args.machine.setting c.args.machine.history _ _ replies _ (omega (arith, t.1, c.loop-event.invariant.count)) run, written)

@@ -1,4 +1,4 @@
-use Rattle.std.proofs.Common.{◌≡◌, ◌⊎◌, inl, inr, ◌∙◌, ap, subst, map, arith, true, IfSome}
+use Rattle.std.proofs.Common.{inl, inr, ◌∙◌, ap, subst, map, arith, IfSome}
 use Rattle.clap.specs.Words.{takes}
 use Rattle.clap.specs.declared.error.kind.ErrorKind.TheVariants.{DisplayHelp}
 use Rattle.mhlink.specs.CommandLine.{IsAnswer}
