@@ -1,16 +1,15 @@
 //! Scripts and definitions as values.
-use mh_site::{Listing, Name};
-use mh_text::{
-    Definition, DefinitionFault, Event, Fault, Point, Script, Site, TextFault, read_script,
-};
+use mh_core::Event;
+use mh_site::{Definition, DefinitionFault, Listing, Name, Point, Site};
+use mh_text::{Fault, Script, TextFault, read_script};
 use mh_tree::{Declared, Handle};
 use mh_type::{Kind, MethodType, Op, Value};
 use std::alloc::Global;
 use std::test::Fail;
 
-/// Two points, a shared tree, and a site that uses it.
+/// Two points, a shared tree, a site that uses it with a link, and limits.
 const SCRIPT: &str =
-    "{\"definition\":{\"version\":1,\"points\":[{\"name\":\"a\",\"cost\":5},{\"name\":\"b\",\"cost\":7}],\"shared\":[[\"g\",[\"op\",\"ineg\"]]],\"sites\":[{\"name\":\"f\",\"type\":\"(int)int\",\"target\":[\"point\",\"b\",[\"ref\",\"g\"],[\"ref\",\"g\"]]}]},\"workers\":2,\"events\":[[\"call\",1,\"f\",[7]],[\"target\",\"h\",[\"ref\",\"g\"]],[\"invalidate\",[\"b\",\"c\"]]]}";
+    "{\"definition\":{\"version\":1,\"points\":[{\"name\":\"a\",\"cost\":5},{\"name\":\"b\",\"cost\":7}],\"shared\":[[\"g\",[\"op\",\"ineg\"]]],\"sites\":[{\"name\":\"f\",\"type\":\"(int)int\",\"key\":0,\"target\":[\"point\",\"b\",[\"ref\",\"g\"],[\"ref\",\"g\"]],\"links\":[{\"when\":3,\"weight\":4,\"needs\":[\"b\",\"a\"]}]}]},\"workers\":2,\"limits\":{\"ledger\":9},\"events\":[[\"call\",1,\"f\",[7]],[\"target\",\"h\",[\"ref\",\"g\"]],[\"invalidate\",[\"b\",\"c\"]]]}";
 
 /// A script that is read.
 fn read(alloc: Global, input: &str) -> Result<Script, Fail> {
@@ -35,13 +34,31 @@ fn a_definition_is_read(rt: HostRuntime) -> Result<(), Fail> {
     assert_eq!(rt; a.cost, 5);
     assert_eq!(rt; b.name.as_str(), "b");
     assert_eq!(rt; b.cost, 7);
-    let site = script.definition.site();
+    let [site] = script.definition.sites() else {
+        return Err(Fail::from("there are other sites"));
+    };
     assert_eq!(rt; site.name.as_str(), "f");
     assert_eq!(rt; site.method_type.ret(), Kind::Int);
     assert_eq!(rt; site.method_type.parameters(), [Kind::Int].as_slice());
+    assert_eq!(rt; site.key, Some(0));
     assert_eq!(rt; site.target.handle().size(), 3);
     assert_eq!(rt; site.target.handle().point_bound(), 2);
+    Ok(())
+}
+
+#[test]
+fn links_and_limits_are_read(rt: HostRuntime) -> Result<(), Fail> {
+    let script = read(rt.alloc(), SCRIPT)?;
+    let [link] = script.definition.links(0) else {
+        return Err(Fail::from("there are other links"));
+    };
+    assert!(rt; matches!(link.when, Value::Int(3)));
+    assert_eq!(rt; link.weight, 4);
+    assert_eq!(rt; link.needs.as_slice(), [0, 1].as_slice());
     assert_eq!(rt; script.workers, 2);
+    assert_eq!(rt; script.limits.history(), 1 << 20);
+    assert_eq!(rt; script.limits.ledger(), 9);
+    assert_eq!(rt; script.limits.total(), 1 << 40);
     Ok(())
 }
 
@@ -101,12 +118,16 @@ fn points(alloc: Global, count: usize) -> Result<Listing<Point>, Fail> {
 }
 
 /// A site that negates.
-fn negation(alloc: Global) -> Result<Site, Fail> {
-    Ok(Site {
+fn negation(alloc: Global) -> Result<Listing<Site>, Fail> {
+    let mut sites = Listing::from_vec(Vec::new(alloc));
+    sites.push(Site {
         name: Name::new(alloc, "f")?,
         method_type: MethodType::new(Kind::Int, &[Kind::Int])?,
+        key: None,
         target: Declared::new(&Handle::op(alloc, Op::Ineg)?)?,
-    })
+        links: Listing::from_vec(Vec::new(alloc)),
+    })?;
+    Ok(sites)
 }
 
 #[test]
