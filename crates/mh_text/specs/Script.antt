@@ -38,8 +38,8 @@ point_of d = do
   Ok (record { name = name; cost = cost })
 
 -- the names of the points, by number
-abbrev pub names_of : List Point → List (List ℕ)
-names_of points = fold (λ names p. with_name names p.name) [] points
+abbrev pub point_names_of : List Point → List (List ℕ)
+point_names_of points = fold (λ names p. with_name names p.name) [] points
 
 -- the name of a point, as its number
 abbrev pub named_point_of : List (List ℕ) → Data → Result ℕ ReadFault
@@ -135,7 +135,7 @@ declarations_of d = do
   definition ← member_of (codes "definition") d
   version ← version_of definition
   points ← points_of definition
-  scope ← scope_of (names_of points) definition
+  scope ← scope_of (point_names_of points) definition
   sites ← sites_of scope definition
   definition ← caused of_definition (definition_made points sites)
   Ok (record { definition = definition; scope = scope; sites = site_names_of definition.sites })

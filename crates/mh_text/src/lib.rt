@@ -16,7 +16,7 @@ mod scope;
 mod script;
 mod shape;
 mod shared;
-mod site;
+mod sites;
 mod trees;
 mod values;
 mod watched;

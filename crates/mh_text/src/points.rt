@@ -2,7 +2,7 @@
 ghost use Rattle.std.specs.Prelude.{◌≡◌, IfOk};
 ghost use Rattle.serde_json.specs.View.{view};
 ghost use Rattle.mh_text.specs.Gives.{Gives};
-ghost use Rattle.mh_text.specs.Script.{point_of, points_of, names_of, named_point_of, named_points_of};
+ghost use Rattle.mh_text.specs.Script.{point_of, points_of, point_names_of, named_point_of, named_points_of};
 
 use crate::fault::ReadFault;
 use crate::names::Names;
@@ -29,8 +29,8 @@ pub(crate) fn read_points(alloc: Global, definition: &Value) -> Result<Listing<P
 }
 
 /// The names of the points, by number.
-pub(crate) fn number_names(alloc: Global, points: &[Point]) -> Result<Names, AllocError>
-    ensures value { IfOk result (λ names. names ≡ names_of points.now) }
+pub(crate) fn point_names(alloc: Global, points: &[Point]) -> Result<Names, AllocError>
+    ensures value { IfOk result (λ names. names ≡ point_names_of points.now) }
 {
     let mut names = Names::new(alloc);
     for point in points {

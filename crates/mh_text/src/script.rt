@@ -10,10 +10,10 @@ use crate::events::read_events;
 use crate::fault::{Fault, ReadFault, TextFault};
 use crate::input::LIMIT;
 use crate::limits::read_limits;
-use crate::points::{number_names, read_points};
+use crate::points::{point_names, read_points};
 use crate::shape::{count, list, member};
 use crate::shared::read_scope;
-use crate::site::{read_sites, site_names};
+use crate::sites::{read_sites, site_names};
 use mh_core::{Event, Limits};
 use mh_site::{Definition, Listing};
 use serde_json::Value;
@@ -56,7 +56,7 @@ fn read_declarations(alloc: Global, value: &Value) -> Result<Declarations, ReadF
     let definition = member(value, "definition")?;
     read_version(definition)?;
     let points = read_points(alloc, definition)?;
-    let names = number_names(alloc, points.as_slice())?;
+    let names = point_names(alloc, points.as_slice())?;
     let scope = read_scope(alloc, names, definition)?;
     let sites = read_sites(alloc, &scope, definition)?;
     let definition = Definition::new(points, sites)?;
@@ -90,11 +90,7 @@ fn read_event_list(
 }
 
 /// What is asked of the sites that are declared.
-fn read_schedule(
-    alloc: Global,
-    declared: &Declarations,
-    value: &Value,
-) -> Result<Schedule, Fault>
+fn read_schedule(alloc: Global, declared: &Declarations, value: &Value) -> Result<Schedule, Fault>
     ensures value { GivesAt (λ x. x) result (schedule_of declared.now (view value.now)) }
 {
     let workers = read_workers(value)?;
