@@ -49,7 +49,10 @@ fn a_definition_is_read(rt: HostRuntime) -> Result<(), Fail> {
 #[test]
 fn links_and_limits_are_read(rt: HostRuntime) -> Result<(), Fail> {
     let script = read(rt.alloc(), SCRIPT)?;
-    let [link] = script.definition.links(0) else {
+    let [site] = script.definition.sites() else {
+        return Err(Fail::from("there are other sites"));
+    };
+    let [link] = site.links.as_slice() else {
         return Err(Fail::from("there are other links"));
     };
     assert!(rt; matches!(link.when, Value::Int(3)));
