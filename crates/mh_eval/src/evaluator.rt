@@ -22,7 +22,8 @@ use std::slice;
 /// which points are valid.
 ///
 /// A guard's test and a fold's combiner get as many of the leading arguments as they have
-/// parameters. A throw of any part that runs is the outcome, and nothing after it runs. Refused with
+/// parameters. A throw of any part that runs is the outcome, and nothing after it runs. Arguments that
+/// a node leaves as they are, are lent to its target, with no list of their own. Refused with
 /// `NoMemory` alone; the stack is as before.
 pub fn eval(
     stack: &mut Stack,
