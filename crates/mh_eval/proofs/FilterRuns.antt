@@ -9,6 +9,7 @@ use Rattle.mh_type.specs.declared.outcome.Throw.{Throw}
 use Rattle.mh_type.specs.declared.outcome.Outcome.TheVariants.{Thrown}
 use Rattle.mh_tree.specs.Meaning.{mean, steps, filtered, filter_steps, with_arguments, after_filters}
 use Rattle.mh_tree.specs.Widths.{CanRun, CanFilter}
+use Rattle.mh_tree.proofs.LeadingArguments.{as_few, as_many}
 
 can_filter : (fs : Filters) (old new : List Kind) (p w n : ℕ) → AreTyped fs old new → p + length old ≤ w → greatest_bound fs ≤ n → total_size fs ≤ 262144 → CanFilter fs p w n
 can_filter no_more old new p w n h a b c = tt
@@ -23,32 +24,13 @@ can_filter (present f fs) (k ∷ old) (j ∷ new) p w n h a b c = (
 can_filter (present f fs) [] new p w n h a b c = absurd h
 can_filter (present f fs) (k ∷ old) [] p w n h a b c = absurd h
 
-are_as_few : (fs : Filters) (old new : List Kind) → AreTyped fs old new → length new ≤ length old
-are_as_few no_more old new h = let e = ap (λ (ks : List Kind). length ks) h in omega arith
-are_as_few (absent fs) (k ∷ old) (j ∷ new) h = omega (arith, are_as_few fs old new h.1)
-are_as_few (absent fs) [] new h = absurd h
-are_as_few (absent fs) (k ∷ old) [] h = absurd h
-are_as_few (present f fs) (k ∷ old) (j ∷ new) h = omega (arith, are_as_few fs old new h.1)
-are_as_few (present f fs) [] new h = absurd h
-are_as_few (present f fs) (k ∷ old) [] h = absurd h
-
--- filters keep the number of arguments
-are_as_many : (fs : Filters) (old new : List Kind) → AreTyped fs old new → length old ≤ length new
-are_as_many no_more old new h = let e = ap (λ (ks : List Kind). length ks) h in omega arith
-are_as_many (absent fs) (k ∷ old) (j ∷ new) h = omega (arith, are_as_many fs old new h.1)
-are_as_many (absent fs) [] new h = absurd h
-are_as_many (absent fs) (k ∷ old) [] h = absurd h
-are_as_many (present f fs) (k ∷ old) (j ∷ new) h = omega (arith, are_as_many fs old new h.1)
-are_as_many (present f fs) [] new h = absurd h
-are_as_many (present f fs) (k ∷ old) [] h = absurd h
-
 pub runs_filters : (t : Tree) (p : ℕ) (fs : Filters) (w n : ℕ) → CanRun (filter t p fs) w n → CanFilter fs p w n × (total_size fs ≤ 262144)
 runs_filters t p fs w n r =
     let old = r.typed.0.parameters in
     let new = r.signature.parameters in
     let typed = r.typed.5 in
-    let many = are_as_many fs (drop p old) (drop p new) typed in
-    let few = are_as_few fs (drop p old) (drop p new) typed in
+    let many = as_many fs (drop p old) (drop p new) typed in
+    let few = as_few fs (drop p old) (drop p new) typed in
     let lengths : (length (drop p old) ≡ length old - p) × (length (drop p new) ≡ length new - p) = (length-drop p old, length-drop p new) in
     let firsts : length (take p new) ≡ length (take p old) = ap (λ (ks : List Kind). length ks) r.typed.4 in
     let room : p + length (drop p old) ≤ w = omega (arith, r.wide, r.typed.2, length-take p old, length-take p new) in
@@ -59,7 +41,7 @@ pub target_runs : (t : Tree) (p : ℕ) (fs : Filters) (w n : ℕ) → CanRun (fi
 target_runs t p fs w n r =
     let old = r.typed.0.parameters in
     let new = r.signature.parameters in
-    let many = are_as_many fs (drop p old) (drop p new) r.typed.5 in
+    let many = as_many fs (drop p old) (drop p new) r.typed.5 in
     let firsts : length (take p new) ≡ length (take p old) = ap (λ (ks : List Kind). length ks) r.typed.4 in
     record {
       signature = r.typed.0;

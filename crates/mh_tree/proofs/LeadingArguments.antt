@@ -19,7 +19,7 @@ use Rattle.mh_tree.specs.Meaning.{◌>>=◌, mean, steps, filtered, filter_steps
 use Rattle.mh_tree.specs.Tree.{Tree, Filters, constant, identity, operation, insert, discard, permute, filter, filter_return, fold, guard, point, no_more, absent, present}
 use Rattle.mh_tree.specs.Typing.{IsTyped, AreTyped}
 
-as_few : (fs : Filters) (old new : List Kind) → AreTyped fs old new → length new ≤ length old
+pub as_few : (fs : Filters) (old new : List Kind) → AreTyped fs old new → length new ≤ length old
 as_few no_more old new h = let e = ap (λ (ks : List Kind). length ks) h in omega arith
 as_few (absent fs) (k ∷ old) (j ∷ new) h = omega (arith, as_few fs old new h.1)
 as_few (absent fs) [] new h = absurd h
@@ -28,7 +28,7 @@ as_few (present f fs) (k ∷ old) (j ∷ new) h = omega (arith, as_few fs old ne
 as_few (present f fs) [] new h = absurd h
 as_few (present f fs) (k ∷ old) [] h = absurd h
 
-as_many : (fs : Filters) (old new : List Kind) → AreTyped fs old new → length old ≤ length new
+pub as_many : (fs : Filters) (old new : List Kind) → AreTyped fs old new → length old ≤ length new
 as_many no_more old new h = let e = ap (λ (ks : List Kind). length ks) h in omega arith
 as_many (absent fs) (k ∷ old) (j ∷ new) h = omega (arith, as_many fs old new h.1)
 as_many (absent fs) [] new h = absurd h
