@@ -1,0 +1,4 @@
+pub mod SumLaws
+pub mod Duality
+pub mod Optimal
+pub mod Kept

@@ -1,0 +1,5 @@
+pub mod Tests
+pub mod Sums
+pub mod Problems
+pub mod Net
+pub mod Selection
