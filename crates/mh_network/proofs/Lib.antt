@@ -1,4 +1,5 @@
 pub mod SumLaws
 pub mod Duality
 pub mod Optimal
+pub mod Members
 pub mod Kept
