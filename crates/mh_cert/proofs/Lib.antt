@@ -1,0 +1,3 @@
+mod Matching
+mod Within
+mod Orders

@@ -1,0 +1,12 @@
+use Rattle.std.proofs.Common.{◌∙◌}
+use Rattle.mh_cert.proofs.Within.{links_in_range, points_in_range, listed_cost}
+use Rattle.mh_cert.proofs.sums.gain_and_cost.Goals as goal
+
+pub gain_of_links-requires-clause-inside : goal.gain_of_links-requires-clause-inside
+gain_of_links-requires-clause-inside c = links_in_range c.args.problem.now c.args.links.now c.requires.eligible
+
+pub cost_of_points-requires-clause-inside : goal.cost_of_points-requires-clause-inside
+cost_of_points-requires-clause-inside c = points_in_range c.args.problem.now c.requires.problem c.args.links.now c.args.points.now c.requires.union.same
+
+pub returns-clause-cost : goal.returns-clause-cost
+returns-clause-cost c = c.cost_of_points.ensures.value ∙ listed_cost c.args.problem.now c.args.links.now c.args.points.now c.requires.union

@@ -1,0 +1,55 @@
+-- Which plans match a problem, and what else is told.
+use Rattle.std.specs.Prelude.{ℕ, ◌≡◌, ◌≤◌, ◌<◌, List, All, AllPairs, true, pos, ◌-ℤ◌}
+use Rattle.std.specs.List.Sorted.{IsStrictlyIncreasing}
+use Rattle.mh_network.specs.Problems.{ProblemData, link_at, gain_of, cost_of, needs_point, sum_of_gains}
+use Rattle.mh_network.specs.Selection.{Row, IsBefore, member, union_of_needs, from_link, into_point, worth, value_of}
+use Rattle.mh_network.specs.Tests.{Tests, no_more, test}
+use Rattle.mh_cert.specs.declared.plan.Plan.{Plan}
+use Rattle.mh_cert.specs.declared.fault.CheckFault.{CheckFault}
+use Rattle.mh_cert.specs.declared.fault.CheckFault.TheVariants.{LinkNotEligible, LinksNotAscending, PointsNotUnion, BadFlowRow, GainExceeded, CostExceeded, ValueWrong, FlowNotMatching, NoMemory}
+
+abbrev pub fault_number : CheckFault → ℕ
+fault_number LinkNotEligible = 1
+fault_number LinksNotAscending = 2
+fault_number PointsNotUnion = 3
+fault_number BadFlowRow = 4
+fault_number GainExceeded = 5
+fault_number CostExceeded = 6
+fault_number ValueWrong = 7
+fault_number FlowNotMatching = 8
+fault_number NoMemory = 9
+
+-- the points that the links need, ascending
+pub record IsUnion (P : ProblemData) (links points : List ℕ) : Type 0 where
+  pub ascending : IsStrictlyIncreasing points
+  pub same : (p : ℕ) → member points p ≡ union_of_needs P (member links) p
+
+-- positive amounts over needs, ascending by link and then point
+pub record AreRows (P : ProblemData) (rows : List Row) : Type 0 where
+  pub needed : All (λ r. needs_point P r.0 r.1 ≡ true) rows
+  pub positive : All (λ r. 0 < r.2) rows
+  pub ordered : AllPairs IsBefore rows
+
+-- eligible links, the points that they need, a flow, and the worth of the links, which is also what the flow
+-- leaves of all gains
+pub record Matches (P : ProblemData) (plan : Plan) : Type 0 where
+  pub eligible : All (λ j. (link_at P j).eligible ≡ true) plan.links
+  pub links : IsStrictlyIncreasing plan.links
+  pub points : IsUnion P plan.links plan.points
+  pub rows : AreRows P plan.flow
+  pub gains : (j : ℕ) → from_link plan.flow j ≤ gain_of P j
+  pub costs : (p : ℕ) → into_point plan.flow p ≤ cost_of P p
+  pub worth : plan.value ≡ worth P (member plan.links)
+  pub balance : plan.value ≡ pos (sum_of_gains P) -ℤ pos (value_of plan.flow)
+
+-- the parts of a matching plan, in the order in which they are tested
+abbrev pub plan_tests : ProblemData → Plan → Tests CheckFault
+plan_tests P plan =
+    test (All (λ j. (link_at P j).eligible ≡ true) plan.links) LinkNotEligible
+    (test (IsStrictlyIncreasing plan.links) LinksNotAscending
+    (test (IsUnion P plan.links plan.points) PointsNotUnion
+    (test (AreRows P plan.flow) BadFlowRow
+    (test ((j : ℕ) → from_link plan.flow j ≤ gain_of P j) GainExceeded
+    (test ((p : ℕ) → into_point plan.flow p ≤ cost_of P p) CostExceeded
+    (test (plan.value ≡ worth P (member plan.links)) ValueWrong
+    (test (plan.value ≡ pos (sum_of_gains P) -ℤ pos (value_of plan.flow)) FlowNotMatching no_more)))))))

@@ -1,0 +1,19 @@
+//! The checker of a stranger's plan: whether it matches its problem, and so is best.
+#![tactic(auto)]
+
+mod bounds;
+mod checker;
+#[cfg(test)]
+mod examples;
+mod fault;
+mod laws;
+mod marks;
+mod plan;
+mod rows;
+mod sums;
+mod union;
+
+pub use checker::check;
+pub use fault::CheckFault;
+pub use laws::matching_is_best;
+pub use plan::Plan;

@@ -1,0 +1,106 @@
+//! What a plan is worth, and what its flow leaves of all gains.
+
+ghost use Rattle.std.specs.Prelude.{◌≡◌, ◌≤◌, ◌<◌, ◌^◌, ◌↔◌, ℕ, All, IsTrue, length, pos, ◌-ℤ◌, true};
+ghost use Rattle.std.specs.List.Sorted.{IsStrictlyIncreasing};
+ghost use Rattle.mh_cert.specs.Plans.{IsUnion};
+ghost use Rattle.mh_network.specs.Problems.{IsProblem, link_at, gain_of, cost_of, needs_point, sum_of_gains};
+ghost use Rattle.mh_network.specs.Selection.{cost_sum, from_link, gain_sum, member, union_of_needs, value_of, worth};
+
+use mh_network::Problem;
+
+// Whether the value is what the links are worth.
+pub(crate) fn is_worth(value: i64, problem: &Problem, links: &[u32], points: &[u32]) -> bool
+    requires problem { IsProblem problem.now }
+    requires eligible { All (λ j. (link_at problem.now j).eligible ≡ true) links.now }
+    requires ascending { IsStrictlyIncreasing links.now }
+    requires union { IsUnion problem.now links.now points.now }
+    ensures value { IsTrue result ↔ (value ≡ worth problem.now (member links.now)) }
+{
+    let (gain, cost) = gain_and_cost(problem, links, points);
+    is_difference(value, gain, cost)
+}
+
+// What the links gain, and what the points that they need cost.
+fn gain_and_cost(problem: &Problem, links: &[u32], points: &[u32]) -> (u64, u64)
+    requires problem { IsProblem problem.now }
+    requires eligible { All (λ j. (link_at problem.now j).eligible ≡ true) links.now }
+    requires ascending { IsStrictlyIncreasing links.now }
+    requires union { IsUnion problem.now links.now points.now }
+    ensures gain { result.0 ≡ gain_sum problem.now (member links.now) }
+    ensures cost { result.1 ≡ cost_sum problem.now (union_of_needs problem.now (member links.now)) }
+    ensures small { (result.0 ≤ 2 ^ 62) × (result.1 ≤ 2 ^ 62) }
+{
+    (
+        gain_of_links(problem, links),
+        cost_of_points(problem, points),
+    )
+}
+
+// Whether the value is what the flow leaves of all gains.
+pub(crate) fn balances(value: i64, problem: &Problem, flow: &[(u32, u32, u64)]) -> bool
+    requires problem { IsProblem problem.now }
+    requires needed { All (λ r. needs_point problem.now r.0 r.1 ≡ true) flow.now }
+    requires gains { (j : ℕ) → from_link flow.now j ≤ gain_of problem.now j }
+    ensures value { IsTrue result ↔ (value ≡ pos (sum_of_gains problem.now) -ℤ pos (value_of flow.now)) }
+{
+    is_difference(value, all_gains(problem), carried(flow))
+}
+
+fn is_difference(value: i64, one: u64, other: u64) -> bool
+    requires one { one ≤ 2 ^ 62 }
+    requires other { other ≤ 2 ^ 62 }
+    ensures value { IsTrue result ↔ (value ≡ pos one -ℤ pos other) }
+{
+    value == one as i64 - other as i64
+}
+
+fn gain_of_links(problem: &Problem, links: &[u32]) -> u64
+    requires problem { IsProblem problem.now }
+    requires inside { All (λ j. j < length problem.now.links) links.now }
+    requires ascending { IsStrictlyIncreasing links.now }
+    ensures value { result ≡ gain_sum problem.now (member links.now) }
+    ensures small { result ≤ 2 ^ 62 }
+{
+    let mut sum: u64 = 0;
+    for link in links {
+        sum += problem.gain(*link as usize);
+    }
+    sum
+}
+
+fn cost_of_points(problem: &Problem, points: &[u32]) -> u64
+    requires problem { IsProblem problem.now }
+    requires inside { All (λ p. p < length problem.now.costs) points.now }
+    requires ascending { IsStrictlyIncreasing points.now }
+    ensures value { result ≡ cost_sum problem.now (member points.now) }
+    ensures small { result ≤ 2 ^ 62 }
+{
+    let mut sum: u64 = 0;
+    for point in points {
+        sum += problem.cost(*point as usize);
+    }
+    sum
+}
+
+fn all_gains(problem: &Problem) -> u64
+    ensures value { result ≡ sum_of_gains problem.now }
+    ensures small { result ≤ 2 ^ 62 }
+{
+    let mut sum: u64 = 0;
+    for link in 0..problem.links() {
+        sum += problem.gain(link);
+    }
+    sum
+}
+
+fn carried(flow: &[(u32, u32, u64)]) -> u64
+    requires small { value_of flow.now ≤ 2 ^ 62 }
+    ensures value { result ≡ value_of flow.now }
+    ensures small { result ≤ 2 ^ 62 }
+{
+    let mut sum: u64 = 0;
+    for row in flow {
+        sum += row.2;
+    }
+    sum
+}
