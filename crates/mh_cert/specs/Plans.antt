@@ -1,5 +1,5 @@
 -- Which plans match a problem, and what else is told.
-use Rattle.std.specs.Prelude.{ℕ, ◌≡◌, ◌≤◌, ◌<◌, List, All, AllPairs, true, pos, ◌-ℤ◌}
+use Rattle.std.specs.Prelude.{ℕ, ◌≡◌, ◌≤◌, ◌<◌, List, All, AllPairs, true, pos, ◌-ℤ◌, codes}
 use Rattle.std.specs.List.Sorted.{IsStrictlyIncreasing}
 use Rattle.mh_network.specs.Problems.{ProblemData, link_at, gain_of, cost_of, needs_point, sum_of_gains}
 use Rattle.mh_network.specs.Selection.{Row, IsBefore, member, union_of_needs, from_link, into_point, worth, value_of}
@@ -18,6 +18,18 @@ fault_number CostExceeded = 6
 fault_number ValueWrong = 7
 fault_number FlowNotMatching = 8
 fault_number NoMemory = 9
+
+-- the number and the name
+abbrev pub check_fault_text : CheckFault → List ℕ
+check_fault_text LinkNotEligible = codes "1 LinkNotEligible"
+check_fault_text LinksNotAscending = codes "2 LinksNotAscending"
+check_fault_text PointsNotUnion = codes "3 PointsNotUnion"
+check_fault_text BadFlowRow = codes "4 BadFlowRow"
+check_fault_text GainExceeded = codes "5 GainExceeded"
+check_fault_text CostExceeded = codes "6 CostExceeded"
+check_fault_text ValueWrong = codes "7 ValueWrong"
+check_fault_text FlowNotMatching = codes "8 FlowNotMatching"
+check_fault_text NoMemory = codes "9 NoMemory"
 
 -- the points that the links need, ascending
 pub record IsUnion (P : ProblemData) (links points : List ℕ) : Type 0 where

@@ -3,38 +3,30 @@
 ghost use Rattle.std.specs.Prelude.{◌≡◌};
 ghost use Rattle.mh_cert.specs.Plans.{fault_number};
 
-use thiserror::Error;
+use std::error::Error;
+use std::fmt;
 
 /// The first part of a plan that is wrong. The tests run in the order of the numbers.
-#[derive(Clone, Copy, Debug, PartialEq, Eq, Error)]
+#[derive(Clone, Copy, Debug, PartialEq, Eq)]
 pub enum CheckFault {
     /// A link that is not eligible, or past the last.
-    #[error("1 LinkNotEligible")]
     LinkNotEligible,
     /// The links are not strictly ascending.
-    #[error("2 LinksNotAscending")]
     LinksNotAscending,
     /// The points are not the ascending union of the links' needs.
-    #[error("3 PointsNotUnion")]
     PointsNotUnion,
     /// A row of the flow with a link or point past the last, a point that its link does not need, or
     /// the amount 0; or the rows are not strictly ascending by link and then point.
-    #[error("4 BadFlowRow")]
     BadFlowRow,
     /// The amounts of a link pass its gain.
-    #[error("5 GainExceeded")]
     GainExceeded,
     /// The amounts of a point pass its cost.
-    #[error("6 CostExceeded")]
     CostExceeded,
     /// The value is not the worth of the links.
-    #[error("7 ValueWrong")]
     ValueWrong,
     /// The value is not the sum of all gains less the sum of the amounts.
-    #[error("8 FlowNotMatching")]
     FlowNotMatching,
     /// A growth was refused. It may stand in place of any other answer.
-    #[error("9 NoMemory")]
     NoMemory,
 }
 
@@ -56,3 +48,26 @@ impl CheckFault {
         }
     }
 }
+
+impl fmt::Display for CheckFault {
+    ghost use Rattle.mh_cert.specs.Plans.{check_fault_text};
+    ghost use Rattle.std.specs.Prelude.{Some};
+
+    ghost output = { λ fault. Some (check_fault_text fault) };
+
+    fn fmt<W: fmt::Write>(&self, f: &mut fmt::Formatter<W>) -> fmt::Result {
+        match self {
+            CheckFault::LinkNotEligible => write!(f, "1 LinkNotEligible"),
+            CheckFault::LinksNotAscending => write!(f, "2 LinksNotAscending"),
+            CheckFault::PointsNotUnion => write!(f, "3 PointsNotUnion"),
+            CheckFault::BadFlowRow => write!(f, "4 BadFlowRow"),
+            CheckFault::GainExceeded => write!(f, "5 GainExceeded"),
+            CheckFault::CostExceeded => write!(f, "6 CostExceeded"),
+            CheckFault::ValueWrong => write!(f, "7 ValueWrong"),
+            CheckFault::FlowNotMatching => write!(f, "8 FlowNotMatching"),
+            CheckFault::NoMemory => write!(f, "9 NoMemory"),
+        }
+    }
+}
+
+impl Error for CheckFault {}
