@@ -6,8 +6,10 @@ use Rattle.mh_tree.specs.declared.fault.TreeFault.{TreeFault}
 use Rattle.mh_tree.specs.declared.fault.TreeFault.TheVariants as tree_fault
 use Rattle.mh_site.specs.declared.fault.DefinitionFault.{DefinitionFault}
 use Rattle.mh_site.specs.declared.fault.DefinitionFault.TheVariants as definition_fault
+use Rattle.mh_network.specs.declared.fault.ProblemFault.{ProblemFault}
+use Rattle.mh_network.specs.declared.fault.ProblemFault.TheVariants as problem_fault
 use Rattle.mh_text.specs.declared.fault.ReadFault.{ReadFault}
-use Rattle.mh_text.specs.declared.fault.ReadFault.TheVariants.{NoMemory, TooLong, NotJson, BadShape, BadValue, UnknownShared, Tree, Definition, BadType}
+use Rattle.mh_text.specs.declared.fault.ReadFault.TheVariants.{NoMemory, TooLong, NotJson, BadShape, BadValue, UnknownShared, Tree, Definition, Problem, BadType}
 use Rattle.mh_text.specs.declared.fault.TextFault.{TextFault}
 use Rattle.mh_text.specs.declared.fault.TextFault.TheVariants as text
 use Rattle.mh_text.specs.declared.fault.Fault.{Fault}
@@ -42,6 +44,11 @@ abbrev pub of_definition : DefinitionFault → ReadFault
 of_definition definition_fault.NoMemory = NoMemory
 of_definition cause = Definition cause
 
+-- what makes a problem refuses, as a fault of the input
+abbrev pub of_problem : ProblemFault → ReadFault
+of_problem problem_fault.NoMemory = NoMemory
+of_problem cause = Problem cause
+
 -- what was made, or the cause as a fault of the input
 abbrev pub caused : {A C : Type 0} → (C → ReadFault) → Result A C → Result A ReadFault
 caused fault (Ok x) = Ok x
@@ -57,6 +64,7 @@ told BadValue = text.BadValue
 told UnknownShared = text.UnknownShared
 told (Tree cause) = text.Tree cause
 told (Definition cause) = text.Definition cause
+told (Problem cause) = text.Problem cause
 told (BadType cause) = text.BadType cause
 
 -- a fault at a place: 0 outside the events, and the event's number from 1

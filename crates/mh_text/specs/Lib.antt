@@ -1,8 +1,11 @@
 pub mod Bytes
+pub mod Checks
 pub mod Gives
 pub mod Lines
 pub mod Names
 pub mod Output
+pub mod Plans
+pub mod Problems
 pub mod Script
 pub mod Shape
 pub mod Shared

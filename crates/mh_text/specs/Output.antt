@@ -21,15 +21,15 @@ use Rattle.mh_text.specs.Script.{script_of}
 unfoldable pub json_in : List ℕ → Result Data ReadFault
 json_in input = if is_utf8 input then or_fault read_fault.NotJson (read input) else Err read_fault.NotJson
 
--- the script of an input within the limit
-abbrev pub script_in : List ℕ → Result Script Fault
-script_in input = do
-  value ← at_place 0 (json_in input)
-  script_of value
+-- the JSON value of an input within the limit
+abbrev pub json_of_input : List ℕ → Result Data Fault
+json_of_input input = if nat_le (length input) 1048576 then at_place 0 (json_in input) else Err (record { kind = fault.TooLong; at = 0 })
 
 -- the script of an input
 abbrev pub script_of_input : List ℕ → Result Script Fault
-script_of_input input = if nat_le (length input) 1048576 then script_in input else Err (record { kind = fault.TooLong; at = 0 })
+script_of_input input = do
+  value ← json_of_input input
+  script_of value
 
 -- the lines of a whole run of these events were appended
 abbrev pub AppendsRun : MachineState → List Event → Option (List ℕ) → Option (List ℕ) → Type 0
@@ -53,10 +53,14 @@ first script = opened_machine script.definition script.workers script.limits
 abbrev pub IsEnd : Bool → TextFault → Type 0
 IsEnd write_failed kind = (kind ≡ fault.NoMemory) ⊎ ((kind ≡ fault.WriteFailed) × (write_failed ≡ true))
 
--- a fault before the first event: memory, a read that failed, or the first fault of the input
-abbrev pub IsUnread : Option (List ℕ) → Bool → Fault → Type 0
-IsUnread input read_failed e =
-    (e.kind ≡ fault.NoMemory) ⊎ ((e.kind ≡ fault.ReadFailed) × (read_failed ≡ true)) ⊎ IfSome input (λ bytes. script_of_input bytes ≡ Err e)
+-- the first fault of a script
+abbrev pub IsScriptFault : List ℕ → Fault → Type 0
+IsScriptFault input e = script_of_input input ≡ Err e
+
+-- a fault before anything is written: memory, a read that failed, or a fault of the input
+abbrev pub IsUnread : (List ℕ → Fault → Type 0) → Option (List ℕ) → Bool → Fault → Type 0
+IsUnread IsFault input read_failed e =
+    (e.kind ≡ fault.NoMemory) ⊎ ((e.kind ≡ fault.ReadFailed) × (read_failed ≡ true)) ⊎ IfSome input (λ bytes. IsFault bytes e)
 
 -- a fault of a run: memory before its first event, and else one that ends it in the line of an event
 abbrev pub EndsEarly : Script → Option (List ℕ) → Option (List ℕ) → Bool → Fault → Type 0
@@ -66,5 +70,5 @@ EndsEarly script old new write_failed e =
 -- Where a fault leaves the writer: as it was, where the script was not read, and else where its run ended. The flags say whether a read and a write have failed.
 abbrev pub Failed : Option (List ℕ) → Option (List ℕ) → Option (List ℕ) → Bool → Bool → Fault → Type 0
 Failed input old new read_failed write_failed e =
-    (Keeps old new × IsUnread input read_failed e)
+    (Keeps old new × IsUnread IsScriptFault input read_failed e)
     ⊎ IfSome input (λ bytes. (script : Script) × (script_of_input bytes ≡ Ok script) × EndsEarly script old new write_failed e)

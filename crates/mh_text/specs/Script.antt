@@ -23,7 +23,7 @@ use Rattle.mh_text.specs.declared.script.Schedule.{Schedule}
 use Rattle.mh_text.specs.declared.script.Script.{Script}
 use Rattle.mh_text.specs.Gives.{◌>>=◌, at_place, caused, of_definition}
 use Rattle.mh_text.specs.Names.{with_name, place_of}
-use Rattle.mh_text.specs.Shape.{list_of, text_of, member_of, count_of, each_from, each_of}
+use Rattle.mh_text.specs.Shape.{list_of, text_of, member_of, count_of, version_of, each_from, each_of}
 use Rattle.mh_text.specs.Shared.{scope_of}
 use Rattle.mh_text.specs.Trees.{declared_of, point_place}
 use Rattle.mh_text.specs.Values.{type_of, value_for, values_for}
@@ -106,13 +106,6 @@ site_of scope d = do
 -- the names of the sites, by number
 abbrev pub site_names_of : List Site → List (List ℕ)
 site_names_of sites = fold (λ names s. with_name names s.name) [] sites
-
--- the version, which is the number 1
-abbrev pub version_of : Data → Result ℕ ReadFault
-version_of d = do
-  version ← member_of (codes "version") d
-  version ← count_of 1 version
-  if version == 1 then Ok version else Err BadShape
 
 -- the points of a definition
 abbrev pub points_of : Data → Result (List Point) ReadFault

@@ -1,5 +1,5 @@
 -- The parts of a JSON value, each with the fault that is told where it is not of its form.
-use Rattle.std.specs.Prelude.{ℕ, ◌+◌, List, [], ◌∷◌, Some, None, Result, Ok, Err, option_and_then, nat_le, if◌then◌else◌}
+use Rattle.std.specs.Prelude.{ℕ, ◌+◌, List, [], ◌∷◌, Option, Some, None, Result, Ok, Err, option_and_then, nat_le, if◌then◌else◌, ◌==◌, codes}
 use Rattle.serde_json.specs.Data.{Data, null, boolean, number, string, array, object, Items, no_items, item}
 use Rattle.serde_json.specs.Find.{get, as_number, as_str, as_u64}
 use Rattle.mh_text.specs.declared.fault.ReadFault.{ReadFault}
@@ -31,6 +31,13 @@ member_of key d = or_fault BadShape (get key d)
 abbrev pub count_of : ℕ → Data → Result ℕ ReadFault
 count_of bound d = or_fault BadShape (option_and_then (λ n. if nat_le n bound then Some n else None) (option_and_then as_u64 (as_number d)))
 
+-- the version, which is the number 1
+abbrev pub version_of : Data → Result ℕ ReadFault
+version_of d = do
+  version ← member_of (codes "version") d
+  version ← count_of 1 version
+  if version == 1 then Ok version else Err BadShape
+
 -- each item in order, with its number from n on, up to the first that has a fault
 abbrev pub each_from : {A E : Type 0} → (ℕ → Data → Result A E) → ℕ → List Data → Result (List A) E
 each_from read n [] = Ok []
@@ -42,3 +49,14 @@ each_from read n (d ∷ ds) = do
 -- each item in order, up to the first that has a fault
 abbrev pub each_of : {A : Type 0} → (Data → Result A ReadFault) → List Data → Result (List A) ReadFault
 each_of read ds = each_from (λ _ d. read d) 0 ds
+
+-- a list of whole numbers from 0 to a bound
+abbrev pub counts_of : ℕ → Data → Result (List ℕ) ReadFault
+counts_of bound d = do
+  ds ← list_of d
+  each_of (count_of bound) ds
+
+-- the value itself, or what it has at a key
+abbrev pub part_of : Option (List ℕ) → Data → Result Data ReadFault
+part_of None d = Ok d
+part_of (Some key) d = member_of key d

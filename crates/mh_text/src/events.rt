@@ -8,7 +8,7 @@ use crate::declarations::Declarations;
 use crate::fault::{Fault, ReadFault, TextFault};
 use crate::points::read_named_points;
 use crate::scope::Scope;
-use crate::shape::{count, list, text};
+use crate::shape::{list, number, text};
 use crate::trees::read_declared;
 use crate::values::read_values;
 use mh_core::Event;
@@ -16,16 +16,13 @@ use mh_site::Listing;
 use serde_json::Value;
 use std::alloc::Global;
 
-/// The greatest number of a worker that an event can name.
-const LAST_WORKER: u64 = 0xffff_ffff;
-
 fn read_call(alloc: Global, declared: &Declarations, args: &[Value]) -> Result<Event, ReadFault>
     ensures value { Gives (λ x. x) result (call_from declared.now (map view args.now)) }
 {
     let [worker, name, values] = args else {
         return Err(ReadFault::BadShape);
     };
-    let worker = count(worker, LAST_WORKER)? as u32;
+    let worker = number(worker)?;
     let site = declared.site_number(text(name)?);
     let arguments = read_values(alloc, declared.parameters(site), list(values)?)?;
     Ok(Event::Call {

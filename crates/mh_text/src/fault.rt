@@ -1,9 +1,10 @@
 //! Why an input could not be read or its lines not be written.
 ghost use Rattle.std.specs.Prelude.{◌≡◌};
 ghost use Rattle.mh_text.specs.declared.fault.TextFault.TheVariants as text;
-ghost use Rattle.mh_text.specs.Gives.{of_tree, of_type, of_definition, told};
+ghost use Rattle.mh_text.specs.Gives.{of_tree, of_type, of_definition, of_problem, told};
 
 use mh_core::NoMemory;
+use mh_network::ProblemFault;
 use mh_site::DefinitionFault;
 use mh_tree::TreeFault;
 use mh_type::TypeFault;
@@ -30,6 +31,8 @@ pub enum ReadFault {
     Tree(TreeFault),
     /// The definition is not lawful.
     Definition(DefinitionFault),
+    /// Rows and costs are no problem.
+    Problem(ProblemFault),
     /// A text is no method type.
     BadType(TypeFault),
 }
@@ -78,6 +81,17 @@ impl From<DefinitionFault> for ReadFault {
     }
 }
 
+impl From<ProblemFault> for ReadFault {
+    ghost from_gives = { λ cause e. e ≡ of_problem cause };
+
+    fn from(cause: ProblemFault) -> ReadFault {
+        match cause {
+            ProblemFault::NoMemory => ReadFault::NoMemory,
+            _ => ReadFault::Problem(cause),
+        }
+    }
+}
+
 impl From<TypeFault> for ReadFault {
     ghost from_gives = { λ cause e. e ≡ of_type cause };
 
@@ -108,6 +122,8 @@ pub enum TextFault {
     Tree(TreeFault),
     #[error("8 Definition {}", .0.number())]
     Definition(DefinitionFault),
+    #[error("9 Problem {}", .0.number())]
+    Problem(ProblemFault),
     #[error("10 ReadFailed")]
     ReadFailed,
     #[error("11 WriteFailed")]
@@ -129,6 +145,7 @@ impl From<ReadFault> for TextFault {
             ReadFault::UnknownShared => TextFault::UnknownShared,
             ReadFault::Tree(cause) => TextFault::Tree(cause),
             ReadFault::Definition(cause) => TextFault::Definition(cause),
+            ReadFault::Problem(cause) => TextFault::Problem(cause),
             ReadFault::BadType(cause) => TextFault::BadType(cause),
         }
     }

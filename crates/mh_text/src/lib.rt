@@ -1,16 +1,21 @@
-//! Scripts from JSON, and the lines of their replies.
+//! Scripts, problems and plans from JSON, and the lines of what they give.
 #![tactic(auto)]
 
+mod check;
+mod claim;
 mod declarations;
 mod events;
 mod fault;
 mod input;
+mod json;
 mod leaves;
 mod limits;
 mod lines;
 mod links;
 mod names;
+mod plan;
 mod points;
+mod problem;
 mod run;
 mod scope;
 mod script;
@@ -19,9 +24,14 @@ mod shared;
 mod sites;
 mod trees;
 mod values;
+mod verdict;
 mod watched;
 
+pub use check::check_bytes;
 pub use fault::{Fault, TextFault};
+pub use plan::read_plan;
+pub use problem::read_problem;
 pub use run::run_bytes;
 pub use script::{Script, read_script};
+pub use verdict::Verdict;
 pub use watched::Watched;

@@ -6,7 +6,7 @@ ghost use Rattle.mh_core.specs.declared.reply.Reply.{Reply};
 ghost use Rattle.mh_text.specs.Bytes.{AppendsFront};
 ghost use Rattle.mh_text.specs.Lines.{line_of};
 ghost use Rattle.mh_core.specs.Legal.{Step};
-ghost use Rattle.mh_text.specs.Output.{script_of_input, first, AppendsRun, EndsIn, EndsEarly, IsUnread, Failed, IsEnd};
+ghost use Rattle.mh_text.specs.Output.{script_of_input, first, AppendsRun, EndsIn, EndsEarly, IsScriptFault, IsUnread, Failed, IsEnd};
 
 use crate::fault::{Fault, TextFault};
 use crate::input::read_input;
@@ -83,7 +83,7 @@ fn run_events<W: Write>(
 /// The script that the reader gives.
 fn read_whole<R: Read>(alloc: Global, reader: &mut Watched<R>) -> Result<Script, Fault>
     ensures ok { IfOk result (λ script. IfSome (R.remaining reader.old.inner) (λ input. script_of_input input ≡ Ok script)) }
-    ensures failed { IfErr result (IsUnread (R.remaining reader.old.inner) reader.new.failed) }
+    ensures failed { IfErr result (IsUnread IsScriptFault (R.remaining reader.old.inner) reader.new.failed) }
 {
     let input = read_input(alloc, reader)?;
     read_script(alloc, &input)

@@ -1,17 +1,16 @@
 //! Scripts: a definition, a number of workers, and events.
-ghost use Rattle.std.specs.Prelude.{◌≡◌};
 ghost use Rattle.serde_json.specs.View.{view};
 ghost use Rattle.mh_text.specs.Gives.{Gives, GivesAt};
-ghost use Rattle.mh_text.specs.Script.{version_of, declarations_of, workers_of, event_list_of, schedule_of, script_of};
-ghost use Rattle.mh_text.specs.Output.{json_in, script_in, script_of_input};
+ghost use Rattle.mh_text.specs.Script.{declarations_of, workers_of, event_list_of, schedule_of, script_of};
+ghost use Rattle.mh_text.specs.Output.{script_of_input};
 
 use crate::declarations::Declarations;
 use crate::events::read_events;
-use crate::fault::{Fault, ReadFault, TextFault};
-use crate::input::LIMIT;
+use crate::fault::{Fault, ReadFault};
+use crate::json::read_json;
 use crate::limits::read_limits;
 use crate::points::{point_names, read_points};
-use crate::shape::{count, list, member};
+use crate::shape::{count, list, member, version};
 use crate::shared::read_scope;
 use crate::sites::{read_sites, site_names};
 use mh_core::{Event, Limits};
@@ -39,22 +38,12 @@ pub struct Schedule {
     pub events: Listing<Event>,
 }
 
-fn read_version(definition: &Value) -> Result<u64, ReadFault>
-    ensures value { Gives (λ x. x) result (version_of (view definition.now)) }
-{
-    let version = count(member(definition, "version")?, 1)?;
-    if version != 1 {
-        return Err(ReadFault::BadShape);
-    }
-    Ok(version)
-}
-
 /// What a script declares.
 fn read_declarations(alloc: Global, value: &Value) -> Result<Declarations, ReadFault>
     ensures value { Gives (λ x. x) result (declarations_of (view value.now)) }
 {
     let definition = member(value, "definition")?;
-    read_version(definition)?;
+    version(definition)?;
     let points = read_points(alloc, definition)?;
     let names = point_names(alloc, points.as_slice())?;
     let scope = read_scope(alloc, names, definition)?;
@@ -123,35 +112,10 @@ fn read_value(alloc: Global, value: &Value) -> Result<Script, Fault>
     })
 }
 
-/// The JSON value of an input.
-fn parse(alloc: Global, input: &[u8]) -> Result<Value, ReadFault>
-    ensures value { Gives view result (json_in input.now) }
-{
-    match Value::from_slice(alloc, input) {
-        Ok(value) => Ok(value),
-        Err(error) => {
-            if error.is_memory() {
-                return Err(ReadFault::NoMemory);
-            }
-            Err(ReadFault::NotJson)
-        }
-    }
-}
-
-/// The script of an input within the limit.
-fn read_within(alloc: Global, input: &[u8]) -> Result<Script, Fault>
-    ensures value { GivesAt (λ x. x) result (script_in input.now) }
-{
-    read_value(alloc, &parse(alloc, input)?)
-}
-
 /// The script of an input, or its first fault in the order of reading: its length, JSON, the
 /// definition (version, points, shared trees, sites), the workers, the limits, the events.
 pub fn read_script(alloc: Global, input: &[u8]) -> Result<Script, Fault>
     ensures value { GivesAt (λ x. x) result (script_of_input input.now) }
 {
-    if input.len() > LIMIT {
-        return Err(Fault::from(TextFault::TooLong));
-    }
-    read_within(alloc, input)
+    read_value(alloc, &read_json(alloc, input)?)
 }

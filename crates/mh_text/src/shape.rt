@@ -1,12 +1,12 @@
 //! The parts of a JSON value, each with the fault that is told where it is not of its form.
-ghost use Rattle.std.specs.Prelude.{◌≡◌, ◌^◌, ◌-◌, map, Result};
+ghost use Rattle.std.specs.Prelude.{◌≡◌, ◌^◌, ◌-◌, map, option_map, Result};
 ghost use Rattle.std.specs.Fn.{FnReturnsAt};
 ghost use Rattle.serde_json.specs.Data.{Data};
 ghost use Rattle.serde_json.specs.declared.value.Value.{Value};
 ghost use Rattle.mh_text.specs.declared.fault.ReadFault.{ReadFault};
 ghost use Rattle.serde_json.specs.View.{view};
 ghost use Rattle.mh_text.specs.Gives.{Gives};
-ghost use Rattle.mh_text.specs.Shape.{list_of, text_of, member_of, count_of, each_of};
+ghost use Rattle.mh_text.specs.Shape.{list_of, text_of, member_of, count_of, version_of, each_of, part_of};
 
 use crate::fault::ReadFault;
 use mh_site::Listing;
@@ -15,6 +15,9 @@ use std::alloc::Global;
 
 /// The greatest N of a script, whose counts are 0 to 2^63 - 1.
 pub(crate) const MOST: u64 = 0x7fff_ffff_ffff_ffff;
+
+/// The greatest number of a worker, a link or a point that an input can name.
+const LAST_NUMBER: u64 = 0xffff_ffff;
 
 /// The items of an array.
 #[tactic(auto, using(crate::proofs::Shapes::list_of_array))]
@@ -58,6 +61,24 @@ pub(crate) fn place(value: &Value) -> Result<usize, ReadFault>
     Ok(count(value, MOST)? as usize)
 }
 
+/// A whole number of 32 bits.
+pub(crate) fn number(value: &Value) -> Result<u32, ReadFault>
+    ensures value { Gives (λ x. x) result (count_of (2 ^ 32 - 1) (view value.now)) }
+{
+    Ok(count(value, LAST_NUMBER)? as u32)
+}
+
+/// The version of an object, which is 1.
+pub(crate) fn version(value: &Value) -> Result<u64, ReadFault>
+    ensures value { Gives (λ x. x) result (version_of (view value.now)) }
+{
+    let version = count(member(value, "version")?, 1)?;
+    if version != 1 {
+        return Err(ReadFault::BadShape);
+    }
+    Ok(version)
+}
+
 /// What each item of a list is read as, up to the first fault.
 pub(crate) fn each<T: Drop, F: Fn(&Value) -> Result<T, ReadFault>>(
     alloc: Global,
@@ -74,4 +95,14 @@ pub(crate) fn each<T: Drop, F: Fn(&Value) -> Result<T, ReadFault>>(
         items.push(read(value)?)?;
     }
     Ok(Listing::from_vec(items))
+}
+
+/// A value itself, or what it has at a key.
+pub(crate) fn part<'a>(value: &'a Value, key: Option<&str>) -> Result<&'a Value, ReadFault>
+    ensures value { Gives (λ x. view x.now) result (part_of (option_map (λ k. k.now) key.entry) (view value.now)) }
+{
+    match key {
+        Some(key) => member(value, key),
+        None => Ok(value),
+    }
 }

@@ -1,0 +1,60 @@
+-- What a check reads, what it finds, and what it writes.
+use Rattle.std.specs.Prelude.{ℕ, ◌≡◌, ◌⊎◌, List, [], ◌∷◌, ◌++◌, Option, Some, Result, Ok, Err, Bool, true, IfSome, codes}
+use Rattle.std.specs.Io.KnownBytes.{Keeps}
+use Rattle.mh_network.specs.Problems.{ProblemData, problem_tests}
+use Rattle.mh_network.specs.Selection.{IsBest, member}
+use Rattle.mh_network.specs.Tests.{Passes, Refuses}
+use Rattle.mh_cert.specs.declared.plan.Plan.{Plan}
+use Rattle.mh_cert.specs.Plans.{Matches, plan_tests, check_fault_text}
+use Rattle.mh_text.specs.declared.fault.Fault.{Fault}
+use Rattle.mh_text.specs.declared.fault.TextFault.TheVariants.{WriteFailed}
+use Rattle.mh_text.specs.declared.problem.ProblemRows.{ProblemRows}
+use Rattle.mh_text.specs.declared.verdict.Verdict.{Verdict}
+use Rattle.mh_text.specs.declared.verdict.Verdict.TheVariants.{Accepted, Refused}
+use Rattle.mh_text.specs.Bytes.{AppendsFront}
+use Rattle.mh_text.specs.Output.{IsUnread}
+use Rattle.mh_text.specs.Plans.{plan_of_input}
+use Rattle.mh_text.specs.Problems.{rows_of_input, IsMade, IsNotMade}
+
+-- what is read as a problem's rows makes the problem, and what is read as a plan is the plan
+abbrev pub Holds : Result ProblemRows Fault → Result Plan Fault → ProblemData → Plan → Type 0
+Holds problem read p plan = (rows : ProblemRows) × (problem ≡ Ok rows) × IsMade rows p × (read ≡ Ok plan)
+
+-- the first fault of both: the rows are not read, or make no problem, or else the plan is not read
+abbrev pub IsFirstOf : Result ProblemRows Fault → Result Plan Fault → Fault → Type 0
+IsFirstOf problem read e =
+    (problem ≡ Err e)
+    ⊎ ((rows : ProblemRows) × (problem ≡ Ok rows) × (IsNotMade rows e ⊎ (Passes (problem_tests rows.links rows.costs) × (read ≡ Err e))))
+
+-- an input of a check has its problem at one key, and the plan at another
+abbrev pub IsClaim : List ℕ → ProblemData → Plan → Type 0
+IsClaim input p plan = Holds (rows_of_input (Some (codes "problem")) input) (plan_of_input (Some (codes "plan")) input) p plan
+
+-- the first fault of such an input
+abbrev pub IsClaimFault : List ℕ → Fault → Type 0
+IsClaimFault input e = IsFirstOf (rows_of_input (Some (codes "problem")) input) (plan_of_input (Some (codes "plan")) input) e
+
+-- A plan is accepted where it matches its problem, and its links are then best; else its first part that is wrong is told.
+abbrev pub IsFound : ProblemData → Plan → Verdict → Type 0
+IsFound p plan Accepted = Matches p plan × IsBest p (member plan.links)
+IsFound p plan (Refused cause) = Refuses (plan_tests p plan) cause × (Matches p plan → ⊥)
+
+-- what a check of an input finds
+abbrev pub IsVerdict : List ℕ → Verdict → Type 0
+IsVerdict input verdict = (p : ProblemData) × (plan : Plan) × IsClaim input p plan × IsFound p plan verdict
+
+-- what is found, and the byte 0x0A
+abbrev pub verdict_line : Verdict → List ℕ
+verdict_line Accepted = codes "accepted" ++ 10 ∷ []
+verdict_line (Refused cause) = codes "refused " ++ check_fault_text cause ++ 10 ∷ []
+
+-- a write failed after a beginning of the line of a verdict
+abbrev pub IsCutOff : Option (List ℕ) → Option (List ℕ) → Bool → Fault → Verdict → Type 0
+IsCutOff old new write_failed e verdict =
+    (e ≡ record { kind = WriteFailed; at = 0 }) × (write_failed ≡ true) × AppendsFront old new (verdict_line verdict)
+
+-- Where a fault leaves the writer: as it was, or with a beginning of the line. The flags say whether a read and a write have failed.
+abbrev pub FailsCheck : Option (List ℕ) → Option (List ℕ) → Option (List ℕ) → Bool → Bool → Fault → Type 0
+FailsCheck input old new read_failed write_failed e =
+    (Keeps old new × IsUnread IsClaimFault input read_failed e)
+    ⊎ ((verdict : Verdict) × IfSome input (λ bytes. IsVerdict bytes verdict) × IsCutOff old new write_failed e verdict)

@@ -1,0 +1,34 @@
+//! The JSON value of an input.
+ghost use Rattle.serde_json.specs.View.{view};
+ghost use Rattle.mh_text.specs.Gives.{Gives, GivesAt};
+ghost use Rattle.mh_text.specs.Output.{json_in, json_of_input};
+
+use crate::fault::{Fault, ReadFault, TextFault};
+use crate::input::LIMIT;
+use serde_json::Value;
+use std::alloc::Global;
+
+/// The JSON value of bytes of any number.
+fn parse(alloc: Global, input: &[u8]) -> Result<Value, ReadFault>
+    ensures value { Gives view result (json_in input.now) }
+{
+    match Value::from_slice(alloc, input) {
+        Ok(value) => Ok(value),
+        Err(error) => {
+            if error.is_memory() {
+                return Err(ReadFault::NoMemory);
+            }
+            Err(ReadFault::NotJson)
+        }
+    }
+}
+
+/// The JSON value of an input, whose length comes first.
+pub(crate) fn read_json(alloc: Global, input: &[u8]) -> Result<Value, Fault>
+    ensures value { GivesAt view result (json_of_input input.now) }
+{
+    if input.len() > LIMIT {
+        return Err(Fault::from(TextFault::TooLong));
+    }
+    Ok(parse(alloc, input)?)
+}
