@@ -1,3 +1,4 @@
+pub mod Net
 pub mod SumLaws
 pub mod Duality
 pub mod Optimal

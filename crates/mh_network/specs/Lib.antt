@@ -1,5 +1,4 @@
 pub mod Tests
 pub mod Sums
 pub mod Problems
-pub mod Net
 pub mod Selection
