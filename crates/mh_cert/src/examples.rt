@@ -151,3 +151,57 @@ fn amounts_do_not_wrap(rt: HostRuntime) -> Result<(), Fail> {
     assert_eq!(rt; told, Some(CheckFault::GainExceeded));
     Ok(())
 }
+
+// A problem as large as there is: each of 4,096 links gains 8 and needs 8 points, and each of 1,024
+// points costs 32 and is needed by 32 links.
+fn large_problem(alloc: Global) -> Result<Problem, Fail> {
+    let mut links = Vec::new(alloc);
+    for link in 0..4096u32 {
+        let first = (link % 128) * 8;
+        let mut needs = Vec::new(alloc);
+        for point in first..first + 8 {
+            needs.push(point)?;
+        }
+        links.push(LinkRow {
+            gain: 8,
+            eligible: true,
+            needs: Listing::from_vec(needs),
+        })?;
+    }
+    let costs = vec![in alloc; 32u64; 1024]?;
+    Ok(Problem::new(alloc, &links, &costs)?)
+}
+
+// Each link carries 1 to each point that it needs.
+fn large_flow(alloc: Global) -> Result<Vec<Row>, Fail> {
+    let mut flow = Vec::new(alloc);
+    for link in 0..4096u32 {
+        let first = (link % 128) * 8;
+        for point in first..first + 8 {
+            flow.push((link, point, 1))?;
+        }
+    }
+    Ok(flow)
+}
+
+fn numbers_below(alloc: Global, count: u32) -> Result<Vec<u32>, Fail> {
+    let mut numbers = Vec::new(alloc);
+    for number in 0..count {
+        numbers.push(number)?;
+    }
+    Ok(numbers)
+}
+
+#[test]
+fn a_large_plan_is_checked(rt: HostRuntime) -> Result<(), Fail> {
+    let alloc = rt.alloc();
+    let problem = large_problem(alloc)?;
+    let links = numbers_below(alloc, 4096)?;
+    let points = numbers_below(alloc, 1024)?;
+    let mut flow = large_flow(alloc)?;
+    assert_eq!(rt; answer(alloc, &problem, &links, &points, 0, &flow)?, None);
+    flow.push((0, 0, 1))?;
+    let told = answer(alloc, &problem, &links, &points, 0, &flow)?;
+    assert_eq!(rt; told, Some(CheckFault::BadFlowRow));
+    Ok(())
+}
