@@ -1,4 +1,4 @@
--- What the words of `mhlink run` are taken for.
+-- What words are taken for.
 use Rattle.std.proofs.Common.{◌≡◌, ◌⊎◌, inl, inr, ◌∙◌, sym, ap, subst, refl, ◌&&◌, ℕ, List, [], ◌∷◌, Option, Some, None, true, codes, option_map}
 use Rattle.std.specs.Box.{box_value}
 use Rattle.clap.specs.Simple.{built, entered, names_of}
@@ -13,15 +13,20 @@ use Rattle.clap.specs.declared.error.kind.ErrorKind.TheVariants.{DisplayHelp, Ou
 use Rattle.clap.specs.declared.parser.matches.ArgMatches.{ArgMatches}
 use Rattle.clap.specs.declared.parser.matches.ArgMatches.TheViews.{out-ArgMatches, out-SubCommand}
 use Rattle.clap.proofs.OnLiterals.{clap_on_literals}
-use Rattle.mhlink.specs.CommandLine.{program, IsRun, AsksHelp}
+use Rattle.mhlink.specs.CommandLine.{program, IsRun, IsCheck, AsksHelp}
 
 is_plain : is_simple program ≡ true
 unfolding clap_on_literals
 is_plain = refl
 
-pub is_taken : (words : List (List ℕ)) → IsRun words → takes program words ≡ true
+-- the words of a subcommand are taken
+pub run_is_taken : (words : List (List ℕ)) → IsRun words → takes program words ≡ true
 unfolding clap_on_literals
-is_taken words is = subst (λ after. is_simple program && built_takes (built program) nothing_held after ≡ true) (sym is) refl
+run_is_taken words is = subst (λ after. is_simple program && built_takes (built program) nothing_held after ≡ true) (sym is) refl
+
+pub check_is_taken : (words : List (List ℕ)) → IsCheck words → takes program words ≡ true
+unfolding clap_on_literals
+check_is_taken words is = subst (λ after. is_simple program && built_takes (built program) nothing_held after ≡ true) (sym is) refl
 
 abbrev name_in : Option (Text × List Row) → Option Text
 name_in = option_map (λ p. p.0)
@@ -30,14 +35,25 @@ names_run : (words : List (List ℕ)) → IsRun words → name_in (subcommand_of
 unfolding clap_on_literals
 names_run words is = subst (λ after. name_in (entered (built program) (stop_after (built program).top.rules (names_of (built program)) after)) ≡ Some (codes "run")) (sym is) refl
 
+names_check : (words : List (List ℕ)) → IsCheck words → name_in (subcommand_of program words) ≡ Some (codes "check")
+unfolding clap_on_literals
+names_check words is = subst (λ after. name_in (entered (built program) (stop_after (built program).top.rules (names_of (built program)) after)) ≡ Some (codes "check")) (sym is) refl
+
 name_in_rows : (m : ArgMatches) → subcommand_name_of m ≡ name_in (subcommand_rows_of m)
 name_in_rows m = elim (out-ArgMatches m).subcommand as (λ o. option_map (λ b. (out-SubCommand (box_value b)).name.now) o ≡ name_in (subcommand_rows o)) [ None ↦ refl | Some b ↦ refl ]
 
--- matches of these words are those of the subcommand `run`
-pub matches_run : (c : Command) (words : List (List ℕ)) (m : ArgMatches) → app_of c ≡ program → HasMatchesOf (app_of c) words m → IsRun words → subcommand_name_of m ≡ Some (codes "run")
-matches_run c words m made has is =
-    let rows : subcommand_rows_of m ≡ subcommand_of (app_of c) words = (has (ap is_simple made ∙ is_plain)).1 in
-    name_in_rows m ∙ ap name_in (rows ∙ ap (λ a. subcommand_of a words) made) ∙ names_run words is
+module _ (c : Command) (words : List (List ℕ)) (m : ArgMatches) (made : app_of c ≡ program) (has : HasMatchesOf (app_of c) words m) where
+  matches_named : (name : Text) → name_in (subcommand_of program words) ≡ Some name → subcommand_name_of m ≡ Some name
+  matches_named name is =
+      let rows : subcommand_rows_of m ≡ subcommand_of (app_of c) words = (has (ap is_simple made ∙ is_plain)).1 in
+      name_in_rows m ∙ ap name_in (rows ∙ ap (λ a. subcommand_of a words) made) ∙ is
+
+  -- matches of these words are those of the subcommand
+  pub matches_run : IsRun words → subcommand_name_of m ≡ Some (codes "run")
+  matches_run is = matches_named (codes "run") (names_run words is)
+
+  pub matches_check : IsCheck words → subcommand_name_of m ≡ Some (codes "check")
+  matches_check is = matches_named (codes "check") (names_check words is)
 
 is_free : is_simple_and_free program ≡ true
 unfolding clap_on_literals

@@ -1,3 +1,4 @@
+mod CheckFlushed
 mod CommandLineLemmas
 mod Flushed
 mod Unread

@@ -5,13 +5,17 @@ use Rattle.clap.specs.Words.{App, new_app, with_subcommand}
 use Rattle.clap.specs.declared.error.kind.ErrorKind.{ErrorKind}
 use Rattle.clap.specs.declared.error.kind.ErrorKind.TheVariants.{DisplayHelp, DisplayVersion, OutOfMemory}
 
--- the program, with its one subcommand, which is required
+-- the program, of whose subcommands one is required
 abbrev pub program : App
-program = with_subcommand (on_top (λ s. record s { subcommand_required = true }) (new_app (codes "mhlink"))) (new_app (codes "run")).top
+program = with_subcommand (with_subcommand (on_top (λ s. record s { subcommand_required = true }) (new_app (codes "mhlink"))) (new_app (codes "run")).top) (new_app (codes "check")).top
 
 -- the words, the program's name first, are those of `mhlink run`
 abbrev pub IsRun : List (List ℕ) → Type 0
 IsRun words = drop 1 words ≡ codes "run" ∷ []
+
+-- the words, the program's name first, are those of `mhlink check`
+abbrev pub IsCheck : List (List ℕ) → Type 0
+IsCheck words = drop 1 words ≡ codes "check" ∷ []
 
 -- those of `mhlink --help`, or of `mhlink -h`
 abbrev pub AsksHelp : List (List ℕ) → Type 0

@@ -4,9 +4,11 @@ ghost use Rattle.clap.specs.Words.{app_of, fault_of, kind_of, subcommand_name_of
 ghost use Rattle.clap.specs.declared.error.kind.ErrorKind.{ErrorKind};
 ghost use Rattle.std.specs.Io.KnownBytes.{Keeps};
 ghost use Rattle.mh_text.specs.declared.fault.Fault.{Fault};
-ghost use Rattle.mhlink.specs.CommandLine.{program, IsRun, AsksHelp, status_answered, IsAnswer};
+ghost use Rattle.mhlink.specs.Checking.{IsAccepted, IsRejected};
+ghost use Rattle.mhlink.specs.CommandLine.{program, IsRun, IsCheck, AsksHelp, status_answered, IsAnswer};
 ghost use Rattle.mhlink.specs.Statuses.{status_told, RunsWhole, RefusesInput, EndsInFault, IsTold, IsScript, IsNoScript};
 
+use crate::checking::check;
 use clap::error::ErrorKind;
 use clap::{ArgMatches, Command, Error};
 use mh_text::{Fault, TextFault, Watched, run_bytes};
@@ -34,9 +36,11 @@ fn build<'a>(alloc: Global) -> Result<Command<'a>, AllocError>
     ensures app { IfOk result (λ c. app_of c ≡ program) }
 {
     let run = Command::new(alloc, "run");
+    let check = Command::new(alloc, "check");
     Command::new(alloc, "mhlink")
         .subcommand_required(true)
-        .subcommand(run)
+        .subcommand(run)?
+        .subcommand(check)
 }
 
 /// Writes a text to its end, and gives the status, or the one for a failed write.
@@ -62,7 +66,7 @@ fn status_of(fault: Fault) -> u8
 }
 
 /// Writes the line of a fault, and gives its status, or the one for what kept the line back.
-fn tell_fault<E: Write>(alloc: Global, fault: Fault, err: &mut E) -> u8
+pub(crate) fn tell_fault<E: Write>(alloc: Global, fault: Fault, err: &mut E) -> u8
     ensures value { IsTold result fault.kind }
 {
     let Ok(line) = format!(in alloc; "{fault}\n") else {
@@ -147,22 +151,48 @@ fn tell<W: Write, E: Write>(alloc: Global, error: &Error, out: &mut W, err: &mut
     }
 }
 
-/// Whether the subcommand that was used is `run`.
-fn is_run(matches: &ArgMatches) -> bool
-    ensures value { IsTrue result ↔ (subcommand_name_of matches.now ≡ Some (codes "run")) }
+/// Whether this subcommand was used.
+fn is_used(matches: &ArgMatches, subcommand: &str) -> bool
+    ensures value { IsTrue result ↔ (subcommand_name_of matches.now ≡ Some subcommand.now) }
 {
     match matches.subcommand() {
-        Some((name, _)) => name == "run",
+        Some((name, _)) => name == subcommand,
         None => false,
     }
+}
+
+/// Does what the subcommand asks, and gives the status.
+fn perform<R: Read, W: Write, E: Write>(
+    alloc: Global,
+    matches: &ArgMatches,
+    reader: &mut Watched<R>,
+    writer: &mut Watched<W>,
+    err: &mut E,
+) -> u8
+    ensures known { result ≤ 4 }
+    ensures run { subcommand_name_of matches.now ≡ Some (codes "run") → result ≢ 2 }
+    ensures done { subcommand_name_of matches.now ≡ Some (codes "run") → result ≡ 0 → IfSome (R.remaining reader.old.inner) IsScript }
+    ensures refused { subcommand_name_of matches.now ≡ Some (codes "run") → result ≡ 1 → IfSome (R.remaining reader.old.inner) IsNoScript }
+    ensures check { subcommand_name_of matches.now ≡ Some (codes "check") → result ≢ 2 }
+    ensures accepted { subcommand_name_of matches.now ≡ Some (codes "check") → result ≡ 0 → IfSome (R.remaining reader.old.inner) IsAccepted }
+    ensures rejected { subcommand_name_of matches.now ≡ Some (codes "check") → result ≡ 1 → IfSome (R.remaining reader.old.inner) IsRejected }
+{
+    if is_used(matches, "run") {
+        return run(alloc, reader, writer, err);
+    }
+    if is_used(matches, "check") {
+        return check(alloc, reader, writer, err);
+    }
+    COMMAND_LINE
 }
 
 /// Runs one command line, the program's name first, and answers the exit status.
 ///
 /// `mhlink run` reads a script from `reader`, writes the line of each reply to `out`, and flushes
-/// it. A fault is one line on `err`. The statuses: 0 done, also help; 1 the input is refused; 2 the
-/// command line is wrong; 3 a read or a write failed, of which the last flush is one; 4 memory ran
-/// out outside an event.
+/// it. `mhlink check` reads a problem and a plan from `reader`, and writes to `out` whether the plan
+/// is accepted. A fault is one line on `err`. The statuses: 0 done, also help; 1 the input is refused,
+/// or its plan; 2 the command line is wrong; 3 a read or a write failed, of which the last flush is
+/// one; 4 memory ran out outside an event.
 pub fn command<S: AsStr, R: Read + Drop, W: Write + Drop, E: Write + Drop>(
     alloc: Global,
     words: &[S],
@@ -175,7 +205,10 @@ pub fn command<S: AsStr, R: Read + Drop, W: Write + Drop, E: Write + Drop>(
     ensures help { AsksHelp (map S.text words.now) → IsAnswer result ErrorKind.DisplayHelp }
     ensures run { IsRun (map S.text words.now) → result ≢ 2 }
     ensures done { IsRun (map S.text words.now) → result ≡ 0 → IfSome (R.remaining reader) IsScript }
-    ensures refused { result ≡ 1 → IfSome (R.remaining reader) IsNoScript }
+    ensures refused { IsRun (map S.text words.now) → result ≡ 1 → IfSome (R.remaining reader) IsNoScript }
+    ensures check { IsCheck (map S.text words.now) → result ≢ 2 }
+    ensures accepted { IsCheck (map S.text words.now) → result ≡ 0 → IfSome (R.remaining reader) IsAccepted }
+    ensures rejected { IsCheck (map S.text words.now) → result ≡ 1 → IfSome (R.remaining reader) IsRejected }
 {
     let mut reader = Watched::new(reader);
     let mut out = Watched::new(out);
@@ -187,8 +220,5 @@ pub fn command<S: AsStr, R: Read + Drop, W: Write + Drop, E: Write + Drop>(
         Ok(matches) => matches,
         Err(error) => return tell(alloc, &error, &mut out.inner, &mut err),
     };
-    if !is_run(&matches) {
-        return COMMAND_LINE;
-    }
-    run(alloc, &mut reader, &mut out, &mut err)
+    perform(alloc, &matches, &mut reader, &mut out, &mut err)
 }

@@ -1,6 +1,9 @@
-//! The program `mhlink`: scripts of calls, retargetings and invalidations.
+//! The program `mhlink`: scripts of calls, retargetings and invalidations, and checks of plans.
 #![tactic(auto)]
 
+#[cfg(test)]
+mod check_tests;
+mod checking;
 mod command;
 #[cfg(test)]
 mod tests;

@@ -10,14 +10,14 @@ const DEFINITION: &str =
 
 /// What a run wrote, and its status.
 #[derive(Drop)]
-struct Ran {
-    status: u8,
-    out: Vec<u8>,
-    err: Vec<u8>,
+pub(crate) struct Ran {
+    pub(crate) status: u8,
+    pub(crate) out: Vec<u8>,
+    pub(crate) err: Vec<u8>,
 }
 
 /// Runs a command line on an input.
-fn run_words(alloc: Global, words: &[&str], input: &str) -> Ran {
+pub(crate) fn run_words(alloc: Global, words: &[&str], input: &str) -> Ran {
     let mut out = Vec::new(alloc);
     let mut err = Vec::new(alloc);
     let status = command(alloc, words, input.as_bytes(), &mut out, &mut err);
@@ -1031,15 +1031,19 @@ fn the_deepest_nesting(rt: HostRuntime) -> Result<(), Fail> {
 
 #[test]
 fn command_lines(rt: HostRuntime) -> Result<(), Fail> {
-    let cases: [(&[&str], u8); 9] = [
+    let cases: [(&[&str], u8); 13] = [
         (&["mhlink", "--help"], 0),
         (&["mhlink", "-h"], 0),
         (&["mhlink", "help"], 0),
         (&["mhlink", "run", "--help"], 0),
+        (&["mhlink", "check", "--help"], 0),
         (&["mhlink"], 2),
         (&["mhlink", "walk"], 2),
         (&["mhlink", "run", "--fast"], 2),
         (&["mhlink", "run", "x"], 2),
+        (&["mhlink", "run", "check"], 2),
+        (&["mhlink", "check", "x"], 2),
+        (&["mhlink", "check", "--workers", "2"], 2),
         (&["mhlink", "plan"], 2),
     ];
     for (words, status) in cases {
@@ -1053,7 +1057,7 @@ fn command_lines(rt: HostRuntime) -> Result<(), Fail> {
 
 /// A writer that takes every byte, and fails where it is flushed.
 #[derive(Drop)]
-struct Unflushed;
+pub(crate) struct Unflushed;
 
 impl Write for Unflushed {
     fn write(&mut self, buf: &[u8]) -> io::Result<usize> {
