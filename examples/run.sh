@@ -1,11 +1,16 @@
 #!/bin/sh
-# Runs each example and compares what it prints, and its fault line, with the lines beside it.
+# Runs each example and compares what it prints, and its fault line, with the lines beside it. Those that are named
+# check-.. go through `mhlink check`, all others through `mhlink run`.
 here=$(cd "$(dirname "$0")" && pwd)
 passed=0
 failed=0
 for script in "$here"/*.json; do
     lines=${script%.json}.lines
-    if "$here/../mhlink" run <"$script" 2>&1 | cmp -s - "$lines"; then
+    case ${script##*/} in
+    check-*) word=check ;;
+    *) word=run ;;
+    esac
+    if "$here/../mhlink" "$word" <"$script" 2>&1 | cmp -s - "$lines"; then
         passed=$((passed + 1))
     else
         failed=$((failed + 1))
