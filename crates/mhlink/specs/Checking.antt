@@ -6,6 +6,7 @@ use Rattle.mh_text.specs.declared.fault.Fault.{Fault}
 use Rattle.mh_text.specs.declared.fault.TextFault.TheVariants.{WriteFailed}
 use Rattle.mh_text.specs.declared.verdict.Verdict.{Verdict}
 use Rattle.mh_text.specs.declared.verdict.Verdict.TheVariants.{Accepted, Refused}
+use Rattle.mhlink.specs.Statuses.{IsNoScript}
 use Rattle.mh_text.specs.Checks.{IsClaimFault, IsVerdict, FailsCheck, verdict_line}
 
 -- the input has a problem, and a plan that matches it, whose links are best
@@ -15,6 +16,10 @@ IsAccepted bytes = IsVerdict bytes Accepted
 -- the input is at fault, or its plan is refused
 abbrev pub IsRejected : List ℕ → Type 0
 IsRejected bytes = ((e : Fault) × IsClaimFault bytes e) ⊎ ((cause : CheckFault) × IsVerdict bytes (Refused cause))
+
+-- the input is no script, or it is rejected
+abbrev pub IsTurnedDown : List ℕ → Type 0
+IsTurnedDown bytes = IsNoScript bytes ⊎ IsRejected bytes
 
 -- a check of the input finds this, and its line was appended
 abbrev pub Finds : Option (List ℕ) → Option (List ℕ) → Option (List ℕ) → Verdict → Type 0

@@ -4,7 +4,7 @@ ghost use Rattle.clap.specs.Words.{app_of, fault_of, kind_of, subcommand_name_of
 ghost use Rattle.clap.specs.declared.error.kind.ErrorKind.{ErrorKind};
 ghost use Rattle.std.specs.Io.KnownBytes.{Keeps};
 ghost use Rattle.mh_text.specs.declared.fault.Fault.{Fault};
-ghost use Rattle.mhlink.specs.Checking.{IsAccepted, IsRejected};
+ghost use Rattle.mhlink.specs.Checking.{IsAccepted, IsRejected, IsTurnedDown};
 ghost use Rattle.mhlink.specs.CommandLine.{program, IsRun, IsCheck, AsksHelp, status_answered, IsAnswer};
 ghost use Rattle.mhlink.specs.Statuses.{status_told, RunsWhole, RefusesInput, EndsInFault, IsTold, IsScript, IsNoScript};
 
@@ -176,6 +176,7 @@ fn perform<R: Read, W: Write, E: Write>(
     ensures check { subcommand_name_of matches.now ≡ Some (codes "check") → result ≢ 2 }
     ensures accepted { subcommand_name_of matches.now ≡ Some (codes "check") → result ≡ 0 → IfSome (R.remaining reader.old.inner) IsAccepted }
     ensures rejected { subcommand_name_of matches.now ≡ Some (codes "check") → result ≡ 1 → IfSome (R.remaining reader.old.inner) IsRejected }
+    ensures turned_down { result ≡ 1 → IfSome (R.remaining reader.old.inner) IsTurnedDown }
 {
     if is_used(matches, "run") {
         return run(alloc, reader, writer, err);
@@ -209,6 +210,7 @@ pub fn command<S: AsStr, R: Read + Drop, W: Write + Drop, E: Write + Drop>(
     ensures check { IsCheck (map S.text words.now) → result ≢ 2 }
     ensures accepted { IsCheck (map S.text words.now) → result ≡ 0 → IfSome (R.remaining reader) IsAccepted }
     ensures rejected { IsCheck (map S.text words.now) → result ≡ 1 → IfSome (R.remaining reader) IsRejected }
+    ensures turned_down { result ≡ 1 → IfSome (R.remaining reader) IsTurnedDown }
 {
     let mut reader = Watched::new(reader);
     let mut out = Watched::new(out);

@@ -1,7 +1,7 @@
 use Rattle.std.proofs.Common.{inl, inr, ◌∙◌, ap, subst, map, arith, IfSome}
 use Rattle.clap.specs.Words.{takes}
 use Rattle.clap.specs.declared.error.kind.ErrorKind.TheVariants.{DisplayHelp}
-use Rattle.mhlink.specs.Checking.{IsAccepted, IsRejected}
+use Rattle.mhlink.specs.Checking.{IsAccepted, IsRejected, IsTurnedDown}
 use Rattle.mhlink.specs.CommandLine.{IsAnswer}
 use Rattle.mhlink.specs.Statuses.{IsScript, IsNoScript}
 use Rattle.mhlink.proofs.CommandLineLemmas.{asks, check_is_taken, is_refused, kind_told, matches_check, matches_run, run_is_taken}
@@ -56,6 +56,10 @@ returns-clause-accepted g c is zero =
 pub returns-clause-rejected : goal.returns-clause-rejected
 returns-clause-rejected g c is one =
     subst (λ r. IfSome (g.R.Read.remaining r) IsRejected) c.new-reader.ensures.inner (c.perform.ensures.rejected (matches_check _ _ _ c.in-Ok.ensures.app c.in-Ok-try_get_matches_from.ensures.matches is) one)
+
+pub returns-clause-turned_down : goal.returns-clause-turned_down
+returns-clause-turned_down g c one =
+    subst (λ r. IfSome (g.R.Read.remaining r) IsTurnedDown) c.new-reader.ensures.inner (c.perform.ensures.turned_down one)
 
 pub returns-in-Err-clause-answered : goal.returns-in-Err-clause-answered
 returns-in-Err-clause-answered g c kind faulty =
