@@ -1,5 +1,5 @@
 -- A problem and then a plan, as they are read and checked.
-use Rattle.std.proofs.Common.{◌≡◌, ◌⊎◌, inl, inr, refl, sym, ap, Result, Ok, Err, IfSome, List, ℕ, Option, Some, None, Bool}
+use Rattle.std.proofs.Common.{◌≡◌, ◌⊎◌, inl, inr, refl, sym, ap, Result, Ok, Err, IfSome, List, ℕ, Option, Some, None}
 use Rattle.std.specs.Io.KnownBytes.{Keeps}
 use Rattle.mh_network.specs.Problems.{ProblemData}
 use Rattle.mh_cert.specs.declared.plan.Plan.{Plan}
@@ -8,10 +8,11 @@ use Rattle.mh_text.specs.declared.fault.TextFault.TheVariants.{NoMemory}
 use Rattle.mh_text.specs.declared.problem.ProblemRows.{ProblemRows}
 use Rattle.mh_text.specs.declared.verdict.Verdict.{Verdict}
 use Rattle.mh_text.specs.Checks.{IsFirstOf, IsClaim, IsFound, IsVerdict, IsCutOff, FailsCheck}
+use Rattle.mh_text.specs.Output.{outside}
 use Rattle.mh_text.specs.Problems.{MakesProblem}
 
 -- the first fault of a problem comes first
-pub problem_fails : (problem : Result ProblemRows Fault) (read : Result Plan Fault) (e : Fault) → MakesProblem problem (Err e) → (e.kind ≡ NoMemory) ⊎ IsFirstOf problem read e
+pub problem_fails : (problem : Result ProblemRows Fault) (read : Result Plan Fault) (e : Fault) → MakesProblem problem (Err e) → (e ≡ outside NoMemory) ⊎ IsFirstOf problem read e
 problem_fails (Ok rows) read e (inl memory) = inl memory
 problem_fails (Ok rows) read e (inr fails) = inr (inr (rows, refl, inl fails))
 problem_fails (Err first) read e (inl memory) = inl memory
@@ -23,8 +24,8 @@ found_in None p plan verdict known found = known
 found_in (Some bytes) p plan verdict claim found = (p, plan, claim, found)
 
 -- a line that was not written to its end
-pub unwritten : (input old new : Option (List ℕ)) (read_failed write_failed : Bool) (e : Fault) (verdict : Verdict)
-    → IfSome input (λ bytes. IsVerdict bytes verdict) → (Keeps old new × (e.kind ≡ NoMemory)) ⊎ IsCutOff old new write_failed e verdict
-    → FailsCheck input old new read_failed write_failed e
-unwritten input old new read_failed write_failed e verdict found (inl (kept, memory)) = inl (kept, inl memory)
-unwritten input old new read_failed write_failed e verdict found (inr cut) = inr (verdict, found, cut)
+pub unwritten : (input old new : Option (List ℕ)) (ReadHasFailed WriteHasFailed : Type 0) (e : Fault) (verdict : Verdict)
+    → IfSome input (λ bytes. IsVerdict bytes verdict) → (Keeps old new × (e ≡ outside NoMemory)) ⊎ IsCutOff old new WriteHasFailed e verdict
+    → FailsCheck input old new ReadHasFailed WriteHasFailed e
+unwritten input old new ReadHasFailed WriteHasFailed e verdict found (inl (kept, memory)) = inl (kept, inl memory)
+unwritten input old new ReadHasFailed WriteHasFailed e verdict found (inr cut) = inr (verdict, found, cut)

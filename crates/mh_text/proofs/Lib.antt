@@ -2,7 +2,9 @@ pub mod Claims
 pub mod Forms
 pub mod Loop
 pub mod NameLemmas
+pub mod OfInput
 pub mod Problems
+pub mod Reached
 pub mod Runs
 pub mod Shapes
 pub mod SharedPairs

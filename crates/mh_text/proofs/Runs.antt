@@ -54,9 +54,9 @@ pub json_absent : (bytes : List ℕ) → (IsUtf8 bytes → read bytes ≡ None) 
 json_absent bytes none = json_absent_at bytes (is_utf8 bytes) refl none
 
 -- a run that ended in the line of an event ended early
-pub ends_early : {X : Type 0} (script : Script) (machine : MachineState) (events : List Event) (r : Result X Fault) (old new : Option (List ℕ)) (failed : Bool)
-    → machine ≡ first script → events ≡ script.events → IfErr r (λ e. IsEnd failed e.kind) → IfErr r (λ e. EndsIn machine events e.at old new)
-    → IfErr r (EndsEarly script old new failed)
-ends_early script machine events (Ok x) old new failed opened same kind ends = search rules
-ends_early script machine events (Err e) old new failed opened same kind ends =
+pub ends_early : {X : Type 0} (script : Script) (machine : MachineState) (events : List Event) (r : Result X Fault) (old new : Option (List ℕ)) (WriteHasFailed : Type 0)
+    → machine ≡ first script → events ≡ script.events → IfErr r (λ e. IsEnd WriteHasFailed e.kind) → IfErr r (λ e. EndsIn machine events e.at old new)
+    → IfErr r (EndsEarly script old new WriteHasFailed)
+ends_early script machine events (Ok x) old new WriteHasFailed opened same kind ends = search rules
+ends_early script machine events (Err e) old new WriteHasFailed opened same kind ends =
     inr (kind, subst (λ m. EndsIn m script.events e.at old new) opened (subst (λ es. EndsIn machine es e.at old new) same ends))

@@ -1,5 +1,5 @@
 -- What a check reads, what it finds, and what it writes.
-use Rattle.std.specs.Prelude.{ℕ, ◌≡◌, ◌⊎◌, List, [], ◌∷◌, ◌++◌, Option, Some, Result, Ok, Err, Bool, true, IfSome, codes}
+use Rattle.std.specs.Prelude.{ℕ, ◌≡◌, ◌⊎◌, List, [], ◌∷◌, ◌++◌, Option, Some, Result, Ok, Err, IfSome, codes}
 use Rattle.std.specs.Io.KnownBytes.{Keeps}
 use Rattle.mh_network.specs.Problems.{ProblemData, problem_tests}
 use Rattle.mh_network.specs.Selection.{IsBest, member}
@@ -12,7 +12,7 @@ use Rattle.mh_text.specs.declared.problem.ProblemRows.{ProblemRows}
 use Rattle.mh_text.specs.declared.verdict.Verdict.{Verdict}
 use Rattle.mh_text.specs.declared.verdict.Verdict.TheVariants.{Accepted, Refused}
 use Rattle.mh_text.specs.Bytes.{AppendsFront}
-use Rattle.mh_text.specs.Output.{IsUnread}
+use Rattle.mh_text.specs.Output.{IsUnread, outside}
 use Rattle.mh_text.specs.Plans.{plan_of_input}
 use Rattle.mh_text.specs.Problems.{rows_of_input, IsMade, IsNotMade}
 
@@ -49,12 +49,12 @@ verdict_line Accepted = codes "accepted" ++ 10 ∷ []
 verdict_line (Refused cause) = codes "refused " ++ check_fault_text cause ++ 10 ∷ []
 
 -- a write failed after a beginning of the line of a verdict
-abbrev pub IsCutOff : Option (List ℕ) → Option (List ℕ) → Bool → Fault → Verdict → Type 0
-IsCutOff old new write_failed e verdict =
-    (e ≡ record { kind = WriteFailed; at = 0 }) × (write_failed ≡ true) × AppendsFront old new (verdict_line verdict)
+abbrev pub IsCutOff : Option (List ℕ) → Option (List ℕ) → Type 0 → Fault → Verdict → Type 0
+IsCutOff old new WriteHasFailed e verdict =
+    (e ≡ outside WriteFailed) × WriteHasFailed × AppendsFront old new (verdict_line verdict)
 
--- Where a fault leaves the writer: as it was, or with a beginning of the line. The flags say whether a read and a write have failed.
-abbrev pub FailsCheck : Option (List ℕ) → Option (List ℕ) → Option (List ℕ) → Bool → Bool → Fault → Type 0
-FailsCheck input old new read_failed write_failed e =
-    (Keeps old new × IsUnread IsClaimFault input read_failed e)
-    ⊎ ((verdict : Verdict) × IfSome input (λ bytes. IsVerdict bytes verdict) × IsCutOff old new write_failed e verdict)
+-- Where a fault leaves the writer: as it was, or with a beginning of the line.
+abbrev pub FailsCheck : Option (List ℕ) → Option (List ℕ) → Option (List ℕ) → Type 0 → Type 0 → Fault → Type 0
+FailsCheck input old new ReadHasFailed WriteHasFailed e =
+    (Keeps old new × IsUnread IsClaimFault input ReadHasFailed e)
+    ⊎ ((verdict : Verdict) × IfSome input (λ bytes. IsVerdict bytes verdict) × IsCutOff old new WriteHasFailed e verdict)

@@ -1,5 +1,5 @@
 -- Reading that may fail, and what a reader of the code gives.
-use Rattle.std.specs.Prelude.{ℕ, ◌≡◌, ◌⊎◌, Option, Some, None, Result, Ok, Err}
+use Rattle.std.specs.Prelude.{ℕ, ◌≡◌, ◌⊎◌, Option, Some, None, Result, Ok, Err, ⊤}
 use Rattle.mh_type.specs.declared.fault.TypeFault.{TypeFault}
 use Rattle.mh_type.specs.declared.fault.TypeFault.TheVariants as type_fault
 use Rattle.mh_tree.specs.declared.fault.TreeFault.{TreeFault}
@@ -72,7 +72,28 @@ abbrev pub at_place : {A : Type 0} → ℕ → Result A ReadFault → Result A F
 at_place place (Ok x) = Ok x
 at_place place (Err e) = Err (record { kind = told e; at = place })
 
--- the same as Gives where the fault has its place
+-- the same as Gives where the fault has its place, and want of memory the place 0
 abbrev pub GivesAt : {X Y : Type 0} → (X → Y) → Result X Fault → Result Y Fault → Type 0
 GivesAt view (Ok x) read = read ≡ Ok (view x)
-GivesAt view (Err e) read = (e.kind ≡ text.NoMemory) ⊎ (read ≡ Err e)
+GivesAt view (Err e) read = (e ≡ record { kind = text.NoMemory; at = 0 }) ⊎ (read ≡ Err e)
+
+-- the same where want of memory may also be told at a place that is reached
+abbrev pub GivesUpTo : {X : Type 0} → (ℕ → Type 0) → Result X Fault → Result X Fault → Type 0
+GivesUpTo IsReached (Ok x) read = read ≡ Ok x
+GivesUpTo IsReached (Err e) read =
+    (e ≡ record { kind = text.NoMemory; at = 0 }) ⊎ ((e.kind ≡ text.NoMemory) × IsReached e.at) ⊎ (read ≡ Err e)
+
+-- the same of the item that has this place
+abbrev pub GivesNumbered : {X : Type 0} → ℕ → Result X Fault → Result X ReadFault → Type 0
+GivesNumbered place (Ok x) read = read ≡ Ok x
+GivesNumbered place (Err e) read = (e ≡ record { kind = text.NoMemory; at = place }) ⊎ (at_place place read ≡ Err e)
+
+-- a fault of a stream is told only where that stream failed
+abbrev pub IsEndOf : Type 0 → Type 0 → TextFault → Type 0
+IsEndOf ReadHasFailed WriteHasFailed text.ReadFailed = ReadHasFailed
+IsEndOf ReadHasFailed WriteHasFailed text.WriteFailed = WriteHasFailed
+IsEndOf ReadHasFailed WriteHasFailed _ = ⊤
+
+-- a fault that an input may have, or want of memory, and not that of a stream
+abbrev pub IsOfInput : TextFault → Type 0
+IsOfInput = IsEndOf ⊥ ⊥

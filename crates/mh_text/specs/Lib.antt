@@ -1,5 +1,6 @@
 pub mod Bytes
 pub mod Checks
+pub mod Faults
 pub mod Gives
 pub mod Lines
 pub mod Names

@@ -1,5 +1,5 @@
 -- What is written for an input.
-use Rattle.std.specs.Prelude.{◌≡◌, ◌⊎◌, ℕ, ◌+◌, List, [], ◌∷◌, ◌++◌, length, take, Option, Result, Ok, Err, Bool, true, nat_le, if◌then◌else◌, IfSome}
+use Rattle.std.specs.Prelude.{◌≡◌, ◌⊎◌, ℕ, ◌+◌, List, [], ◌∷◌, ◌++◌, length, take, Option, Result, Ok, Err, nat_le, if◌then◌else◌, IfSome}
 use Rattle.std.specs.Str.{is_utf8}
 use Rattle.std.specs.Io.KnownBytes.{Appends, Keeps}
 use Rattle.serde_json.specs.Data.{Data}
@@ -15,7 +15,7 @@ use Rattle.mh_text.specs.declared.script.Script.{Script}
 use Rattle.mh_text.specs.Gives.{◌>>=◌, or_fault, at_place}
 use Rattle.mh_text.specs.Lines.{line_of, lines_of}
 use Rattle.mh_core.specs.Legal.{MachineState, Run, opened_machine}
-use Rattle.mh_text.specs.Script.{script_of}
+use Rattle.mh_text.specs.Script.{script_of, IsReached}
 
 -- the JSON value of an input
 unfoldable pub json_in : List ℕ → Result Data ReadFault
@@ -49,26 +49,38 @@ EndsIn first events n old new =
 abbrev pub first : Script → MachineState
 first script = opened_machine script.definition script.workers script.limits
 
--- what may end a run early: memory, or a write that failed
-abbrev pub IsEnd : Bool → TextFault → Type 0
-IsEnd write_failed kind = (kind ≡ fault.NoMemory) ⊎ ((kind ≡ fault.WriteFailed) × (write_failed ≡ true))
+-- what may end a run in the line of an event: memory, or a write that failed
+abbrev pub IsEnd : Type 0 → TextFault → Type 0
+IsEnd WriteHasFailed kind = (kind ≡ fault.NoMemory) ⊎ ((kind ≡ fault.WriteFailed) × WriteHasFailed)
+
+-- a fault outside the events
+abbrev pub outside : TextFault → Fault
+outside kind = record { kind = kind; at = 0 }
 
 -- the first fault of a script
 abbrev pub IsScriptFault : List ℕ → Fault → Type 0
 IsScriptFault input e = script_of_input input ≡ Err e
 
--- a fault before anything is written: memory, a read that failed, or a fault of the input
-abbrev pub IsUnread : (List ℕ → Fault → Type 0) → Option (List ℕ) → Bool → Fault → Type 0
-IsUnread IsFault input read_failed e =
-    (e.kind ≡ fault.NoMemory) ⊎ ((e.kind ≡ fault.ReadFailed) × (read_failed ≡ true)) ⊎ IfSome input (λ bytes. IsFault bytes e)
+-- event n of an input stands there, and nothing before it has a fault
+abbrev pub IsReachedIn : List ℕ → ℕ → Type 0
+IsReachedIn input n = (d : Data) × (json_of_input input ≡ Ok d) × IsReached d n
+
+-- what ends the reading of a script: its first fault, or want of memory at an event that is reached
+abbrev pub EndsReading : List ℕ → Fault → Type 0
+EndsReading input e = IsScriptFault input e ⊎ ((e.kind ≡ fault.NoMemory) × IsReachedIn input e.at)
+
+-- A fault before anything is written: want of memory outside the events, a read that failed, or a fault of the input.
+abbrev pub IsUnread : (List ℕ → Fault → Type 0) → Option (List ℕ) → Type 0 → Fault → Type 0
+IsUnread IsFault input ReadHasFailed e =
+    (e ≡ outside fault.NoMemory) ⊎ ((e ≡ outside fault.ReadFailed) × ReadHasFailed) ⊎ IfSome input (λ bytes. IsFault bytes e)
 
 -- a fault of a run: memory before its first event, and else one that ends it in the line of an event
-abbrev pub EndsEarly : Script → Option (List ℕ) → Option (List ℕ) → Bool → Fault → Type 0
-EndsEarly script old new write_failed e =
-    (Keeps old new × (e.kind ≡ fault.NoMemory)) ⊎ (IsEnd write_failed e.kind × EndsIn (first script) script.events e.at old new)
+abbrev pub EndsEarly : Script → Option (List ℕ) → Option (List ℕ) → Type 0 → Fault → Type 0
+EndsEarly script old new WriteHasFailed e =
+    (Keeps old new × (e ≡ outside fault.NoMemory)) ⊎ (IsEnd WriteHasFailed e.kind × EndsIn (first script) script.events e.at old new)
 
--- Where a fault leaves the writer: as it was, where the script was not read, and else where its run ended. The flags say whether a read and a write have failed.
-abbrev pub Failed : Option (List ℕ) → Option (List ℕ) → Option (List ℕ) → Bool → Bool → Fault → Type 0
-Failed input old new read_failed write_failed e =
-    (Keeps old new × IsUnread IsScriptFault input read_failed e)
-    ⊎ IfSome input (λ bytes. (script : Script) × (script_of_input bytes ≡ Ok script) × EndsEarly script old new write_failed e)
+-- Where a fault leaves the writer: as it was, where the script was not read, and else where its run ended.
+abbrev pub Failed : Option (List ℕ) → Option (List ℕ) → Option (List ℕ) → Type 0 → Type 0 → Fault → Type 0
+Failed input old new ReadHasFailed WriteHasFailed e =
+    (Keeps old new × IsUnread EndsReading input ReadHasFailed e)
+    ⊎ IfSome input (λ bytes. (script : Script) × (script_of_input bytes ≡ Ok script) × EndsEarly script old new WriteHasFailed e)

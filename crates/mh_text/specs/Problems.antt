@@ -12,7 +12,7 @@ use Rattle.mh_text.specs.declared.fault.ReadFault.TheVariants.{BadShape}
 use Rattle.mh_text.specs.declared.fault.TextFault.TheVariants.{NoMemory, Problem}
 use Rattle.mh_text.specs.declared.problem.ProblemRows.{ProblemRows}
 use Rattle.mh_text.specs.Gives.{◌>>=◌, or_fault, at_place}
-use Rattle.mh_text.specs.Output.{json_of_input}
+use Rattle.mh_text.specs.Output.{json_of_input, outside}
 use Rattle.mh_text.specs.Shape.{list_of, member_of, count_of, version_of, each_of, counts_of, part_of}
 
 -- whether a link may be chosen, which it may where nothing is said
@@ -64,6 +64,6 @@ IsNotMade rows e = (cause : ProblemFault) × Refuses (problem_tests rows.links r
 -- What was made of links and costs that were read: their problem; the first fault of reading, or else of the tests; or memory ran out.
 abbrev pub MakesProblem : Result ProblemRows Fault → Result ProblemData Fault → Type 0
 MakesProblem (Ok rows) (Ok p) = IsMade rows p
-MakesProblem (Ok rows) (Err e) = (e.kind ≡ NoMemory) ⊎ IsNotMade rows e
+MakesProblem (Ok rows) (Err e) = (e ≡ outside NoMemory) ⊎ IsNotMade rows e
 MakesProblem (Err first) (Ok p) = ⊥
-MakesProblem (Err first) (Err e) = (e.kind ≡ NoMemory) ⊎ (e ≡ first)
+MakesProblem (Err first) (Err e) = (e ≡ outside NoMemory) ⊎ (e ≡ first)

@@ -1,5 +1,5 @@
 -- The script that a JSON value is.
-use Rattle.std.specs.Prelude.{ℕ, ◌^◌, ◌-◌, ◌&&◌, List, [], ◌∷◌, length, nat_lt, nat_le, Option, Some, None, option_and_then, is_some, Result, Ok, Err, codes, fold, if◌then◌else◌, ◌==◌}
+use Rattle.std.specs.Prelude.{ℕ, ◌≡◌, ◌^◌, ◌-◌, ◌<◌, ◌≤◌, ◌&&◌, List, [], ◌∷◌, length, take, nat_lt, nat_le, Option, Some, None, option_and_then, is_some, Result, Ok, Err, codes, fold, if◌then◌else◌, ◌==◌}
 use Rattle.std.specs.List.{slice_get}
 use Rattle.std.specs.Str.{bytes_eq}
 use Rattle.serde_json.specs.Data.{Data}
@@ -237,3 +237,20 @@ script_of d = do
   declared ← at_place 0 (declarations_of d)
   schedule ← schedule_of declared d
   Ok (record { definition = declared.definition; workers = schedule.workers; limits = schedule.limits; events = schedule.events })
+
+-- event n of these stands there, and those before it are read
+abbrev pub IsNext : Declarations → List Data → ℕ → Type 0
+IsNext declared ds n = (before : List Event) × (0 < n) × (n ≤ length ds) × (events_of declared (take (n - 1) ds) ≡ Ok before)
+
+-- event n of a script that declares this stands there, and those before it are read
+abbrev pub IsNextOf : Declarations → Data → ℕ → Type 0
+IsNextOf declared d n = (ds : List Data) × ((member_of (codes "events") d >>= list_of) ≡ Ok ds) × IsNext declared ds n
+
+-- the same, and the workers and the limits are read
+abbrev pub IsReachedBy : Declarations → Data → ℕ → Type 0
+IsReachedBy declared d n = (workers : ℕ) × (limits : LimitsData)
+    × (workers_of d ≡ Ok workers) × (limits_of d ≡ Ok limits) × IsNextOf declared d n
+
+-- event n of a script stands there, and all that is read before it has no fault
+abbrev pub IsReached : Data → ℕ → Type 0
+IsReached d n = (declared : Declarations) × (declarations_of d ≡ Ok declared) × IsReachedBy declared d n

@@ -1,7 +1,10 @@
 //! Checks of plans: bytes in, a line out.
-ghost use Rattle.std.specs.Prelude.{◌≡◌, ◌⊎◌, IfOk, IfErr, IfSome, MatchResult};
+ghost use Rattle.std.specs.Prelude.{◌≡◌, ◌⊎◌, IfOk, IfErr, OnOk, IfSome, MatchResult};
 ghost use Rattle.std.specs.Io.KnownBytes.{Appends, Keeps};
 ghost use Rattle.mh_text.specs.declared.fault.TextFault.TheVariants as text;
+ghost use Rattle.mh_text.specs.Bytes.{HasFailed};
+ghost use Rattle.mh_text.specs.Gives.{IsEndOf};
+ghost use Rattle.mh_text.specs.Output.{outside};
 ghost use Rattle.mh_text.specs.Checks.{IsVerdict, IsCutOff, FailsCheck, verdict_line};
 
 use crate::claim::read_whole;
@@ -19,8 +22,10 @@ fn write_verdict<W: Write>(
 ) -> Result<(), Fault>
     ensures line { MatchResult result
         (λ _. Appends (W.contents writer.old.inner) (W.contents writer.new.inner) (verdict_line verdict))
-        (λ e. (Keeps (W.contents writer.old.inner) (W.contents writer.new.inner) × (e.kind ≡ text.NoMemory))
-        ⊎ IsCutOff (W.contents writer.old.inner) (W.contents writer.new.inner) writer.new.failed e verdict) }
+        (λ e. (Keeps (W.contents writer.old.inner) (W.contents writer.new.inner) × (e ≡ outside text.NoMemory))
+        ⊎ IsCutOff (W.contents writer.old.inner) (W.contents writer.new.inner)
+        (HasFailed writer.old.failures writer.new.failures) e verdict) }
+    ensures kept { OnOk result (writer.new.failures ≡ writer.old.failures) }
 {
     let line = line(alloc, verdict)?;
     writer.write_all(line.as_bytes())?;
@@ -43,7 +48,11 @@ pub fn check_bytes<R: Read, W: Write>(
         × Appends (W.contents writer.old.inner) (W.contents writer.new.inner) (verdict_line verdict)) }
     ensures failed { IfErr result (FailsCheck (R.remaining reader.old.inner)
         (W.contents writer.old.inner) (W.contents writer.new.inner)
-        reader.new.failed writer.new.failed) }
+        (HasFailed reader.old.failures reader.new.failures) (HasFailed writer.old.failures writer.new.failures)) }
+    ensures told { IfErr result (λ e. IsEndOf (HasFailed reader.old.failures reader.new.failures)
+        (HasFailed writer.old.failures writer.new.failures) e.kind) }
+    ensures reads { OnOk result (reader.new.failures ≡ reader.old.failures) }
+    ensures writes { OnOk result (writer.new.failures ≡ writer.old.failures) }
 {
     let claim = read_whole(alloc, reader)?;
     let verdict = judge(alloc, &claim)?;

@@ -1,8 +1,9 @@
 //! The events of a script.
-ghost use Rattle.std.specs.Prelude.{◌≡◌, map};
+ghost use Rattle.std.specs.Prelude.{◌≡◌, [], ◌∷◌, ◌++◌, map, IfErr, OnOk};
+ghost use Rattle.mh_text.specs.declared.fault.TextFault.TheVariants as text;
 ghost use Rattle.serde_json.specs.View.{view};
-ghost use Rattle.mh_text.specs.Gives.{Gives, GivesAt};
-ghost use Rattle.mh_text.specs.Script.{call_from, target_from, invalidate_from, event_named, event_of, events_of};
+ghost use Rattle.mh_text.specs.Gives.{Gives, GivesNumbered, GivesUpTo, IsOfInput};
+ghost use Rattle.mh_text.specs.Script.{call_from, target_from, invalidate_from, event_named, event_of, events_of, IsNext};
 
 use crate::declarations::Declarations;
 use crate::fault::{Fault, ReadFault, TextFault};
@@ -79,25 +80,55 @@ fn read_event(alloc: Global, declared: &Declarations, value: &Value) -> Result<E
     read_named(alloc, declared, text(head)?, args)
 }
 
+/// The event of this number, from 1.
+#[tactic(auto, using(crate::proofs::OfInput::told_of_input))]
+fn read_numbered(
+    alloc: Global,
+    declared: &Declarations,
+    value: &Value,
+    at: u64,
+) -> Result<Event, Fault>
+    ensures value { GivesNumbered at result (event_of declared.now (view value.now)) }
+    ensures kind { IfErr result (λ e. IsOfInput e.kind) }
+{
+    match read_event(alloc, declared, value) {
+        Ok(event) => Ok(event),
+        Err(cause) => Err(Fault {
+            kind: TextFault::from(cause),
+            at,
+        }),
+    }
+}
+
+/// One event more, of this number.
+fn push_event(events: &mut Vec<Event>, event: Event, at: u64) -> Result<(), Fault>
+    ensures ok { OnOk result (events.new.items ≡ events.old.items ++ event ∷ []) }
+    ensures memory { IfErr result (λ e. e ≡ record { kind = text.NoMemory; at = at }) }
+{
+    match events.push(event) {
+        Ok(()) => Ok(()),
+        Err(_) => Err(Fault {
+            kind: TextFault::NoMemory,
+            at,
+        }),
+    }
+}
+
 /// The events, the first fault of which is told with its event's number from 1.
 pub(crate) fn read_events(
     alloc: Global,
     declared: &Declarations,
     values: &[Value],
 ) -> Result<Listing<Event>, Fault>
-    ensures value { GivesAt (λ x. x) result (events_of declared.now (map view values.now)) }
+    ensures value { GivesUpTo (IsNext declared.now (map view values.now)) result
+        (events_of declared.now (map view values.now)) }
+    ensures kind { IfErr result (λ e. IsOfInput e.kind) }
 {
     let mut events = Vec::new(alloc);
     for (i, value) in values.iter().enumerate() {
         let at = i as u64 + 1;
-        let event = read_event(alloc, declared, value).map_err(|cause| Fault {
-            kind: TextFault::from(cause),
-            at,
-        })?;
-        events.push(event).map_err(|_| Fault {
-            kind: TextFault::NoMemory,
-            at,
-        })?;
+        let event = read_numbered(alloc, declared, value, at)?;
+        push_event(&mut events, event, at)?;
     }
     Ok(Listing::from_vec(events))
 }

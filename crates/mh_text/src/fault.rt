@@ -9,8 +9,8 @@ use mh_site::DefinitionFault;
 use mh_tree::TreeFault;
 use mh_type::TypeFault;
 use std::alloc::{AllocError, AllocFailed};
+use std::error::Error;
 use std::fmt;
-use thiserror::Error;
 
 /// What is wrong with an input.
 #[derive(Clone, Copy, Debug, PartialEq, Eq)]
@@ -104,33 +104,59 @@ impl From<TypeFault> for ReadFault {
 }
 
 /// Why a run ended early: a fault of the input, or of a stream.
-#[derive(Clone, Copy, Debug, PartialEq, Eq, Error)]
+#[derive(Clone, Copy, Debug, PartialEq, Eq)]
 pub enum TextFault {
-    #[error("1 NoMemory")]
+    /// Memory ran out.
     NoMemory,
-    #[error("2 TooLong")]
+    /// The input has more than 1,048,576 bytes.
     TooLong,
-    #[error("3 NotJson")]
+    /// The input is no JSON.
     NotJson,
-    #[error("4 BadShape")]
+    /// A part is missing, of another form, of another length, or out of its range.
     BadShape,
-    #[error("5 BadValue")]
+    /// A value does not stand for an int, a long, a boolean or a text.
     BadValue,
-    #[error("6 UnknownShared")]
+    /// A shared tree that stands nowhere earlier.
     UnknownShared,
-    #[error("7 Tree {}", .0.number())]
+    /// A constructor of trees refused.
     Tree(TreeFault),
-    #[error("8 Definition {}", .0.number())]
+    /// The definition is not lawful.
     Definition(DefinitionFault),
-    #[error("9 Problem {}", .0.number())]
+    /// Rows and costs are no problem.
     Problem(ProblemFault),
-    #[error("10 ReadFailed")]
+    /// A read failed.
     ReadFailed,
-    #[error("11 WriteFailed")]
+    /// A write or a flush failed, or a write took no byte.
     WriteFailed,
-    #[error("12 BadType {}", .0.number())]
+    /// A text is no method type.
     BadType(TypeFault),
 }
+
+impl fmt::Display for TextFault {
+    ghost use Rattle.mh_text.specs.Faults.{kind_text};
+    ghost use Rattle.std.specs.Prelude.{Some};
+
+    ghost output = { λ kind. Some (kind_text kind) };
+
+    fn fmt<W: fmt::Write>(&self, f: &mut fmt::Formatter<W>) -> fmt::Result {
+        match self {
+            TextFault::NoMemory => write!(f, "1 NoMemory"),
+            TextFault::TooLong => write!(f, "2 TooLong"),
+            TextFault::NotJson => write!(f, "3 NotJson"),
+            TextFault::BadShape => write!(f, "4 BadShape"),
+            TextFault::BadValue => write!(f, "5 BadValue"),
+            TextFault::UnknownShared => write!(f, "6 UnknownShared"),
+            TextFault::Tree(cause) => write!(f, "7 Tree {}", cause.number()),
+            TextFault::Definition(cause) => write!(f, "8 Definition {}", cause.number()),
+            TextFault::Problem(cause) => write!(f, "9 Problem {}", cause.number()),
+            TextFault::ReadFailed => write!(f, "10 ReadFailed"),
+            TextFault::WriteFailed => write!(f, "11 WriteFailed"),
+            TextFault::BadType(cause) => write!(f, "12 BadType {}", cause.number()),
+        }
+    }
+}
+
+impl Error for TextFault {}
 
 impl From<ReadFault> for TextFault {
     ghost from_gives = { λ cause e. e ≡ told cause };
@@ -167,10 +193,17 @@ pub struct Fault {
 }
 
 impl fmt::Display for Fault {
+    ghost use Rattle.mh_text.specs.Faults.{fault_text};
+    ghost use Rattle.std.specs.Prelude.{Some};
+
+    ghost output = { λ fault. Some (fault_text fault) };
+
     fn fmt<W: fmt::Write>(&self, f: &mut fmt::Formatter<W>) -> fmt::Result {
         write!(f, "fault {} at {}", self.kind, self.at)
     }
 }
+
+impl Error for Fault {}
 
 impl From<TextFault> for Fault {
     ghost from_gives = { λ kind e. e ≡ record { kind = kind; at = 0 } };

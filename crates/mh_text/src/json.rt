@@ -1,6 +1,7 @@
 //! The JSON value of an input.
+ghost use Rattle.std.specs.Prelude.{IfErr};
 ghost use Rattle.serde_json.specs.View.{view};
-ghost use Rattle.mh_text.specs.Gives.{Gives, GivesAt};
+ghost use Rattle.mh_text.specs.Gives.{Gives, GivesAt, IsOfInput};
 ghost use Rattle.mh_text.specs.Output.{json_in, json_of_input};
 
 use crate::fault::{Fault, ReadFault, TextFault};
@@ -24,8 +25,10 @@ fn parse(alloc: Global, input: &[u8]) -> Result<Value, ReadFault>
 }
 
 /// The JSON value of an input, whose length comes first.
+#[tactic(auto, using(crate::proofs::OfInput::told_of_input))]
 pub(crate) fn read_json(alloc: Global, input: &[u8]) -> Result<Value, Fault>
     ensures value { GivesAt view result (json_of_input input.now) }
+    ensures kind { IfErr result (λ e. IsOfInput e.kind) }
 {
     if input.len() > LIMIT {
         return Err(Fault::from(TextFault::TooLong));

@@ -1,7 +1,7 @@
 //! Plans.
-ghost use Rattle.std.specs.Prelude.{◌≡◌, map, option_map};
+ghost use Rattle.std.specs.Prelude.{◌≡◌, map, option_map, IfErr};
 ghost use Rattle.serde_json.specs.View.{view};
-ghost use Rattle.mh_text.specs.Gives.{Gives, GivesAt, at_place};
+ghost use Rattle.mh_text.specs.Gives.{Gives, GivesAt, IsOfInput, at_place};
 ghost use Rattle.mh_text.specs.Plans.{signed_of, flow_row_from, flow_row_of, flow_of, plan_of, plan_at, plan_of_input};
 
 use crate::fault::{Fault, ReadFault};
@@ -64,8 +64,10 @@ fn read_value(alloc: Global, value: &Value) -> Result<Plan, ReadFault>
 }
 
 /// The plan that a value, or what it has at a key, is.
+#[tactic(auto, using(crate::proofs::OfInput::told_of_input))]
 pub(crate) fn read_plan_at(alloc: Global, value: &Value, key: Option<&str>) -> Result<Plan, Fault>
     ensures value { GivesAt (λ x. x) result (at_place 0 (plan_at (option_map (λ k. k.now) key.entry) (view value.now))) }
+    ensures kind { IfErr result (λ e. IsOfInput e.kind) }
 {
     Ok(read_value(alloc, part(value, key)?)?)
 }
@@ -78,6 +80,7 @@ pub(crate) fn read_plan_at(alloc: Global, value: &Value, key: Option<&str>) -> R
 /// and then BadShape where a part is missing, of another form, or out of its range.
 pub fn read_plan(alloc: Global, input: &[u8], member: Option<&str>) -> Result<Plan, Fault>
     ensures value { GivesAt (λ x. x) result (plan_of_input (option_map (λ k. k.now) member.entry) input.now) }
+    ensures kind { IfErr result (λ e. IsOfInput e.kind) }
 {
     read_plan_at(alloc, &read_json(alloc, input)?, member)
 }

@@ -1,8 +1,8 @@
 //! Problems of selection.
-ghost use Rattle.std.specs.Prelude.{◌≡◌, ◌^◌, ◌-◌, option_map, codes, Ok};
+ghost use Rattle.std.specs.Prelude.{◌≡◌, ◌^◌, ◌-◌, option_map, codes, Ok, IfErr};
 ghost use Rattle.serde_json.specs.Find.{get};
 ghost use Rattle.serde_json.specs.View.{view};
-ghost use Rattle.mh_text.specs.Gives.{Gives, at_place};
+ghost use Rattle.mh_text.specs.Gives.{Gives, IsOfInput, at_place};
 ghost use Rattle.mh_text.specs.Problems.{eligible_where, row_of, rows_of, rows_at, rows_of_input, MakesProblem};
 ghost use Rattle.mh_text.specs.Shape.{counts_of};
 
@@ -81,8 +81,10 @@ fn read_rows_at(alloc: Global, value: &Value, key: Option<&str>) -> Result<Probl
 }
 
 /// The problem of rows that were read.
+#[tactic(auto, using(crate::proofs::OfInput::told_of_input))]
 fn make(alloc: Global, rows: &ProblemRows) -> Result<Problem, Fault>
     ensures value { MakesProblem (Ok rows.now) result }
+    ensures kind { IfErr result (λ e. IsOfInput e.kind) }
 {
     match Problem::new(alloc, rows.links.as_slice(), rows.costs.as_slice()) {
         Ok(problem) => Ok(problem),
@@ -91,12 +93,14 @@ fn make(alloc: Global, rows: &ProblemRows) -> Result<Problem, Fault>
 }
 
 /// The problem that a value, or what it has at a key, is.
+#[tactic(auto, using(crate::proofs::OfInput::told_of_input))]
 pub(crate) fn read_problem_at(
     alloc: Global,
     value: &Value,
     key: Option<&str>,
 ) -> Result<Problem, Fault>
     ensures value { MakesProblem (at_place 0 (rows_at (option_map (λ k. k.now) key.entry) (view value.now))) result }
+    ensures kind { IfErr result (λ e. IsOfInput e.kind) }
 {
     let rows = read_rows_at(alloc, value, key)?;
     make(alloc, &rows)
@@ -110,6 +114,7 @@ pub(crate) fn read_problem_at(
 /// the version, the costs and the links in order, and then what `Problem::new` refuses.
 pub fn read_problem(alloc: Global, input: &[u8], member: Option<&str>) -> Result<Problem, Fault>
     ensures value { MakesProblem (rows_of_input (option_map (λ k. k.now) member.entry) input.now) result }
+    ensures kind { IfErr result (λ e. IsOfInput e.kind) }
 {
     read_problem_at(alloc, &read_json(alloc, input)?, member)
 }

@@ -3,10 +3,11 @@ ghost use Rattle.std.specs.Prelude.{◌≡◌, Ok, IfOk, IfErr, OnOk, IfSome, Ma
 ghost use Rattle.std.specs.Io.KnownBytes.{Appends};
 ghost use Rattle.mh_text.specs.declared.script.Script.{Script};
 ghost use Rattle.mh_core.specs.declared.reply.Reply.{Reply};
-ghost use Rattle.mh_text.specs.Bytes.{AppendsFront};
+ghost use Rattle.mh_text.specs.Bytes.{AppendsFront, HasFailed};
+ghost use Rattle.mh_text.specs.Gives.{IsEndOf};
 ghost use Rattle.mh_text.specs.Lines.{line_of};
 ghost use Rattle.mh_core.specs.Legal.{Step};
-ghost use Rattle.mh_text.specs.Output.{script_of_input, first, AppendsRun, EndsIn, EndsEarly, IsScriptFault, IsUnread, Failed, IsEnd};
+ghost use Rattle.mh_text.specs.Output.{script_of_input, first, AppendsRun, EndsIn, EndsEarly, EndsReading, IsUnread, Failed, IsEnd};
 
 use crate::fault::{Fault, TextFault};
 use crate::input::read_input;
@@ -27,7 +28,8 @@ fn write_line<W: Write>(
     ensures line { MatchResult result
         (λ _. Appends (W.contents writer.old.inner) (W.contents writer.new.inner) (line_of reply.now))
         (λ e. (e.at ≡ at) × AppendsFront (W.contents writer.old.inner) (W.contents writer.new.inner) (line_of reply.now)) }
-    ensures kind { IfErr result (λ e. IsEnd writer.new.failed e.kind) }
+    ensures kind { IfErr result (λ e. IsEnd (HasFailed writer.old.failures writer.new.failures) e.kind) }
+    ensures kept { OnOk result (writer.new.failures ≡ writer.old.failures) }
 {
     let Ok(text) = line(alloc, reply) else {
         return Err(Fault {
@@ -54,7 +56,8 @@ fn write_event<W: Write>(
         (λ _. Appends (W.contents writer.old.inner) (W.contents writer.new.inner) (line_of reply))
         (λ e. (e.at ≡ at) × AppendsFront (W.contents writer.old.inner) (W.contents writer.new.inner) (line_of reply)) }
     ensures setting { machine.new.setting ≡ machine.old.setting }
-    ensures kind { IfErr result (λ e. IsEnd writer.new.failed e.kind) }
+    ensures kind { IfErr result (λ e. IsEnd (HasFailed writer.old.failures writer.new.failures) e.kind) }
+    ensures kept { OnOk result (writer.new.failures ≡ writer.old.failures) }
 {
     let reply = machine.step(event);
     write_line(alloc, &reply, at, writer)
@@ -68,7 +71,8 @@ fn run_events<W: Write>(
     writer: &mut Watched<W>,
 ) -> Result<(), Fault>
     ensures ok { OnOk result (AppendsRun machine events.items (W.contents writer.old.inner) (W.contents writer.new.inner)) }
-    ensures kind { IfErr result (λ e. IsEnd writer.new.failed e.kind) }
+    ensures kind { IfErr result (λ e. IsEnd (HasFailed writer.old.failures writer.new.failures) e.kind) }
+    ensures kept { OnOk result (writer.new.failures ≡ writer.old.failures) }
     ensures ends { IfErr result (λ e. EndsIn machine events.items e.at (W.contents writer.old.inner) (W.contents writer.new.inner)) }
 {
     let mut machine = machine;
@@ -83,7 +87,10 @@ fn run_events<W: Write>(
 /// The script that the reader gives.
 fn read_whole<R: Read>(alloc: Global, reader: &mut Watched<R>) -> Result<Script, Fault>
     ensures ok { IfOk result (λ script. IfSome (R.remaining reader.old.inner) (λ input. script_of_input input ≡ Ok script)) }
-    ensures failed { IfErr result (IsUnread IsScriptFault (R.remaining reader.old.inner) reader.new.failed) }
+    ensures kept { OnOk result (reader.new.failures ≡ reader.old.failures) }
+    ensures failed { IfErr result (IsUnread EndsReading (R.remaining reader.old.inner)
+        (HasFailed reader.old.failures reader.new.failures)) }
+    ensures told { IfErr result (λ e. IsEndOf (HasFailed reader.old.failures reader.new.failures) ⊥ e.kind) }
 {
     let input = read_input(alloc, reader)?;
     read_script(alloc, &input)
@@ -92,7 +99,9 @@ fn read_whole<R: Read>(alloc: Global, reader: &mut Watched<R>) -> Result<Script,
 /// Runs a script, and writes the line of each reply.
 fn run_script<W: Write>(alloc: Global, script: Script, writer: &mut Watched<W>) -> Result<(), Fault>
     ensures ok { OnOk result (AppendsRun (first script) script.events (W.contents writer.old.inner) (W.contents writer.new.inner)) }
-    ensures failed { IfErr result (EndsEarly script (W.contents writer.old.inner) (W.contents writer.new.inner) writer.new.failed) }
+    ensures kept { OnOk result (writer.new.failures ≡ writer.old.failures) }
+    ensures failed { IfErr result (EndsEarly script (W.contents writer.old.inner) (W.contents writer.new.inner)
+        (HasFailed writer.old.failures writer.new.failures)) }
 {
     let Script {
         definition,
@@ -119,7 +128,11 @@ pub fn run_bytes<R: Read, W: Write>(
         × AppendsRun (first script) script.events (W.contents writer.old.inner) (W.contents writer.new.inner))) }
     ensures failed { IfErr result (λ e. Failed (R.remaining reader.old.inner)
         (W.contents writer.old.inner) (W.contents writer.new.inner)
-        reader.new.failed writer.new.failed e) }
+        (HasFailed reader.old.failures reader.new.failures) (HasFailed writer.old.failures writer.new.failures) e) }
+    ensures told { IfErr result (λ e. IsEndOf (HasFailed reader.old.failures reader.new.failures)
+        (HasFailed writer.old.failures writer.new.failures) e.kind) }
+    ensures reads { OnOk result (reader.new.failures ≡ reader.old.failures) }
+    ensures writes { OnOk result (writer.new.failures ≡ writer.old.failures) }
 {
     let script = read_whole(alloc, reader)?;
     run_script(alloc, script, writer)

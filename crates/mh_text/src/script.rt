@@ -1,8 +1,9 @@
 //! Scripts: a definition, a number of workers, and events.
+ghost use Rattle.std.specs.Prelude.{IfErr};
 ghost use Rattle.serde_json.specs.View.{view};
-ghost use Rattle.mh_text.specs.Gives.{Gives, GivesAt};
-ghost use Rattle.mh_text.specs.Script.{declarations_of, workers_of, event_list_of, schedule_of, script_of};
-ghost use Rattle.mh_text.specs.Output.{script_of_input};
+ghost use Rattle.mh_text.specs.Gives.{Gives, GivesUpTo, IsOfInput};
+ghost use Rattle.mh_text.specs.Script.{declarations_of, workers_of, event_list_of, schedule_of, script_of, IsNextOf, IsReachedBy, IsReached};
+ghost use Rattle.mh_text.specs.Output.{script_of_input, IsReachedIn};
 
 use crate::declarations::Declarations;
 use crate::events::read_events;
@@ -67,20 +68,26 @@ fn read_workers(value: &Value) -> Result<u32, ReadFault>
     Ok(workers as u32)
 }
 
+#[tactic(auto, using(crate::proofs::OfInput::told_of_input))]
 fn read_event_list(
     alloc: Global,
     declared: &Declarations,
     value: &Value,
 ) -> Result<Listing<Event>, Fault>
-    ensures value { GivesAt (λ x. x) result (event_list_of declared.now (view value.now)) }
+    ensures value { GivesUpTo (IsNextOf declared.now (view value.now)) result
+        (event_list_of declared.now (view value.now)) }
+    ensures kind { IfErr result (λ e. IsOfInput e.kind) }
 {
     let events = list(member(value, "events")?)?;
     read_events(alloc, declared, events)
 }
 
 /// What is asked of the sites that are declared.
+#[tactic(auto, using(crate::proofs::OfInput::told_of_input))]
 fn read_schedule(alloc: Global, declared: &Declarations, value: &Value) -> Result<Schedule, Fault>
-    ensures value { GivesAt (λ x. x) result (schedule_of declared.now (view value.now)) }
+    ensures value { GivesUpTo (IsReachedBy declared.now (view value.now)) result
+        (schedule_of declared.now (view value.now)) }
+    ensures kind { IfErr result (λ e. IsOfInput e.kind) }
 {
     let workers = read_workers(value)?;
     let limits = read_limits(value)?;
@@ -93,8 +100,10 @@ fn read_schedule(alloc: Global, declared: &Declarations, value: &Value) -> Resul
 }
 
 /// The script that a JSON value holds, or its first fault in the order of reading.
+#[tactic(auto, using(crate::proofs::OfInput::told_of_input))]
 fn read_value(alloc: Global, value: &Value) -> Result<Script, Fault>
-    ensures value { GivesAt (λ x. x) result (script_of (view value.now)) }
+    ensures value { GivesUpTo (IsReached (view value.now)) result (script_of (view value.now)) }
+    ensures kind { IfErr result (λ e. IsOfInput e.kind) }
 {
     let declared = read_declarations(alloc, value)?;
     let schedule = read_schedule(alloc, &declared, value)?;
@@ -115,7 +124,8 @@ fn read_value(alloc: Global, value: &Value) -> Result<Script, Fault>
 /// The script of an input, or its first fault in the order of reading: its length, JSON, the
 /// definition (version, points, shared trees, sites), the workers, the limits, the events.
 pub fn read_script(alloc: Global, input: &[u8]) -> Result<Script, Fault>
-    ensures value { GivesAt (λ x. x) result (script_of_input input.now) }
+    ensures value { GivesUpTo (IsReachedIn input.now) result (script_of_input input.now) }
+    ensures kind { IfErr result (λ e. IsOfInput e.kind) }
 {
     read_value(alloc, &read_json(alloc, input)?)
 }

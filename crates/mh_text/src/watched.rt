@@ -1,35 +1,82 @@
-//! Readers and writers that remember a failure.
-ghost use Rattle.std.specs.Prelude.{◌≡◌, ◌≤◌, length, IfOk, IfErr, OnOk, OnErr, false, true};
-ghost use Rattle.std.specs.Io.KnownBytes.{ReadConsumes, Appends};
-ghost use Rattle.mh_text.specs.Bytes.{AppendsFront};
+//! Readers and writers that count their failures.
+ghost use Rattle.std.specs.Prelude.{◌≡◌, ◌<◌, ◌≤◌, length, IfOk, IfErr, OnOk, OnErr};
+ghost use Rattle.std.specs.Io.KnownBytes.{ReadConsumes, WriteAppends, Appends, Keeps};
+ghost use Rattle.mh_text.specs.Bytes.{AppendsFront, one_more};
 
 use crate::fault::TextFault;
-use std::io::{Read, Write};
+use std::io::{Error, ErrorKind, Read, Write};
 
-/// A reader or a writer, and whether it has failed since it was put in here.
+/// A reader or a writer, and how often it has failed since it was put in here.
+///
+/// A read, a write or a flush that gives an error is a failure, and so is a write that takes none of
+/// its bytes. One that a signal interrupted (`ErrorKind::Interrupted`) is tried again, as by
+/// `std::io::Write::write_all`, and is none. The count is private, so that it tells of calls that
+/// were made; it begins again at 0 after 2^64 - 1.
 #[derive(Drop)]
 pub struct Watched<T> {
     pub inner: T,
-    failed: bool,
+    failures: u64,
 }
 
 impl<T> Watched<T> {
     pub fn new(inner: T) -> Watched<T>
         ensures inner { result.inner ≡ inner }
-        ensures fresh { result.failed ≡ false }
+        ensures fresh { result.failures ≡ 0 }
     {
-        Watched {
-            inner,
-            failed: false,
-        }
+        Watched { inner, failures: 0 }
     }
 
-    /// Whether a call has failed.
-    pub fn has_failed(&self) -> bool
-        ensures value { result ≡ self.now.failed }
+    /// How often it has failed.
+    pub fn failures(&self) -> u64
+        ensures value { result ≡ self.now.failures }
     {
-        self.failed
+        self.failures
     }
+}
+
+/// One failure more.
+fn count_failure(failures: u64) -> u64
+    ensures value { result ≡ one_more failures }
+{
+    failures.wrapping_add(1)
+}
+
+fn is_interrupted(error: &Error) -> bool {
+    error.kind() == ErrorKind::Interrupted
+}
+
+/// One read, which is tried again where a signal interrupts it.
+fn read_once<R: Read>(reader: &mut R, buffer: &mut [u8]) -> Result<usize, TextFault>
+    ensures bound { IfOk result (λ n. n ≤ length buffer.new) }
+    ensures bytes { ReadConsumes (R.remaining reader.old) (R.remaining reader.new) result buffer.new }
+    ensures fault { IfErr result (λ e. e ≡ TextFault.ReadFailed) }
+{
+    for _ in 0..u64::MAX {
+        match reader.read(buffer) {
+            Ok(n) => return Ok(n),
+            Err(error) if is_interrupted(&error) => {}
+            Err(_) => break,
+        }
+    }
+    Err(TextFault::ReadFailed)
+}
+
+/// One write, which is tried again where a signal interrupts it, and fails where it takes no byte.
+fn write_once<W: Write>(writer: &mut W, bytes: &[u8]) -> Result<usize, TextFault>
+    ensures some { IfOk result (λ n. 0 < n) }
+    ensures bound { IfOk result (λ n. n ≤ length bytes.now) }
+    ensures bytes { WriteAppends (W.contents writer.old) (W.contents writer.new) result bytes.now }
+    ensures fault { IfErr result (λ e. e ≡ TextFault.WriteFailed) }
+{
+    for _ in 0..u64::MAX {
+        match writer.write(bytes) {
+            Ok(0) => break,
+            Ok(n) => return Ok(n),
+            Err(error) if is_interrupted(&error) => {}
+            Err(_) => break,
+        }
+    }
+    Err(TextFault::WriteFailed)
 }
 
 impl<R: Read> Watched<R> {
@@ -37,15 +84,15 @@ impl<R: Read> Watched<R> {
     pub fn read(&mut self, buffer: &mut [u8]) -> Result<usize, TextFault>
         ensures bound { IfOk result (λ n. n ≤ length buffer.new) }
         ensures bytes { ReadConsumes (R.remaining self.old.inner) (R.remaining self.new.inner) result buffer.new }
-        ensures kept { OnOk result (self.new.failed ≡ self.old.failed) }
-        ensures failed { OnErr result (self.new.failed ≡ true) }
+        ensures kept { OnOk result (self.new.failures ≡ self.old.failures) }
+        ensures failed { OnErr result (self.new.failures ≡ one_more self.old.failures) }
         ensures fault { IfErr result (λ e. e ≡ TextFault.ReadFailed) }
     {
-        match self.inner.read(buffer) {
+        match read_once(&mut self.inner, buffer) {
             Ok(n) => Ok(n),
-            Err(_) => {
-                self.failed = true;
-                Err(TextFault::ReadFailed)
+            Err(fault) => {
+                self.failures = count_failure(self.failures);
+                Err(fault)
             }
         }
     }
@@ -56,20 +103,36 @@ impl<W: Write> Watched<W> {
     pub fn write_all(&mut self, bytes: &[u8]) -> Result<(), TextFault>
         ensures ok { OnOk result (Appends (W.contents self.old.inner) (W.contents self.new.inner) bytes.now) }
         ensures begun { AppendsFront (W.contents self.old.inner) (W.contents self.new.inner) bytes.now }
-        ensures kept { OnOk result (self.new.failed ≡ self.old.failed) }
-        ensures failed { OnErr result (self.new.failed ≡ true) }
+        ensures kept { OnOk result (self.new.failures ≡ self.old.failures) }
+        ensures failed { OnErr result (self.new.failures ≡ one_more self.old.failures) }
         ensures fault { IfErr result (λ e. e ≡ TextFault.WriteFailed) }
     {
         let mut rest = bytes;
         while !rest.is_empty() {
-            match self.inner.write(rest) {
-                Ok(n) if 0 < n => rest = &rest[n..],
-                _ => {
-                    self.failed = true;
-                    return Err(TextFault::WriteFailed);
+            match write_once(&mut self.inner, rest) {
+                Ok(n) => rest = &rest[n..],
+                Err(fault) => {
+                    self.failures = count_failure(self.failures);
+                    return Err(fault);
                 }
             }
         }
         Ok(())
+    }
+
+    /// Flushes what was written.
+    pub fn flush(&mut self) -> Result<(), TextFault>
+        ensures bytes { Keeps (W.contents self.old.inner) (W.contents self.new.inner) }
+        ensures kept { OnOk result (self.new.failures ≡ self.old.failures) }
+        ensures failed { OnErr result (self.new.failures ≡ one_more self.old.failures) }
+        ensures fault { IfErr result (λ e. e ≡ TextFault.WriteFailed) }
+    {
+        match self.inner.flush() {
+            Ok(()) => Ok(()),
+            Err(_) => {
+                self.failures = count_failure(self.failures);
+                Err(TextFault::WriteFailed)
+            }
+        }
     }
 }

@@ -1,16 +1,7 @@
 //! The program `mhlink`: scripts of calls, retargetings and invalidations, and checks of plans.
 #![tactic(auto)]
 
-#[cfg(test)]
-mod check_tests;
-mod checking;
-mod command;
-#[cfg(test)]
-mod tests;
-
-pub use command::command;
-use command::{COMMAND_LINE, NO_MEMORY};
-pub use mh_text::run_bytes;
+use mh_command::{COMMAND_LINE, NO_MEMORY, Watched, command};
 use std::io::{BufWriter, ErrorKind};
 use std::process::ExitCode;
 use std::{env, io};
@@ -30,6 +21,15 @@ fn main(rt: HostRuntime) -> io::Result<ExitCode> {
     let Ok(out) = BufWriter::new(alloc, rt.stdout()) else {
         return Ok(ExitCode::from(NO_MEMORY));
     };
-    let status = command(alloc, words.as_slice(), rt.stdin(), out, rt.stderr());
+    let mut reader = Watched::new(rt.stdin());
+    let mut out = Watched::new(out);
+    let mut err = Watched::new(rt.stderr());
+    let status = command(
+        alloc,
+        words.as_slice(),
+        &mut reader,
+        &mut out,
+        &mut err,
+    );
     Ok(ExitCode::from(status))
 }

@@ -19,6 +19,7 @@ loop-event-preserved g c =
     let (reply, step, told) = c.in_ok-write_event.ensures.step in
     record {
       count = omega (arith, length_push c.loop-event.yielded c.in-Some.event, c.loop-event.invariant.count);
+      quiet = c.in_ok-write_event.ensures.kept ∙ c.loop-event.invariant.quiet;
       setting = c.in_ok-write_event.ensures.setting ∙ c.loop-event.invariant.setting;
       told = (replies ++ reply ∷ [], omega (arith, length_push replies reply, count), run_next _ _ _ _ c.loop-event.at _ replies _ c.in-Some.event reply _ c.loop-event.invariant.count t run c.loop-event.invariant.setting step, line_written _ _ _ replies reply written told);
     }

@@ -1,0 +1,82 @@
+-- What words are taken for.
+use Rattle.std.proofs.Common.{◌≡◌, ◌⊎◌, inl, inr, ◌∙◌, sym, ap, subst, refl, ◌&&◌, ℕ, List, [], ◌∷◌, Option, Some, None, true, codes, option_map, IfOk}
+use Rattle.std.specs.Box.{box_value}
+use Rattle.clap.specs.Simple.{built, entered, names_of}
+use Rattle.clap.specs.Faults.{built_fault}
+use Rattle.clap.specs.Takes.{built_takes}
+use Rattle.clap.specs.Walk.{nothing_held, stop_after}
+use Rattle.clap.specs.Words.{HasKind, HasMatchesOf, Row, Text, app_of, fault_of, is_simple, is_simple_and_free, kind_of, subcommand_name_of, subcommand_of, subcommand_rows, subcommand_rows_of, takes}
+use Rattle.clap.specs.declared.builder.command.Command.{Command}
+use Rattle.clap.specs.declared.error.Error.{Error}
+use Rattle.clap.specs.declared.error.kind.ErrorKind.{ErrorKind}
+use Rattle.clap.specs.declared.error.kind.ErrorKind.TheVariants.{DisplayHelp, DisplayVersion, OutOfMemory}
+use Rattle.clap.specs.declared.parser.matches.ArgMatches.{ArgMatches}
+use Rattle.clap.specs.declared.parser.matches.ArgMatches.TheViews.{out-ArgMatches, out-SubCommand}
+use Rattle.clap.proofs.OnLiterals.{clap_on_literals}
+use Rattle.mh_command.specs.CommandLine.{program, word_of, AsksFor, AsksHelp, AsksVersion}
+use Rattle.mh_command.specs.declared.request.Request.{Request}
+use Rattle.mh_command.specs.declared.request.Request.TheVariants.{Run, Check}
+
+is_plain : is_simple program ≡ true
+unfolding clap_on_literals
+is_plain = refl
+
+-- the words of a subcommand are taken
+taken_words : (request : Request) → is_simple program && built_takes (built program) nothing_held (word_of request ∷ []) ≡ true
+unfolding clap_on_literals
+taken_words Run = refl
+taken_words Check = refl
+
+pub is_taken : (request : Request) (words : List (List ℕ)) → AsksFor request words → takes program words ≡ true
+is_taken request words is = subst (λ after. is_simple program && built_takes (built program) nothing_held after ≡ true) (sym is) (taken_words request)
+
+abbrev name_in : Option (Text × List Row) → Option Text
+name_in = option_map (λ p. p.0)
+
+abbrev name_entered : List (List ℕ) → Option Text
+name_entered after = name_in (entered (built program) (stop_after (built program).top.rules (names_of (built program)) after))
+
+word_entered : (request : Request) → name_entered (word_of request ∷ []) ≡ Some (word_of request)
+unfolding clap_on_literals
+word_entered Run = refl
+word_entered Check = refl
+
+name_in_rows : (m : ArgMatches) → subcommand_name_of m ≡ name_in (subcommand_rows_of m)
+name_in_rows m = elim (out-ArgMatches m).subcommand as (λ o. option_map (λ b. (out-SubCommand (box_value b)).name.now) o ≡ name_in (subcommand_rows o)) [ None ↦ refl | Some b ↦ refl ]
+
+module _ (c : Command) (words : List (List ℕ)) (made : app_of c ≡ program) where
+  -- matches of these words are those of the subcommand
+  pub is_matched : (m : ArgMatches) → HasMatchesOf (app_of c) words m → (request : Request) → AsksFor request words → subcommand_name_of m ≡ Some (word_of request)
+  is_matched m has request is =
+      let rows : subcommand_rows_of m ≡ subcommand_of (app_of c) words = (has (ap is_simple made ∙ is_plain)).1 in
+      name_in_rows m ∙ ap name_in (rows ∙ ap (λ a. subcommand_of a words) made) ∙ subst (λ after. name_entered after ≡ Some (word_of request)) (sym is) (word_entered request)
+
+is_free : is_simple_and_free program ≡ true
+unfolding clap_on_literals
+is_free = refl
+
+module _ (c : Command) (words : List (List ℕ)) (kind : ErrorKind) (made : app_of c ≡ program) (faulty : fault_of program words ≡ kind ∷ []) where
+  is_given : fault_of (app_of c) words ≡ kind ∷ []
+  is_given = ap (λ a. fault_of a words) made ∙ faulty
+
+  -- words with one kind of fault are refused
+  pub is_refused : (is_simple_and_free (app_of c) ≡ true → fault_of (app_of c) words ≡ []) → ⊥
+  is_refused free = let none = sym (free (ap is_simple_and_free made ∙ is_free)) ∙ is_given in cc
+
+  -- and the error is of that kind, or memory ran out
+  pub kind_told : (e : Error) → (is_simple_and_free (app_of c) ≡ true → HasKind (fault_of (app_of c) words) e) → (kind_of e ≡ OutOfMemory) ⊎ (kind_of e ≡ kind)
+  kind_told e has = elim (subst (λ kinds. HasKind kinds e) is_given (has (ap is_simple_and_free made ∙ is_free))) [
+    | inl memory ↦ inl memory
+    | inr among ↦ elim among [ inl same ↦ inr same | inr none ↦ absurd none ]
+  ]
+
+-- words that ask for help, or for the version, have that kind alone
+pub asks_help : (words : List (List ℕ)) → AsksHelp words → fault_of program words ≡ DisplayHelp ∷ []
+unfolding clap_on_literals
+asks_help words (inl is) = subst (λ after. built_fault (built program) nothing_held after ≡ DisplayHelp ∷ []) (sym is) refl
+asks_help words (inr is) = subst (λ after. built_fault (built program) nothing_held after ≡ DisplayHelp ∷ []) (sym is) refl
+
+pub asks_version : (words : List (List ℕ)) → AsksVersion words → fault_of program words ≡ DisplayVersion ∷ []
+unfolding clap_on_literals
+asks_version words (inl is) = subst (λ after. built_fault (built program) nothing_held after ≡ DisplayVersion ∷ []) (sym is) refl
+asks_version words (inr is) = subst (λ after. built_fault (built program) nothing_held after ≡ DisplayVersion ∷ []) (sym is) refl

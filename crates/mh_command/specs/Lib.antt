@@ -1,0 +1,4 @@
+pub mod Answers
+pub mod CommandLine
+pub mod Statuses
+pub mod Streams

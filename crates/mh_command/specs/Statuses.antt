@@ -1,0 +1,27 @@
+-- Exit statuses.
+use Rattle.std.specs.Prelude.{ℕ}
+use Rattle.clap.specs.declared.error.kind.ErrorKind.{ErrorKind}
+use Rattle.clap.specs.declared.error.kind.ErrorKind.TheVariants.{DisplayHelp, DisplayVersion, OutOfMemory}
+use Rattle.mh_text.specs.declared.verdict.Verdict.{Verdict}
+use Rattle.mh_text.specs.declared.verdict.Verdict.TheVariants.{Accepted, Refused}
+use Rattle.mh_text.specs.declared.fault.TextFault.{TextFault}
+use Rattle.mh_text.specs.declared.fault.TextFault.TheVariants.{NoMemory, ReadFailed, WriteFailed}
+
+-- of a fault: 4 where memory ran out, 3 where a read or a write failed, 1 where the input is refused
+abbrev pub status_told : TextFault → ℕ
+status_told NoMemory = 4
+status_told ReadFailed = 3
+status_told WriteFailed = 3
+status_told _ = 1
+
+-- of words that ask for nothing: 4 where memory ran out, 0 for help and the version, 2 for any others
+abbrev pub status_answered : ErrorKind → ℕ
+status_answered OutOfMemory = 4
+status_answered DisplayHelp = 0
+status_answered DisplayVersion = 0
+status_answered _ = 2
+
+-- of what is found of a plan
+abbrev pub status_found : Verdict → ℕ
+status_found Accepted = 0
+status_found (Refused cause) = 1

@@ -1,0 +1,91 @@
+//! One command line, over a reader and two writers.
+ghost use Rattle.std.specs.Prelude.{◌≡◌, ◌≢◌, ◌⊎◌, ◌<◌, ◌≤◌, [], ◌∷◌, map, IfSome};
+ghost use Rattle.clap.specs.Words.{fault_of};
+ghost use Rattle.clap.specs.declared.error.kind.ErrorKind.{ErrorKind};
+ghost use Rattle.std.specs.Io.KnownBytes.{Keeps};
+ghost use Rattle.mh_text.specs.Bytes.{HasFailed};
+ghost use Rattle.mh_text.specs.declared.fault.Fault.{Fault};
+ghost use Rattle.mh_command.specs.Answers.{Answers, EndsIn, IsTurnedDown};
+ghost use Rattle.mh_command.specs.CommandLine.{program, AsksFor, AsksHelp, AsksVersion, IsReply};
+ghost use Rattle.mh_command.specs.Streams.{IsTold};
+ghost use Rattle.mh_command.specs.declared.request.Request.{Request};
+
+use crate::answering::{end, reply, work};
+use crate::request::{Request, parse};
+use crate::status::COMMAND_LINE;
+use mh_text::Watched;
+use std::alloc::Global;
+use std::convert::AsStr;
+use std::io::{Read, Write};
+
+/// Does what is asked, and gives the status.
+fn perform<R: Read, W: Write, E: Write>(
+    alloc: Global,
+    request: Request,
+    reader: &mut Watched<R>,
+    out: &mut Watched<W>,
+    err: &mut Watched<E>,
+) -> u8
+    ensures known { result ≤ 4 }
+    ensures asked { result ≢ 2 }
+    ensures answers { result < 2 → Answers request (R.remaining reader.old.inner) result
+        (W.contents out.old.inner) (W.contents out.new.inner)
+        (E.contents err.old.inner) (E.contents err.new.inner) }
+    ensures stopped { 2 ≤ result → (e : Fault)
+        × EndsIn request (R.remaining reader.old.inner) (W.contents out.old.inner) (W.contents out.new.inner)
+        (HasFailed reader.old.failures reader.new.failures) (HasFailed out.old.failures out.new.failures) e
+        × IsTold (E.contents err.old.inner) (E.contents err.new.inner) err.old.failures err.new.failures result e }
+    ensures failed { result ≡ 3 → HasFailed reader.old.failures reader.new.failures
+        ⊎ HasFailed out.old.failures out.new.failures ⊎ HasFailed err.old.failures err.new.failures }
+    ensures done { result ≡ 0 → Keeps (E.contents err.old.inner) (E.contents err.new.inner)
+        × (reader.new.failures ≡ reader.old.failures) × (out.new.failures ≡ out.old.failures)
+        × (err.new.failures ≡ err.old.failures) }
+{
+    let worked = work(alloc, request, reader, out);
+    end(alloc, worked, out, err)
+}
+
+/// Runs one command line, of which the first word is the program's name, and answers the status.
+///
+/// `mhlink run` reads a script from `reader`, and writes the line of each reply to `out`. `mhlink
+/// check` reads a problem and a plan, and writes to `out` whether the plan is accepted. A fault is
+/// one line on `err`. The statuses: 0 done, also help and the version, which go to `out`; 1 the input
+/// is refused, or its plan; 2 the command line is wrong, and nothing is read; 3 a read, a write or a
+/// flush failed; 4 memory ran out outside an event.
+pub fn command<S: AsStr, R: Read, W: Write, E: Write>(
+    alloc: Global,
+    words: &[S],
+    reader: &mut Watched<R>,
+    out: &mut Watched<W>,
+    err: &mut Watched<E>,
+) -> u8
+    ensures known { result ≤ 4 }
+    ensures asked { (request : Request) → AsksFor request (map S.text words.now) → result ≢ 2 }
+    ensures answers { (request : Request) → AsksFor request (map S.text words.now) → result < 2
+        → Answers request (R.remaining reader.old.inner) result
+        (W.contents out.old.inner) (W.contents out.new.inner)
+        (E.contents err.old.inner) (E.contents err.new.inner) }
+    ensures stopped { (request : Request) → AsksFor request (map S.text words.now) → 2 ≤ result → (e : Fault)
+        × EndsIn request (R.remaining reader.old.inner) (W.contents out.old.inner) (W.contents out.new.inner)
+        (HasFailed reader.old.failures reader.new.failures) (HasFailed out.old.failures out.new.failures) e
+        × IsTold (E.contents err.old.inner) (E.contents err.new.inner) err.old.failures err.new.failures result e }
+    ensures turned_down { result ≡ 1 → IfSome (R.remaining reader.old.inner) IsTurnedDown }
+    ensures failed { result ≡ 3 → HasFailed reader.old.failures reader.new.failures
+        ⊎ HasFailed out.old.failures out.new.failures ⊎ HasFailed err.old.failures err.new.failures }
+    ensures done { result ≡ 0 → Keeps (E.contents err.old.inner) (E.contents err.new.inner)
+        × (reader.new.failures ≡ reader.old.failures) × (out.new.failures ≡ out.old.failures)
+        × (err.new.failures ≡ err.old.failures) }
+    ensures wrong { result ≡ 2 → Keeps (W.contents out.old.inner) (W.contents out.new.inner)
+        × (reader.new ≡ reader.old) }
+    ensures replied { (kind : ErrorKind) → fault_of program (map S.text words.now) ≡ kind ∷ []
+        → IsReply result kind × (reader.new ≡ reader.old) }
+    ensures help { AsksHelp (map S.text words.now) → IsReply result ErrorKind.DisplayHelp × (reader.new ≡ reader.old) }
+    ensures version { AsksVersion (map S.text words.now)
+        → IsReply result ErrorKind.DisplayVersion × (reader.new ≡ reader.old) }
+{
+    match parse(alloc, words) {
+        Ok(Some(request)) => perform(alloc, request, reader, out, err),
+        Ok(None) => COMMAND_LINE,
+        Err(error) => reply(alloc, &error, out, err),
+    }
+}

@@ -1,0 +1,12 @@
+//! The command line of `mhlink`, over a reader and two writers.
+#![tactic(auto)]
+
+mod answering;
+mod command_line;
+mod request;
+mod status;
+
+pub use command_line::command;
+pub use mh_text::Watched;
+pub use request::Request;
+pub use status::{COMMAND_LINE, DONE, IO_FAILED, NO_MEMORY, REFUSED};

@@ -1,0 +1,41 @@
+//! Exit statuses.
+ghost use Rattle.std.specs.Prelude.{◌≡◌};
+ghost use Rattle.mh_command.specs.Statuses.{status_told, status_found};
+
+use mh_text::{TextFault, Verdict};
+
+/// The exit status of what was done, and of help and the version.
+pub const DONE: u8 = 0;
+
+/// The exit status where the input is refused, or its plan.
+pub const REFUSED: u8 = 1;
+
+/// The exit status of a wrong command line.
+pub const COMMAND_LINE: u8 = 2;
+
+/// The exit status where a read, a write or a flush failed.
+pub const IO_FAILED: u8 = 3;
+
+/// The exit status where memory ran out outside an event.
+pub const NO_MEMORY: u8 = 4;
+
+/// The status that a fault ends with.
+pub(crate) fn status_of_fault(kind: TextFault) -> u8
+    ensures value { result ≡ status_told kind }
+{
+    match kind {
+        TextFault::NoMemory => NO_MEMORY,
+        TextFault::ReadFailed | TextFault::WriteFailed => IO_FAILED,
+        _ => REFUSED,
+    }
+}
+
+/// The status of what is found of a plan.
+pub(crate) fn status_of_verdict(verdict: Verdict) -> u8
+    ensures value { result ≡ status_found verdict }
+{
+    match verdict {
+        Verdict::Accepted => DONE,
+        Verdict::Refused(_) => REFUSED,
+    }
+}

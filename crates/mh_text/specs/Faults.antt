@@ -1,0 +1,33 @@
+-- The texts of faults.
+use Rattle.std.specs.Prelude.{ℕ, List, [], ◌∷◌, ◌++◌, codes}
+use Rattle.std.specs.Fmt.{decimal}
+use Rattle.mh_type.specs.Faults as type_fault
+use Rattle.mh_tree.specs.Faults as tree_fault
+use Rattle.mh_site.specs.Definitions as definition_fault
+use Rattle.mh_network.specs.Problems as problem_fault
+use Rattle.mh_text.specs.declared.fault.Fault.{Fault}
+use Rattle.mh_text.specs.declared.fault.TextFault.{TextFault}
+use Rattle.mh_text.specs.declared.fault.TextFault.TheVariants.{NoMemory, TooLong, NotJson, BadShape, BadValue, UnknownShared, Tree, Definition, Problem, ReadFailed, WriteFailed, BadType}
+
+-- the number, the name, and the number of the cause
+abbrev pub kind_text : TextFault → List ℕ
+kind_text NoMemory = codes "1 NoMemory"
+kind_text TooLong = codes "2 TooLong"
+kind_text NotJson = codes "3 NotJson"
+kind_text BadShape = codes "4 BadShape"
+kind_text BadValue = codes "5 BadValue"
+kind_text UnknownShared = codes "6 UnknownShared"
+kind_text (Tree cause) = codes "7 Tree " ++ decimal (tree_fault.fault_number cause)
+kind_text (Definition cause) = codes "8 Definition " ++ decimal (definition_fault.fault_number cause)
+kind_text (Problem cause) = codes "9 Problem " ++ decimal (problem_fault.fault_number cause)
+kind_text ReadFailed = codes "10 ReadFailed"
+kind_text WriteFailed = codes "11 WriteFailed"
+kind_text (BadType cause) = codes "12 BadType " ++ decimal (type_fault.fault_number cause)
+
+-- a fault, and where it is
+abbrev pub fault_text : Fault → List ℕ
+fault_text e = codes "fault " ++ kind_text e.kind ++ codes " at " ++ decimal e.at
+
+-- the same, and the byte 0x0A
+abbrev pub fault_line : Fault → List ℕ
+fault_line e = fault_text e ++ 10 ∷ []

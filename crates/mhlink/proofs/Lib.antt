@@ -1,4 +1,0 @@
-mod CheckFlushed
-mod CommandLineLemmas
-mod Flushed
-mod Unread
