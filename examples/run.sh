@@ -1,6 +1,7 @@
 #!/bin/sh
-# Runs each example and compares what it prints, and its fault line, with the lines beside it. Those that are named
-# check-.. go through `mhlink check`, all others through `mhlink run`.
+# Runs each example and compares what it prints, and its fault line, with the lines beside it, and its status: 0, or 1
+# where the lines tell a fault or a refused plan. Those that are named check-.. go through `mhlink check`, all others
+# through `mhlink run`.
 here=$(cd "$(dirname "$0")" && pwd)
 passed=0
 failed=0
@@ -10,7 +11,12 @@ for script in "$here"/*.json; do
     check-*) word=check ;;
     *) word=run ;;
     esac
-    if "$here/../mhlink" "$word" <"$script" 2>&1 | cmp -s - "$lines"; then
+    case $word:$(head -n 1 "$lines") in
+    *:fault\ * | check:refused\ *) wanted=1 ;;
+    *) wanted=0 ;;
+    esac
+    said=$("$here/../mhlink" "$word" <"$script" 2>&1; echo "status $?")
+    if [ "$said" = "$(cat "$lines"; echo "status $wanted")" ]; then
         passed=$((passed + 1))
     else
         failed=$((failed + 1))
