@@ -121,7 +121,7 @@ half_no_better P T S A separate h e =
     let costs : cost_sum P (union_of_needs P (less T A)) ≡ cost_sum P (union_of_needs P (less S A)) = ap (λ (U : ℕ → Bool). cost_sum P (union_of_needs P U)) e in
     omega (arith, gain_split P T A, gain_split P S A, cost_split P T A separate, cost_split P S A separate)
 
-eligible_inside : (P : ProblemData) (S : ℕ → Bool) → AllEligible P S → (j : ℕ) → S j ≡ true → j < length P.links
+pub eligible_inside : (P : ProblemData) (S : ℕ → Bool) → AllEligible P S → (j : ℕ) → S j ≡ true → j < length P.links
 eligible_inside P S h j e =
     elim (cases_lt j (length P.links)) [
       | inl m ↦ m
@@ -136,26 +136,26 @@ pub record ArePartMasks (P : ProblemData) (A : ℕ → ℕ → Bool) (n : ℕ) :
   pub apart : (i k j : ℕ) → i < n → k < n → A i j ≡ true → A k j ≡ true → i ≡ k
   pub covered : (j : ℕ) → j < length P.links → (i : ℕ) × (i < n) × (A i j ≡ true)
 
-abbrev up_to : (ℕ → ℕ → Bool) → ℕ → ℕ → Bool
+abbrev pub up_to : (ℕ → ℕ → Bool) → ℕ → ℕ → Bool
 up_to A i j = some_below i (λ k. A k j)
 
-absorbs : (t a b : Bool) → (t && (a || b)) && a ≡ t && a
+pub absorbs : (t a b : Bool) → (t && (a || b)) && a ≡ t && a
 absorbs true true b = refl
 absorbs true false true = refl
 absorbs true false false = refl
 absorbs false a b = refl
 
-without : (t a b : Bool) → (b ≡ true → a ≡ true → ⊥) → (t && (a || b)) && not a ≡ t && b
+pub without : (t a b : Bool) → (b ≡ true → a ≡ true → ⊥) → (t && (a || b)) && not a ≡ t && b
 without true true true h = absurd (h refl refl)
 without true true false h = refl
 without true false true h = refl
 without true false false h = refl
 without false a b h = refl
 
-meet_step : (A : ℕ → ℕ → Bool) (T : ℕ → Bool) (i : ℕ) → meet (meet T (up_to A (suc i))) (A i) ≡ meet T (A i)
+pub meet_step : (A : ℕ → ℕ → Bool) (T : ℕ → Bool) (i : ℕ) → meet (meet T (up_to A (suc i))) (A i) ≡ meet T (A i)
 meet_step A T i = fun_ext (λ j. absorbs (T j) (A i j) (up_to A i j))
 
-less_step : (P : ProblemData) (A : ℕ → ℕ → Bool) (n : ℕ) (T : ℕ → Bool) (i : ℕ) → ArePartMasks P A n → i < n → less (meet T (up_to A (suc i))) (A i) ≡ meet T (up_to A i)
+pub less_step : (P : ProblemData) (A : ℕ → ℕ → Bool) (n : ℕ) (T : ℕ → Bool) (i : ℕ) → ArePartMasks P A n → i < n → less (meet T (up_to A (suc i))) (A i) ≡ meet T (up_to A i)
 less_step P A n T i masks l = fun_ext (λ j. without (T j) (A i j) (up_to A i j) (λ below here.
     let found = some_below-gives i (λ k. A k j) below in
     let same : found.0 ≡ i = masks.apart found.0 i j (omega (arith, found.1, l)) l found.2 here in
@@ -176,7 +176,7 @@ prefix_no_better P A n T S masks each (suc i) l =
     (rw (meet_step A T i, meet_step A S i) (each i inside))
     (rw (less_step P A n T i masks inside, less_step P A n S i masks inside) below)
 
-all_up : (P : ProblemData) (A : ℕ → ℕ → Bool) (n : ℕ) (T : ℕ → Bool) → ArePartMasks P A n → ((j : ℕ) → T j ≡ true → j < length P.links) → meet T (up_to A n) ≡ T
+pub all_up : (P : ProblemData) (A : ℕ → ℕ → Bool) (n : ℕ) (T : ℕ → Bool) → ArePartMasks P A n → ((j : ℕ) → T j ≡ true → j < length P.links) → meet T (up_to A n) ≡ T
 all_up P A n T masks within = fun_ext (λ j. elim (cases_Bool (T j)) [
   | inl e ↦
       let found = masks.covered j (within j e) in

@@ -12,7 +12,7 @@ use Rattle.mh_network.specs.declared.part.Part.{Part}
 use Rattle.mh_network.specs.Sums.{sum_below, kept}
 use Rattle.mh_network.specs.Problems.{ProblemData, IsProblem, link_at, gain_of, cost_of, needs_point, no_link}
 use Rattle.mh_network.specs.Selection.{member, union_of_needs, gain_sum, cost_sum, AllEligible, IsBest, IsLeast}
-use Rattle.mh_network.specs.Parts.{Item, IsItem, IsJoined, part_at, holds, AreParts, place_of, part_row, part_problem, restricted, PartsJoin}
+use Rattle.mh_network.specs.Parts.{Item, IsItem, IsJoined, IsPartOf, part_at, holds, AreParts, place_of, part_row, part_problem, restricted, PartsJoin}
 use Rattle.mh_network.specs.Parts.Item.{link, point}
 use Rattle.mh_network.specs.Parts.IsJoined.{here, down, up}
 use Rattle.mh_network.proofs.Kept.{sum_below-list}
@@ -21,10 +21,10 @@ use Rattle.mh_network.proofs.SumLaws.{sum_below-same}
 use Rattle.mh_network.proofs.Optimal.{some_below-from, some_below-gives, needs-in_range}
 use Rattle.mh_network.proofs.Joining.{meet, NoBetter, no_better, worth_le, kept_meet, IsBestWithin, IsLeastWithin, ArePartMasks, least_of_masks}
 
-abbrev num : List ℕ → ℕ → ℕ
+abbrev pub num : List ℕ → ℕ → ℕ
 num xs k = slice_index_or xs k 0
 
-place_in : (xs : List ℕ) (p : ℕ) → member xs p ≡ true → (place_of xs p < length xs) × (num xs (place_of xs p) ≡ p)
+pub place_in : (xs : List ℕ) (p : ℕ) → member xs p ≡ true → (place_of xs p < length xs) × (num xs (place_of xs p) ≡ p)
 place_in [] p e = absurd (true≢false (sym e))
 place_in (x ∷ xs) p e =
     elim (cases_Bool (x == p)) [
@@ -37,12 +37,12 @@ place_in (x ∷ xs) p e =
           (omega (arith, later, rest.0), ap (num (x ∷ xs)) later ∙ rest.1)
     ]
 
-member_at : (xs : List ℕ) (k : ℕ) → k < length xs → member xs (num xs k) ≡ true
+pub member_at : (xs : List ℕ) (k : ℕ) → k < length xs → member xs (num xs k) ≡ true
 member_at [] k l = absurd (omega arith)
 member_at (x ∷ xs) zero l = or_left (x == x) (list_any (λ q. q == x) xs) (eq-eqb x x refl)
 member_at (x ∷ xs) (suc k) l = or_right (x == num xs k) (list_any (λ q. q == num xs k) xs) (member_at xs k (omega arith))
 
-place_here : (xs : List ℕ) (k : ℕ) → IsStrictlyIncreasing xs → k < length xs → place_of xs (num xs k) ≡ k
+pub place_here : (xs : List ℕ) (k : ℕ) → IsStrictlyIncreasing xs → k < length xs → place_of xs (num xs k) ≡ k
 place_here xs k rising l =
     let pairs = AllPairs-from_increasing xs rising in
     let there = place_in xs (num xs k) (member_at xs k l) in
@@ -55,24 +55,16 @@ place_here xs k rising l =
       ]
     ]
 
-any_map : (f : ℕ → Bool) (g : ℕ → ℕ) (xs : List ℕ) → list_any f (map g xs) ≡ list_any (λ x. f (g x)) xs
+pub any_map : (f : ℕ → Bool) (g : ℕ → ℕ) (xs : List ℕ) → list_any f (map g xs) ≡ list_any (λ x. f (g x)) xs
 any_map f g [] = refl
 any_map f g (x ∷ xs) = ap (λ b. f (g x) || b) (any_map f g xs)
 
--- what the numbers of a part have to do with the whole
-pub record IsPartOf (P : ProblemData) (part : Part) : Type 0 where
-  pub links : IsStrictlyIncreasing part.links
-  pub points : IsStrictlyIncreasing part.points
-  pub links_in : (j : ℕ) → member part.links j ≡ true → j < length P.links
-  pub points_in : (p : ℕ) → member part.points p ≡ true → p < length P.costs
-  pub needs_in : (j p : ℕ) → member part.links j ≡ true → needs_point P j p ≡ true → member part.points p ≡ true
-
 module _ (P : ProblemData) (part : Part) (h : IsPartOf P part) where
-  row_here : (k : ℕ) → k < length part.links → link_at (part_problem P part) k ≡ part_row P part (num part.links k)
+  pub row_here : (k : ℕ) → k < length part.links → link_at (part_problem P part) k ≡ part_row P part (num part.links k)
   row_here k l = get_or-map (part_row P part) part.links k 0 no_link l
 
   -- a link of the part by its number in it
-  needs_here : (k r : ℕ) → k < length part.links → r < length part.points → needs_point (part_problem P part) k r ≡ needs_point P (num part.links k) (num part.points r)
+  pub needs_here : (k r : ℕ) → k < length part.links → r < length part.points → needs_point (part_problem P part) k r ≡ needs_point P (num part.links k) (num part.points r)
   needs_here k r l m =
       let ns : List ℕ = (link_at P (num part.links k)).needs in
       let inside : member part.links (num part.links k) ≡ true = member_at part.links k l in
@@ -117,7 +109,7 @@ module _ (P : ProblemData) (part : Part) (h : IsPartOf P part) where
       some_below-from (length (part_problem P part).links) (λ i. restricted S part i && needs_point (part_problem P part) i r) k (omega (arith, there.0, length-map part.links (part_row P part)))
       (and_from _ _ (and_from _ _ (lt-ltb k (length part.links) there.0) picked) (needs_here k r there.0 m ∙ needs)))
 
-  gains_here : (S : ℕ → Bool) → gain_sum (part_problem P part) (restricted S part) ≡ gain_sum P (meet S (member part.links))
+  pub gains_here : (S : ℕ → Bool) → gain_sum (part_problem P part) (restricted S part) ≡ gain_sum P (meet S (member part.links))
   gains_here S =
       let g : ℕ → ℕ = kept S (gain_of P) in
       let count : length (part_problem P part).links ≡ length part.links = length-map part.links (part_row P part) in
@@ -133,7 +125,7 @@ module _ (P : ProblemData) (part : Part) (h : IsPartOf P part) where
       let fifth : sum_below (length P.links) (kept (member part.links) g) ≡ gain_sum P (meet S (member part.links)) = sum_below-same (length P.links) _ _ (λ k l. kept_meet S (member part.links) (gain_of P) k) in
       first ∙ (second ∙ (third ∙ (fourth ∙ fifth)))
 
-  costs_here : (S : ℕ → Bool) → cost_sum (part_problem P part) (union_of_needs (part_problem P part) (restricted S part)) ≡ cost_sum P (union_of_needs P (meet S (member part.links)))
+  pub costs_here : (S : ℕ → Bool) → cost_sum (part_problem P part) (union_of_needs (part_problem P part) (restricted S part)) ≡ cost_sum P (union_of_needs P (meet S (member part.links)))
   costs_here S =
       let U : ℕ → Bool = union_of_needs P (meet S (member part.links)) in
       let g : ℕ → ℕ = kept U (cost_of P) in
@@ -174,7 +166,7 @@ module _ (P : ProblemData) (part : Part) (h : IsPartOf P part) where
     | inr e ↦ rw e refl
   ])
 
-  eligible_here : (k : ℕ) → k < length part.links → (link_at (part_problem P part) k).eligible ≡ (link_at P (num part.links k)).eligible
+  pub eligible_here : (k : ℕ) → k < length part.links → (link_at (part_problem P part) k).eligible ≡ (link_at P (num part.links k)).eligible
   eligible_here k l = ap (λ (x : LinkRow). x.eligible) (row_here k l)
 
   restricted_eligible : (T : ℕ → Bool) → AllEligible P T → AllEligible (part_problem P part) (restricted T part)
@@ -182,7 +174,7 @@ module _ (P : ProblemData) (part : Part) (h : IsPartOf P part) where
       let both = and_parts (nat_lt k (length part.links)) (T (num part.links k)) e in
       eligible_here k (ltb-true k (length part.links) both.0) ∙ fits (num part.links k) both.1
 
-  past_end : (V : ℕ → Bool) → AllEligible (part_problem P part) V → (k : ℕ) → length part.links ≤ k → V k ≡ false
+  pub past_end : (V : ℕ → Bool) → AllEligible (part_problem P part) V → (k : ℕ) → length part.links ≤ k → V k ≡ false
   past_end V fits k l = elim (cases_Bool (V k)) [
     | inl e ↦
         let none : (link_at (part_problem P part) k).eligible ≡ false =
@@ -254,7 +246,7 @@ in_same P parts are i x y e item joined =
     let same : i ≡ other.0 = are.apart i other.0 x y e other.2 joined in
     subst (λ (k : ℕ). holds (part_at parts k) y ≡ true) (sym same) other.2
 
-part_of : (P : ProblemData) (parts : List Part) → IsProblem P → AreParts P parts → (i : ℕ) → IsPartOf P (part_at parts i)
+pub part_of : (P : ProblemData) (parts : List Part) → IsProblem P → AreParts P parts → (i : ℕ) → IsPartOf P (part_at parts i)
 part_of P parts problem are i = record {
   links = are.links i;
   points = are.points i;
@@ -263,7 +255,7 @@ part_of P parts problem are i = record {
   needs_in = λ j p e needs. in_same P parts are i (link j) (point p) e (problem.in_range j p needs) (needs_joined P j p needs);
 }
 
-part_masks : (P : ProblemData) (parts : List Part) → AreParts P parts → ArePartMasks P (λ i. member (part_at parts i).links) (length parts)
+pub part_masks : (P : ProblemData) (parts : List Part) → AreParts P parts → ArePartMasks P (λ i. member (part_at parts i).links) (length parts)
 part_masks P parts are = record {
   separate = λ i l. record {
     same = λ j k p e f. same_answer (member (part_at parts i).links j) (member (part_at parts i).links k)

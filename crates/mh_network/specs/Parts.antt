@@ -47,10 +47,23 @@ pub record AreParts (P : ProblemData) (parts : List Part) : Type 0 where
   pub some : (i : ℕ) → i < length parts → (x : Item) × (holds (part_at parts i) x ≡ true)
   pub order : IsStrictlyIncreasing (map (part_key P) parts)
 
+-- links and points of a problem, ascending, with all points that the links need
+pub record IsPartOf (P : ProblemData) (part : Part) : Type 0 where
+  pub links : IsStrictlyIncreasing part.links
+  pub points : IsStrictlyIncreasing part.points
+  pub links_in : (j : ℕ) → member part.links j ≡ true → j < length P.links
+  pub points_in : (p : ℕ) → member part.points p ≡ true → p < length P.costs
+  pub needs_in : (j p : ℕ) → member part.links j ≡ true → needs_point P j p ≡ true → member part.points p ≡ true
+
 -- where a number stands in a list
 abbrev pub place_of : List ℕ → ℕ → ℕ
 place_of [] p = 0
 place_of (x ∷ xs) p = cond (x == p) 0 (suc (place_of xs p))
+
+-- a table that tells for each point of a list where it stands
+pub record ArePlaces (points : List ℕ) (bound : ℕ) (places : List ℕ) : Type 0 where
+  pub count : length places ≡ bound
+  pub value : (p : ℕ) → member points p ≡ true → slice_index_or places p 0 ≡ place_of points p
 
 -- a part as a problem of its own, with its links and points numbered anew
 abbrev pub part_row : ProblemData → Part → ℕ → LinkRow
