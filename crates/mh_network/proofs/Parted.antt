@@ -56,7 +56,7 @@ place_rises xs a b rising f g l =
       ]
     ]
 
-abbrev every : ℕ → Bool
+abbrev pub every : ℕ → Bool
 every _ = true
 
 module _ (P : ProblemData) (part : Part) (h : IsPartOf P part) (problem : IsProblem P) where
