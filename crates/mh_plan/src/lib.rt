@@ -7,7 +7,6 @@ mod joining;
 mod numbers;
 mod planner;
 mod runs;
-mod sums;
 mod worker;
 
 pub use gate::{Gate, OpenGate};

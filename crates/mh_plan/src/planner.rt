@@ -1,10 +1,10 @@
 //! Plans of problems.
 
-ghost use Rattle.std.specs.Prelude.{◌<◌, ◌≤◌, IfOk, length};
+ghost use Rattle.std.specs.Prelude.{◌≡◌, ◌<◌, ◌≤◌, ◌^◌, ◌-ℤ◌, IfOk, length, pos};
 ghost use Rattle.mh_cert.specs.Plans.{Matches};
 ghost use Rattle.mh_network.specs.Parts.{AreParts};
-ghost use Rattle.mh_network.specs.Problems.{IsProblem};
-ghost use Rattle.mh_network.specs.Selection.{IsLeast, member};
+ghost use Rattle.mh_network.specs.Problems.{IsProblem, sum_of_gains};
+ghost use Rattle.mh_network.specs.Selection.{IsLeast, member, value_of};
 ghost use Rattle.mh_plan.specs.Phases.{ArePhases};
 ghost use Rattle.mh_plan.specs.Shares.{AreShared, run_at};
 ghost use Rattle.mh_plan.specs.Solved.{AreSolved};
@@ -13,9 +13,8 @@ use crate::gate::Gate;
 use crate::joining::{join_links, join_rows};
 use crate::numbers::{ascending, needs_of};
 use crate::runs::{Runs, solve_parts};
-use crate::sums::left_of_gains;
 use mh_cert::Plan;
-use mh_network::{Listing, NoMemory, Part, Problem};
+use mh_network::{Listing, NoMemory, Part, Problem, all_gains, carried};
 use std::alloc::Global;
 use std::thread::Threads;
 
@@ -91,6 +90,14 @@ fn join_plan(
         points: Listing::from_vec(points),
         flow: Listing::from_vec(flow),
     })
+}
+
+/// What a flow leaves of all gains.
+fn left_of_gains(problem: &Problem, flow: &[(u32, u32, u64)]) -> i64
+    requires small { value_of flow.now ≤ 2 ^ 62 }
+    ensures value { result ≡ pos (sum_of_gains problem.now) -ℤ pos (value_of flow.now) }
+{
+    all_gains(problem) as i64 - carried(flow) as i64
 }
 
 /// The phases of each part.
