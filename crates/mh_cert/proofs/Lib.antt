@@ -1,3 +1,3 @@
 mod Matching
-mod Within
+pub mod Within
 mod Orders

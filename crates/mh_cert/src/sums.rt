@@ -6,7 +6,7 @@ ghost use Rattle.mh_cert.specs.Plans.{IsUnion};
 ghost use Rattle.mh_network.specs.Problems.{IsProblem, link_at, gain_of, cost_of, needs_point, sum_of_gains};
 ghost use Rattle.mh_network.specs.Selection.{cost_sum, from_link, gain_sum, member, union_of_needs, value_of, worth};
 
-use mh_network::Problem;
+use mh_network::{Problem, all_gains, carried};
 
 // Whether the value is what the links are worth.
 pub(crate) fn is_worth(value: i64, problem: &Problem, links: &[u32], points: &[u32]) -> bool
@@ -78,29 +78,6 @@ fn cost_of_points(problem: &Problem, points: &[u32]) -> u64
     let mut sum: u64 = 0;
     for point in points {
         sum += problem.cost(*point as usize);
-    }
-    sum
-}
-
-fn all_gains(problem: &Problem) -> u64
-    ensures value { result ≡ sum_of_gains problem.now }
-    ensures small { result ≤ 2 ^ 62 }
-{
-    let mut sum: u64 = 0;
-    for link in 0..problem.links() {
-        sum += problem.gain(link);
-    }
-    sum
-}
-
-fn carried(flow: &[(u32, u32, u64)]) -> u64
-    requires small { value_of flow.now ≤ 2 ^ 62 }
-    ensures value { result ≡ value_of flow.now }
-    ensures small { result ≤ 2 ^ 62 }
-{
-    let mut sum: u64 = 0;
-    for row in flow {
-        sum += row.2;
     }
     sum
 }

@@ -1,0 +1,13 @@
+pub mod Pushing
+pub mod Bounds
+pub mod Chaining
+pub mod Spreading
+pub mod Searching
+pub mod Starts
+pub mod Runs
+pub mod Answered
+pub mod Phases
+pub mod Running
+pub mod Blocked
+pub mod Maximal
+pub mod Measuring

@@ -1,0 +1,263 @@
+//! A run of the flow.
+
+ghost use Rattle.std.specs.Prelude.{◌≡◌, ◌<◌, ◌+◌, ◌^◌, ◌↔◌, length, ℕ, IfOk, OnOk, OnErr, IsTrue, MatchBool};
+ghost use Rattle.mh_network.specs.Selection.{member};
+ghost use Rattle.mh_flow.specs.Carried.{number_at};
+ghost use Rattle.mh_flow.specs.Distances.{AreDistances};
+ghost use Rattle.mh_flow.specs.LayerData.{IsLayerRun, IsSameFlow, IsEnd, IsPathPushed, IsSinkLevel};
+ghost use Rattle.mh_flow.specs.Layers.{IsPath};
+ghost use Rattle.mh_flow.specs.Levels.{far, IsLower};
+ghost use Rattle.mh_flow.specs.Run.{IsLayered, is_reached, positive_rows};
+ghost use Rattle.mh_flow.specs.Spent.{IsPhase, IsSpent};
+
+use crate::chain::Chain;
+use crate::levels::{UNREACHED, levels_from, sink_level, unreached};
+use crate::need_row::NeedRow;
+use crate::outcome::{positive, reached_links};
+use crate::path::Path;
+use crate::push::push_along;
+use crate::search::{Places, find_path};
+use crate::start::{costs, gains, need_rows, rows_by_link, rows_by_point};
+use mh_network::{NoMemory, Problem};
+use std::alloc::Global;
+use std::marker::Model;
+
+/// A run of the layered flow (Dinitz 1970).
+#[derive(Drop)]
+pub struct LayerRun<'p> {
+    alloc: Global,
+    problem: &'p Problem,
+    rows: Vec<NeedRow>,
+    by_link: Chain,
+    by_point: Chain,
+    gain_left: Vec<u64>,
+    cost_left: Vec<u64>,
+    links: Vec<u32>,
+    points: Vec<u32>,
+    sink: u32,
+    phases: u64,
+}
+
+impl<'p> Model for LayerRun<'p> {
+    ghost use Rattle.mh_flow.specs.LayerData.{LayerData};
+
+    ghost Value = { LayerData };
+
+    ghost use Rattle.mh_flow.specs.LayerView.{layer_data, IsKept};
+
+    ghost view = { layer_data };
+
+    ghost invariant = { IsKept };
+}
+
+/// A greatest flow, the links that its source reaches, and the phases that it took.
+#[derive(Drop)]
+pub struct FlowRun {
+    rows: Vec<(u32, u32, u64)>,
+    reached: Vec<u32>,
+    phases: u64,
+}
+
+impl Model for FlowRun {
+    ghost use Rattle.mh_flow.specs.FlowData.{FlowData};
+
+    ghost Value = { FlowData };
+
+    ghost view = { λ a. record { rows = a.rows.items; reached = a.reached.items; phases = a.phases } };
+}
+
+impl FlowRun {
+    /// The amounts that the flow carries from a link to a point, where there are any.
+    pub fn rows(&self) -> &[(u32, u32, u64)]
+        ensures value { result.now ≡ self.now.rows }
+    {
+        self.rows.as_slice()
+    }
+
+    /// The links that the source reaches.
+    pub fn reached(&self) -> &[u32]
+        ensures value { result.now ≡ self.now.reached }
+    {
+        self.reached.as_slice()
+    }
+
+    /// How often levels were built.
+    pub fn phases(&self) -> u64
+        ensures value { result ≡ self.now.phases }
+    {
+        self.phases
+    }
+}
+
+impl<'p> LayerRun<'p> {
+    /// A run that carries nothing, with no level built.
+    pub fn new(alloc: Global, problem: &'p Problem) -> Result<LayerRun<'p>, NoMemory>
+        ensures problem { IfOk result (λ run. run.problem ≡ problem.now) }
+        ensures phases { IfOk result (λ run. run.phases ≡ 0) }
+        ensures kept { IfOk result (λ run. IsLayerRun run) }
+    {
+        let rows = need_rows(alloc, problem)?;
+        let by_link = rows_by_link(alloc, &rows, problem.links())?;
+        let by_point = rows_by_point(alloc, &rows, problem.points())?;
+        let gain_left = gains(alloc, problem)?;
+        let cost_left = costs(alloc, problem)?;
+        let links = unreached(alloc, problem.links())?;
+        let points = unreached(alloc, problem.points())?;
+        Ok(LayerRun {
+            alloc,
+            problem,
+            rows,
+            by_link,
+            by_point,
+            gain_left,
+            cost_left,
+            links,
+            points,
+            sink: UNREACHED,
+            phases: 0,
+        })
+    }
+
+    /// Builds the level of each link and point and of the sink, its distance from the source over edges
+    /// with room left, and counts one phase more.
+    pub fn build_levels(&mut self) -> Result<(), NoMemory>
+        requires count { self.old.phases + 1 < 2 ^ 64 }
+        ensures distances { OnOk result (AreDistances self.new) }
+        ensures layered { OnOk result (IsLayered self.new.rows self.new.gain_left self.new.links self.new.points) }
+        ensures sink { OnOk result (IsSinkLevel self.new.cost_left self.new.points self.new.sink) }
+        ensures phases { OnOk result (self.new.phases ≡ self.old.phases + 1) }
+        ensures same { IsSameFlow self.new self.old }
+        ensures kept { IsLayerRun self.new }
+        ensures refused { OnErr result (self.new ≡ self.old) }
+    {
+        let (links, points) = levels_from(
+            self.alloc,
+            &self.rows,
+            &self.by_link,
+            &self.by_point,
+            &self.gain_left,
+            self.cost_left.len(),
+        )?;
+        self.sink = sink_level(&self.cost_left, &points);
+        self.links = links;
+        self.points = points;
+        self.phases += 1;
+        Ok(())
+    }
+
+    /// Whether the sink has a level.
+    pub fn reaches_sink(&self) -> bool
+        ensures value { IsTrue result ↔ (self.now.sink < far) }
+    {
+        self.sink < UNREACHED
+    }
+
+    /// Pushes as much along a path as it allows.
+    pub fn push_path(&mut self, path: &Path)
+        requires path { IsPath self.old.rows self.old.gain_left (number_at self.old.links) (number_at self.old.points) path.now.point path.now.turns.items path.now.first }
+        requires inside { path.now.point < length self.old.points }
+        requires end { IsEnd self.old path.now.point }
+        ensures pushed { IsPathPushed self.old self.new path.now.point }
+        ensures kept { IsLayerRun self.new }
+    {
+        let amount = push_along(
+            &mut self.rows,
+            &mut self.gain_left,
+            &self.links,
+            &self.points,
+            &path.turns,
+            path.first,
+            path.point as u32,
+            self.cost_left[path.point],
+        );
+        self.cost_left[path.point] -= amount;
+    }
+
+    /// The flow, the links that have a level, and the count of phases.
+    pub fn finish(self) -> Result<FlowRun, NoMemory>
+        ensures rows { IfOk result (λ run. run.rows ≡ positive_rows self.entry.rows) }
+        ensures reached { IfOk result (λ run. (j : ℕ) → member run.reached j ≡ is_reached self.entry.links j) }
+        ensures phases { IfOk result (λ run. run.phases ≡ self.entry.phases) }
+    {
+        Ok(FlowRun {
+            rows: positive(self.alloc, &self.rows)?,
+            reached: reached_links(self.alloc, &self.links)?,
+            phases: self.phases,
+        })
+    }
+
+    /// The number of points.
+    pub(crate) fn points(&self) -> usize
+        ensures count { result ≡ length self.now.points }
+        ensures kept { IsLayerRun self.now }
+    {
+        self.points.len()
+    }
+
+    /// Whether a point has room and its edge to the sink leads to the next level.
+    pub(crate) fn is_end(&self, point: usize) -> bool
+        requires inside { point < length self.now.points }
+        ensures value { IsTrue result ↔ IsEnd self.now point }
+    {
+        self.points[point] < self.sink
+            && self.points[point] + 1 == self.sink
+            && self.cost_left[point] > 0
+    }
+
+    /// The last row of each link and each point, from which a phase begins.
+    pub(crate) fn places(&self) -> Result<Places, NoMemory>
+        ensures spent { IfOk result (λ p. IsSpent self.now.rows self.now.gain_left self.now.links self.now.points p.links.items p.points.items) }
+        ensures kept { IsLayerRun self.now }
+    {
+        Ok(Places {
+            links: self.by_link.last.as_slice().to_vec(self.alloc)?,
+            points: self.by_point.last.as_slice().to_vec(self.alloc)?,
+        })
+    }
+
+    /// An empty path to the first point.
+    pub(crate) fn path(&self) -> Path {
+        Path {
+            point: 0,
+            turns: Vec::new(self.alloc),
+            first: 0,
+        }
+    }
+
+    /// Finds a path to the path's point, or tells that none is left.
+    pub(crate) fn search(&self, places: &mut Places, path: &mut Path) -> Result<bool, NoMemory>
+        requires phase { IsPhase self.now.rows self.now.gain_left self.now.links self.now.points }
+        requires spent { IsSpent self.now.rows self.now.gain_left self.now.links self.now.points places.old.links.items places.old.points.items }
+        requires inside { path.old.point < length self.now.points }
+        requires reached { number_at self.now.points path.old.point < far }
+        ensures point { path.new.point ≡ path.old.point }
+        ensures spent { OnOk result (IsSpent self.now.rows self.now.gain_left self.now.links self.now.points places.new.links.items places.new.points.items) }
+        ensures lower { OnOk result (IsLower places.old.points.items places.new.points.items) }
+        ensures found { IfOk
+            result
+            (λ b. MatchBool
+            b
+            (IsPath self.now.rows self.now.gain_left (number_at self.now.links) (number_at self.now.points) path.old.point path.new.turns.items path.new.first)
+            (number_at places.new.points.items path.old.point ≡ 0)) }
+    {
+        let found = find_path(
+            &self.rows,
+            &self.by_link,
+            &self.by_point,
+            &self.gain_left,
+            &self.links,
+            &self.points,
+            &mut places.links,
+            &mut places.points,
+            path.point,
+            &mut path.turns,
+        )?;
+        match found {
+            Some(first) => {
+                path.first = first;
+                Ok(true)
+            }
+            None => Ok(false),
+        }
+    }
+}

@@ -1,0 +1,21 @@
+//! The greatest flow of a problem by levels and blocking flows (Dinitz 1970), and the links that its
+//! source reaches.
+#![tactic(auto)]
+
+mod blocking;
+mod chain;
+mod flow;
+mod layer_run;
+mod levels;
+mod need_row;
+mod outcome;
+mod path;
+mod push;
+mod search;
+mod start;
+
+pub use flow::max_flow;
+pub use layer_run::{FlowRun, LayerRun};
+pub use mh_network::NoMemory;
+pub use need_row::NeedRow;
+pub use path::{Path, Turn};

@@ -1,0 +1,36 @@
+//! What a run gives at its end.
+
+ghost use Rattle.std.specs.Prelude.{◌≡◌, ◌≤◌, length, ℕ, IfOk};
+ghost use Rattle.mh_network.specs.Selection.{member};
+ghost use Rattle.mh_flow.specs.Run.{is_reached, positive_rows};
+
+use crate::levels::UNREACHED;
+use crate::need_row::NeedRow;
+use mh_network::NoMemory;
+use std::alloc::Global;
+
+/// The rows that carry something.
+pub(crate) fn positive(alloc: Global, rows: &[NeedRow]) -> Result<Vec<(u32, u32, u64)>, NoMemory>
+    ensures { IfOk result (λ v. v.items ≡ positive_rows rows.now) }
+{
+    let positive: Vec<(u32, u32, u64)> = rows
+        .iter()
+        .filter(|row| row.amount > 0)
+        .map(|row| (row.link, row.point, row.amount))
+        .collect(alloc)?;
+    Ok(positive)
+}
+
+/// The links that have a level.
+pub(crate) fn reached_links(alloc: Global, levels: &[u32]) -> Result<Vec<u32>, NoMemory>
+    requires { length levels.now ≤ 4096 }
+    ensures { IfOk result (λ v. (j : ℕ) → member v.items j ≡ is_reached levels.now j) }
+{
+    let mut reached = Vec::new(alloc);
+    for link in 0..levels.len() {
+        if levels[link] < UNREACHED {
+            reached.push(link as u32)?;
+        }
+    }
+    Ok(reached)
+}

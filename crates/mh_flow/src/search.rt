@@ -1,0 +1,118 @@
+//! The search of a path down the levels, which never looks again at a row that led nowhere.
+
+ghost use Rattle.std.specs.Prelude.{◌≡◌, ◌<◌, ◌≤◌, length, IfOk, OnOk, MatchOption};
+ghost use Rattle.mh_flow.specs.Carried.{number_at};
+ghost use Rattle.mh_flow.specs.Chains.{IsChained};
+ghost use Rattle.mh_flow.specs.Layers.{IsPath};
+ghost use Rattle.mh_flow.specs.Levels.{far, IsInRange, IsLower};
+ghost use Rattle.mh_flow.specs.Spent.{IsPhase, IsSpent, IsRowBack};
+ghost use Rattle.mh_flow.specs.Spreads.{link_key, point_key};
+
+use crate::chain::Chain;
+use crate::need_row::NeedRow;
+use crate::path::Turn;
+use mh_network::NoMemory;
+
+/// For each link and each point the place of the row that is to be tried next: one more than its
+/// number, and 0 where none is left.
+#[derive(Drop)]
+pub(crate) struct Places {
+    pub(crate) links: Vec<usize>,
+    pub(crate) points: Vec<usize>,
+}
+
+/// The point of a row.
+fn point_of(rows: &[NeedRow], row: usize) -> usize
+    requires inside { row < length rows.now }
+    ensures value { result ≡ point_key rows.now row }
+{
+    rows[row].point as usize
+}
+
+/// The next row of a link over which the flow can be taken back to a point of the level below where
+/// something is left to try.
+fn row_back(
+    rows: &[NeedRow],
+    by_link: &Chain,
+    gain_left: &[u64],
+    links: &[u32],
+    points: &[u32],
+    link_rows: &mut [usize],
+    point_rows: &[usize],
+    link: usize,
+) -> Option<usize>
+    requires chained { IsChained (link_key rows.now) (length rows.now) (length links.now) by_link.now.last.items by_link.now.before.items }
+    requires range { IsInRange rows.now links.now points.now }
+    requires spent { IsSpent rows.now gain_left.now links.now points.now link_rows.old point_rows.now }
+    requires link { link < length links.now }
+    ensures spent { IsSpent rows.now gain_left.now links.now points.now link_rows.new point_rows.now }
+    ensures found { MatchOption result (number_at link_rows.new link ≡ 0) (λ k. IsRowBack rows.now links.now points.now point_rows.now link k) }
+{
+    while link_rows[link] > 0 {
+        let back = link_rows[link] - 1;
+        let row = rows[back];
+        let point = row.point as usize;
+        if row.amount > 0 && points[point] < links[link] && point_rows[point] > 0 {
+            return Some(back);
+        }
+        link_rows[link] = by_link.before[back];
+    }
+    None
+}
+
+/// The turns of a path down the levels from a point to a link with gain left, and the row over which
+/// the path begins; or none, and the point is spent.
+pub(crate) fn find_path(
+    rows: &[NeedRow],
+    by_link: &Chain,
+    by_point: &Chain,
+    gain_left: &[u64],
+    links: &[u32],
+    points: &[u32],
+    link_rows: &mut [usize],
+    point_rows: &mut [usize],
+    point: usize,
+    turns: &mut Vec<Turn>,
+) -> Result<Option<usize>, NoMemory>
+    requires by_link { IsChained (link_key rows.now) (length rows.now) (length links.now) by_link.now.last.items by_link.now.before.items }
+    requires by_point { IsChained (point_key rows.now) (length rows.now) (length points.now) by_point.now.last.items by_point.now.before.items }
+    requires range { IsInRange rows.now links.now points.now }
+    requires same { length gain_left.now ≡ length links.now }
+    requires phase { IsPhase rows.now gain_left.now links.now points.now }
+    requires spent { IsSpent rows.now gain_left.now links.now points.now link_rows.old point_rows.old }
+    requires point { point < length points.now }
+    requires reached { number_at points.now point < far }
+    ensures spent { OnOk result (IsSpent rows.now gain_left.now links.now points.now link_rows.new point_rows.new) }
+    ensures lower { OnOk result (IsLower point_rows.old point_rows.new) }
+    ensures found { IfOk result (λ f. MatchOption f (number_at point_rows.new point ≡ 0) (λ first. IsPath rows.now gain_left.now (number_at links.now) (number_at points.now) point turns.new.items first)) }
+{
+    turns.clear();
+    let mut at = point;
+    loop {
+        let place = point_rows[at];
+        if place == 0 {
+            match turns.pop() {
+                None => return Ok(None),
+                Some(turn) => at = point_of(rows, turn.forth),
+            }
+        } else {
+            let forth = place - 1;
+            let link = rows[forth].link as usize;
+            if links[link] < points[at] {
+                if gain_left[link] > 0 {
+                    return Ok(Some(forth));
+                }
+                if let Some(back) = row_back(
+                    rows, by_link, gain_left, links, points, link_rows, point_rows, link,
+                ) {
+                    turns.push(Turn { forth, back })?;
+                    at = rows[back].point as usize;
+                } else {
+                    point_rows[at] = by_point.before[forth];
+                }
+            } else {
+                point_rows[at] = by_point.before[forth];
+            }
+        }
+    }
+}

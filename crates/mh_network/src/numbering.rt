@@ -1,0 +1,95 @@
+//! A part of a problem as a problem of its own.
+
+ghost use Rattle.std.specs.Prelude.{◌≡◌, ◌<◌, ◌≤◌, All, IfOk, length, map, true};
+ghost use Rattle.std.specs.List.Sorted.{IsStrictlyIncreasing};
+ghost use Rattle.mh_network.specs.Problems.{IsProblem, cost_of};
+ghost use Rattle.mh_network.specs.Parts.{ArePlaces, IsPartOf, part_problem, part_row as row_in_part};
+ghost use Rattle.mh_network.specs.Selection.{member};
+
+use crate::link_row::LinkRow;
+use crate::listing::Listing;
+use crate::memory::NoMemory;
+use crate::part::Part;
+use crate::problem::Problem;
+use std::alloc::Global;
+
+impl Problem {
+    /// A part as a problem of its own: its links and points get the numbers from 0 on, in their
+    /// order. O(links + points of the part + points of the problem).
+    pub fn part(&self, alloc: Global, part: &Part) -> Result<Problem, NoMemory>
+        requires part { IsPartOf self.now part.now }
+        ensures value { IfOk result (λ p. p ≡ part_problem self.now part.now) }
+    {
+        let places = places(alloc, self.points(), part.points.as_slice())?;
+        let rows = part_rows(alloc, self, part, &places)?;
+        let costs = part_costs(alloc, self, part.points.as_slice())?;
+        Ok(Problem::made(rows, costs))
+    }
+}
+
+// For each of these points where it stands among them.
+fn places(alloc: Global, count: usize, points: &[u32]) -> Result<Vec<u32>, NoMemory>
+    requires inside { All (λ p. p < count) points.now }
+    requires ascending { IsStrictlyIncreasing points.now }
+    requires few { length points.now ≤ 1024 }
+    ensures value { IfOk result (λ places. ArePlaces points.now count places.items) }
+{
+    let mut places = vec![in alloc; 0; count]?;
+    for at in 0..points.len() {
+        places[points[at] as usize] = at as u32;
+    }
+    Ok(places)
+}
+
+fn part_rows(
+    alloc: Global,
+    problem: &Problem,
+    part: &Part,
+    places: &[u32],
+) -> Result<Listing<LinkRow>, NoMemory>
+    requires part { IsPartOf problem.now part.now }
+    requires places { ArePlaces part.now.points (length problem.now.costs) places.now }
+    ensures value { IfOk result (λ rows. rows ≡ map (row_in_part problem.now part.now) part.now.links) }
+{
+    let mut rows = Vec::new(alloc);
+    for link in part.links.as_slice() {
+        let row = part_row(alloc, problem, part, places, *link as usize)?;
+        rows.push(row)?;
+    }
+    Ok(Listing::from_vec(rows))
+}
+
+// A link of a part, with its needs by the part's numbers.
+fn part_row(
+    alloc: Global,
+    problem: &Problem,
+    part: &Part,
+    places: &[u32],
+    link: usize,
+) -> Result<LinkRow, NoMemory>
+    requires part { IsPartOf problem.now part.now }
+    requires places { ArePlaces part.now.points (length problem.now.costs) places.now }
+    requires inside { member part.now.links link ≡ true }
+    ensures value { IfOk result (λ row. row ≡ row_in_part problem.now part.now link) }
+{
+    let mut needs = Vec::new(alloc);
+    for point in problem.needs(link) {
+        needs.push(places[*point as usize])?;
+    }
+    Ok(LinkRow {
+        gain: problem.gain(link),
+        eligible: problem.eligible(link),
+        needs: Listing::from_vec(needs),
+    })
+}
+
+fn part_costs(alloc: Global, problem: &Problem, points: &[u32]) -> Result<Listing<u64>, NoMemory>
+    requires inside { All (λ p. p < length problem.now.costs) points.now }
+    ensures value { IfOk result (λ costs. costs ≡ map (cost_of problem.now) points.now) }
+{
+    let mut costs = Vec::new(alloc);
+    for point in points {
+        costs.push(problem.cost(*point as usize))?;
+    }
+    Ok(Listing::from_vec(costs))
+}

@@ -1,0 +1,32 @@
+//! What all links gain, and what a flow carries.
+
+ghost use Rattle.std.specs.Prelude.{◌≡◌, ◌≤◌, ◌^◌};
+ghost use Rattle.mh_network.specs.Problems.{sum_of_gains};
+ghost use Rattle.mh_network.specs.Selection.{value_of};
+
+use crate::problem::Problem;
+
+/// What all links of a problem gain together, at most 2^62. O(links).
+pub fn all_gains(problem: &Problem) -> u64
+    ensures value { result ≡ sum_of_gains problem.now }
+    ensures small { result ≤ 2 ^ 62 }
+{
+    let mut sum: u64 = 0;
+    for link in 0..problem.links() {
+        sum += problem.gain(link);
+    }
+    sum
+}
+
+/// What the rows of a flow carry together, which a flow of a problem keeps within 2^62. O(rows).
+pub fn carried(flow: &[(u32, u32, u64)]) -> u64
+    requires small { value_of flow.now ≤ 2 ^ 62 }
+    ensures value { result ≡ value_of flow.now }
+    ensures small { result ≤ 2 ^ 62 }
+{
+    let mut sum: u64 = 0;
+    for row in flow {
+        sum += row.2;
+    }
+    sum
+}

@@ -1,0 +1,4 @@
+pub mod Solved
+pub mod Shares
+pub mod Joined
+pub mod Phases

@@ -1,0 +1,24 @@
+-- What the run of a part gives.
+use Rattle.std.specs.Prelude.{ℕ, ◌+◌, ◌≡◌, ◌≤◌, ◌<◌, List, [], All, AllPairs, length, pos, ◌+ℤ◌}
+use Rattle.mh_network.specs.declared.part.Part.{Part}
+use Rattle.mh_network.specs.Problems.{ProblemData, sum_of_gains}
+use Rattle.mh_network.specs.Parts.{part_at, part_problem}
+use Rattle.mh_network.specs.Selection.{IsBefore, IsFlow, IsLeast, member, value_of, worth}
+use Rattle.mh_flow.specs.FlowData.{FlowData}
+
+abbrev pub no_run : FlowData
+no_run = record { rows = []; reached = []; phases = 0 }
+
+-- a greatest flow of Q, in order, and the least best links
+pub record IsSolved (Q : ProblemData) (run : FlowData) : Type 0 where
+  pub flow : IsFlow Q run.rows
+  pub positive : All (λ r. 0 < r.2) run.rows
+  pub ordered : AllPairs IsBefore run.rows
+  pub equal : worth Q (member run.reached) +ℤ pos (value_of run.rows) ≡ pos (sum_of_gains Q)
+  pub least : IsLeast Q (member run.reached)
+  pub some : 1 ≤ run.phases
+  pub phases : run.phases ≤ length Q.links + length Q.costs + 2
+
+-- a run for each part, by the part's numbers
+abbrev pub AreSolved : ProblemData → List Part → (ℕ → FlowData) → Type 0
+AreSolved P parts run = (i : ℕ) → i < length parts → IsSolved (part_problem P (part_at parts i)) (run i)

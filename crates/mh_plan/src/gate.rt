@@ -1,0 +1,21 @@
+//! What is told of the work as it goes on.
+
+/// Is told when the planning of a part begins and ends, by the worker that plans it. Parts are counted
+/// from 0, in the order of `Problem::parts`.
+pub trait Gate: Sync {
+    /// The planning of a part begins.
+    fn enter(&self, part: usize);
+
+    /// The planning of a part is over, whether it found memory or not.
+    fn leave(&self, part: usize);
+}
+
+/// A gate that does nothing.
+#[derive(Clone, Copy, Debug)]
+pub struct OpenGate;
+
+impl Gate for OpenGate {
+    fn enter(&self, _part: usize) {}
+
+    fn leave(&self, _part: usize) {}
+}

@@ -1,0 +1,14 @@
+//! The planner: the least best links of a problem, with a flow that shows them to be best, part by part
+//! and on any number of workers.
+#![tactic(auto)]
+
+mod gate;
+mod joining;
+mod numbers;
+mod planner;
+mod runs;
+mod worker;
+
+pub use gate::{Gate, OpenGate};
+pub use mh_network::NoMemory;
+pub use planner::{plan, plan_counted};

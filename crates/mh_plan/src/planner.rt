@@ -1,0 +1,121 @@
+//! Plans of problems.
+
+ghost use Rattle.std.specs.Prelude.{◌≡◌, ◌<◌, ◌≤◌, ◌^◌, ◌-ℤ◌, IfOk, length, pos};
+ghost use Rattle.mh_cert.specs.Plans.{Matches};
+ghost use Rattle.mh_network.specs.Parts.{AreParts};
+ghost use Rattle.mh_network.specs.Problems.{IsProblem, sum_of_gains};
+ghost use Rattle.mh_network.specs.Selection.{IsLeast, member, value_of};
+ghost use Rattle.mh_plan.specs.Phases.{ArePhases};
+ghost use Rattle.mh_plan.specs.Shares.{AreShared, run_at};
+ghost use Rattle.mh_plan.specs.Solved.{AreSolved};
+
+use crate::gate::Gate;
+use crate::joining::{join_links, join_rows};
+use crate::numbers::{ascending, needs_of};
+use crate::runs::{Runs, solve_parts};
+use mh_cert::Plan;
+use mh_network::{Listing, NoMemory, Part, Problem, all_gains, carried};
+use std::alloc::Global;
+use std::thread::Threads;
+
+/// The best plan of a problem with the fewest links, and a flow that shows that no links are worth
+/// more. It does not depend on the number of workers, from 1 to 64: worker k plans the parts k,
+/// k + workers and so on, each worker in a thread of its own where one can be started, and tells
+/// `gate` when it begins and ends a part.
+///
+/// Refused only where a growth was refused.
+pub fn plan<R: Threads + Sync, G: Gate>(
+    rt: &R,
+    alloc: Global,
+    problem: &Problem,
+    workers: usize,
+    gate: &G,
+) -> Result<Plan, NoMemory>
+    requires some { 0 < workers }
+    requires few { workers ≤ 64 }
+    ensures matching { IfOk result (λ plan. Matches problem.now plan) }
+    ensures least { IfOk result (λ plan. IsLeast problem.now (member plan.links)) }
+{
+    let (plan, _) = plan_counted(rt, alloc, problem, workers, gate)?;
+    Ok(plan)
+}
+
+/// The plan that `plan` gives, and for each part, in the order of `Problem::parts`, how many phases
+/// its flow took: at least 1, and at most 2 more than it has links and points.
+///
+/// Refused only where a growth was refused.
+pub fn plan_counted<R: Threads + Sync, G: Gate>(
+    rt: &R,
+    alloc: Global,
+    problem: &Problem,
+    workers: usize,
+    gate: &G,
+) -> Result<(Plan, Vec<u64>), NoMemory>
+    requires some { 0 < workers }
+    requires few { workers ≤ 64 }
+    ensures matching { IfOk result (λ answer. Matches problem.now answer.0) }
+    ensures least { IfOk result (λ answer. IsLeast problem.now (member answer.0.links)) }
+    ensures phases { IfOk result (λ answer. ArePhases problem.now answer.1.items) }
+{
+    let parts = problem.parts(alloc)?;
+    let workers = workers.min(parts.len()).max(1);
+    let runs = solve_parts(rt, alloc, problem, &parts, workers, gate)?;
+    let plan = join_plan(alloc, problem, &parts, &runs)?;
+    let phases = phases_of(alloc, problem, &parts, &runs)?;
+    Ok((plan, phases))
+}
+
+/// The plan that the parts' runs give together.
+fn join_plan(
+    alloc: Global,
+    problem: &Problem,
+    parts: &[Part],
+    runs: &Runs,
+) -> Result<Plan, NoMemory>
+    requires problem { IsProblem problem.now }
+    requires parts { AreParts problem.now parts.now }
+    requires shared { AreShared parts.now runs.now }
+    requires solved { AreSolved problem.now parts.now (run_at runs.now) }
+    ensures matching { IfOk result (λ plan. Matches problem.now plan) }
+    ensures least { IfOk result (λ plan. IsLeast problem.now (member plan.links)) }
+{
+    let chosen = join_links(alloc, parts, runs)?;
+    let links = ascending(alloc, problem.links(), &chosen)?;
+    let needs = needs_of(alloc, problem, &links)?;
+    let points = ascending(alloc, problem.points(), &needs)?;
+    let flow = join_rows(alloc, parts, runs)?;
+    Ok(Plan {
+        value: left_of_gains(problem, &flow),
+        links: Listing::from_vec(links),
+        points: Listing::from_vec(points),
+        flow: Listing::from_vec(flow),
+    })
+}
+
+/// What a flow leaves of all gains.
+fn left_of_gains(problem: &Problem, flow: &[(u32, u32, u64)]) -> i64
+    requires small { value_of flow.now ≤ 2 ^ 62 }
+    ensures value { result ≡ pos (sum_of_gains problem.now) -ℤ pos (value_of flow.now) }
+{
+    all_gains(problem) as i64 - carried(flow) as i64
+}
+
+/// The phases of each part.
+fn phases_of(
+    alloc: Global,
+    problem: &Problem,
+    parts: &[Part],
+    runs: &Runs,
+) -> Result<Vec<u64>, NoMemory>
+    requires parts { AreParts problem.now parts.now }
+    requires shared { AreShared parts.now runs.now }
+    requires solved { AreSolved problem.now parts.now (run_at runs.now) }
+    ensures value { IfOk result (λ phases. ArePhases problem.now phases.items) }
+{
+    let mut phases = Vec::new(alloc);
+    for part in 0..parts.len() {
+        let run = runs.run(parts, part)?;
+        phases.push(run.phases())?;
+    }
+    Ok(phases)
+}

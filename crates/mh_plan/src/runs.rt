@@ -1,0 +1,73 @@
+//! The runs of all parts, as the workers hand them in.
+
+ghost use Rattle.std.specs.Prelude.{◌≡◌, ◌<◌, ◌≤◌, ◌+◌, ◌^◌, ◌↔◌, length, All, IfOk, IsOk, IsTrue};
+ghost use Rattle.mh_network.specs.Parts.{AreParts};
+ghost use Rattle.mh_network.specs.Problems.{IsProblem};
+ghost use Rattle.mh_plan.specs.Shares.{AreShared, IsShare, run_at};
+ghost use Rattle.mh_plan.specs.Solved.{AreSolved};
+
+use crate::gate::Gate;
+use crate::worker::plan_share;
+use mh_flow::FlowRun;
+use mh_network::{Listing, NoMemory, Part, Problem};
+use std::alloc::Global;
+use std::thread;
+use std::thread::Threads;
+
+/// The runs of a worker's parts, in their order, or that it found no memory.
+pub(crate) type Share = Result<Listing<FlowRun>, NoMemory>;
+
+/// The shares of the workers, one after another.
+#[derive(Drop)]
+pub(crate) struct Runs {
+    shares: Vec<Share>,
+    workers: usize,
+}
+
+/// Plans all parts, worker k of `workers` the parts k, k + workers and so on, each in a thread of its
+/// own where one can be started.
+pub(crate) fn solve_parts<R: Threads + Sync, G: Gate>(
+    rt: &R,
+    alloc: Global,
+    problem: &Problem,
+    parts: &[Part],
+    workers: usize,
+    gate: &G,
+) -> Result<Runs, NoMemory>
+    requires problem { IsProblem problem.now }
+    requires parts { AreParts problem.now parts.now }
+    requires workers { 0 < workers }
+    requires room { length parts.now + workers < 2 ^ 64 }
+    ensures shared { IfOk result (λ runs. AreShared parts.now runs) }
+    ensures solved { IfOk result (λ runs. AreSolved problem.now parts.now (run_at runs)) }
+{
+    let share = |worker: usize| -> Share
+        requires { (worker < workers) × IsProblem problem.now × AreParts problem.now parts.now × (length parts.now + workers < 2 ^ 64) }
+        ensures { IfOk result (λ runs. IsShare problem.entry.now parts.entry.now workers worker runs) }
+    { plan_share(alloc, problem, parts, worker, workers, gate) };
+    let shares = thread::map_indices(rt, alloc, workers, &share)?;
+    if !are_ok(&shares) {
+        return Err(NoMemory);
+    }
+    Ok(Runs { shares, workers })
+}
+
+fn are_ok(shares: &[Share]) -> bool
+    ensures value { IsTrue result ↔ All (λ share. IsOk share) shares.now }
+{
+    shares.iter().all(|share| share.is_ok())
+}
+
+impl Runs {
+    /// The run of a part.
+    pub(crate) fn run(&self, parts: &[Part], part: usize) -> Result<&FlowRun, NoMemory>
+        requires shared { AreShared parts.now self.now }
+        requires part { part < length parts.now }
+        ensures value { IfOk result (λ run. run.now ≡ run_at self.now part) }
+    {
+        match &self.shares[part % self.workers] {
+            Ok(runs) => Ok(&runs.as_slice()[part / self.workers]),
+            Err(error) => Err(*error),
+        }
+    }
+}
