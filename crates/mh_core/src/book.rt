@@ -1,6 +1,6 @@
 //! Books: the records of accepted events, and the world after them.
 
-ghost use Rattle.std.specs.Prelude.{◌≡◌, ◌<◌, ◌+◌, length, reverse, true, false, [], OnOk, OnErr, IfOk, IfErr, IsTrue, ◌↔◌};
+ghost use Rattle.std.specs.Prelude.{◌≡◌, ◌<◌, ◌≤◌, ◌+◌, length, reverse, true, false, [], OnOk, OnErr, IfOk, IfErr, IsTrue, ◌↔◌};
 ghost use Rattle.std.specs.List.{All};
 ghost use Rattle.mh_core.specs.declared.record.Record.TheVariants.{Targeted, Invalidated};
 ghost use Rattle.mh_core.specs.Books.{BookState, Takes, Rejects, IsBook, accepted, opened_book};
@@ -99,8 +99,7 @@ impl Book {
 
     /// Whether as many events were accepted as may be, calls among them.
     pub fn is_full(&self) -> bool
-        ensures full { result ≡ false → accepted self.now < self.now.limits.history }
-        ensures room { result ≡ true → accepted self.now < self.now.limits.history → ⊥ }
+        ensures decides { IsTrue result ↔ (self.now.limits.history ≤ accepted self.now) }
     {
         self.records.len() as u64 + self.calls >= self.limits.history()
     }

@@ -9,6 +9,8 @@ use Rattle.mh_tree.specs.Meaning.{argument, mean, steps, filtered, filter_steps}
 use Rattle.mh_tree.specs.Tree.{Tree, filter, filters_of}
 use Rattle.mh_tree.specs.TreeOf.{filter_trees}
 use Rattle.mh_tree.specs.declared.node.Node.{Node}
+use Rattle.std.specs.declared.alloc.Global.{Global}
+use Rattle.std.specs.declared.sync.Arc.{Arc}
 use Rattle.mh_eval.specs.Lent.{AreFirst}
 use Rattle.mh_eval.proofs.FilterRuns.{filter_goes, filter_goes_steps}
 
@@ -22,17 +24,17 @@ first_arguments a r same inside =
     get_or-take (length r) a i (Boolean false) here ∙ sym (get_or-map (argument a) r i 0 (Boolean false) here ∙ ap (argument a) (same i here)))
 
 -- no filter at any place
-none_filtered : (v : List Bool) (fs : List (Option Node)) (p : ℕ) (a : List Value) → list_all is_none fs ≡ true → filtered v (filters_of (filter_trees fs)) p a ≡ Ok a
+none_filtered : (v : List Bool) (fs : List (Option (Arc Node Global))) (p : ℕ) (a : List Value) → list_all is_none fs ≡ true → filtered v (filters_of (filter_trees fs)) p a ≡ Ok a
 none_filtered v [] p a h = refl
 none_filtered v (None ∷ fs) p a h = none_filtered v fs (p + 1) a h
 none_filtered v (Some f ∷ fs) p a h = cc
 
-no_filter_steps : (v : List Bool) (fs : List (Option Node)) (p : ℕ) (a : List Value) → list_all is_none fs ≡ true → filter_steps v (filters_of (filter_trees fs)) p a ≡ 0
+no_filter_steps : (v : List Bool) (fs : List (Option (Arc Node Global))) (p : ℕ) (a : List Value) → list_all is_none fs ≡ true → filter_steps v (filters_of (filter_trees fs)) p a ≡ 0
 no_filter_steps v [] p a h = refl
 no_filter_steps v (None ∷ fs) p a h = no_filter_steps v fs (p + 1) a h
 no_filter_steps v (Some f ∷ fs) p a h = cc
 
-module _ (v : List Bool) (t : Tree) (p : ℕ) (fs : List (Option Node)) (a : List Value) (none : list_all is_none fs ≡ true) where
+module _ (v : List Bool) (t : Tree) (p : ℕ) (fs : List (Option (Arc Node Global))) (a : List Value) (none : list_all is_none fs ≡ true) where
   pub none_mean : mean v (filter t p (filters_of (filter_trees fs))) a ≡ mean v t a
   none_mean = filter_goes v t p (filters_of (filter_trees fs)) a a (none_filtered v fs p a none)
 

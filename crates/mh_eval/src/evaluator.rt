@@ -17,6 +17,7 @@ use mh_tree::{Handle, Node};
 use mh_type::{Kind, MethodType, Outcome, Throw, Value};
 use std::alloc::Global;
 use std::slice;
+use std::sync::Arc;
 
 /// The outcome of a handle's tree on arguments, and the number of nodes entered, where `valid` says
 /// which points are valid.
@@ -162,7 +163,7 @@ fn run_filter(
     valid: &[bool],
     target: &Node,
     position: usize,
-    filters: &[Option<Node>],
+    filters: &[Option<Arc<Node>>],
     arguments: &[Value],
 ) -> Result<(Outcome, u64), NoMemory>
     requires can_run { CanRun (filter (tree_of target.now) position (filters_of (filter_trees filters.now))) (length arguments.now) (length valid.now) }
@@ -284,7 +285,7 @@ fn run_point(
 fn run_filters(
     alloc: Global,
     valid: &[bool],
-    filters: &[Option<Node>],
+    filters: &[Option<Arc<Node>>],
     position: usize,
     arguments: &[Value],
 ) -> Result<(Result<Vec<Value>, Throw>, u64), NoMemory>
@@ -314,7 +315,7 @@ fn run_filters(
 }
 
 // Whether there is no filter at any place.
-fn are_absent(filters: &[Option<Node>]) -> bool
+fn are_absent(filters: &[Option<Arc<Node>>]) -> bool
     ensures value { result ≡ list_all is_none filters.now }
 {
     filters.iter().all(Option::is_none)

@@ -6,7 +6,7 @@ ghost use Rattle.mh_tree.specs.Constructors.{Refuses, insert_made, drop_made};
 ghost use Rattle.mh_tree.specs.Handle.{IsSound};
 ghost use Rattle.mh_tree.specs.Tree.{insert as insert_tree, discard};
 
-use crate::copy::{boxed_copy, copy_values};
+use crate::copy::copy_values;
 use crate::fault::TreeFault;
 use crate::handle::Handle;
 use crate::limits::within_limits;
@@ -27,7 +27,7 @@ impl Handle {
     ///
     /// *Refusals*: `BadPosition` where `position + values.len()` is above the target's count of
     /// parameters, as a number without bounds; `TypeMismatch` where a value is of another kind than
-    /// its parameter; `TooDeep`, `TooLarge`, and `NoMemory`. It copies the target's tree.
+    /// its parameter; `TooDeep`, `TooLarge`, and `NoMemory`.
     pub fn insert(
         alloc: Global,
         target: &Handle,
@@ -39,7 +39,7 @@ impl Handle {
     {
         let method_type = insert_type(target, position, values)?;
         let root = Node::Insert {
-            target: boxed_copy(alloc, target)?,
+            target: target.root_owner()?,
             position,
             values: copy_values(alloc, values)?,
         };
@@ -57,7 +57,7 @@ impl Handle {
     /// `int 0`. No kinds are allowed: the handle is then the target in one more node.
     ///
     /// *Refusals*: `BadPosition` where `position` is above the target's count of parameters;
-    /// `TooManyParameters` past 16; `TooDeep`, `TooLarge`, and `NoMemory`. It copies the target's tree.
+    /// `TooManyParameters` past 16; `TooDeep`, `TooLarge`, and `NoMemory`.
     pub fn drop(
         alloc: Global,
         target: &Handle,
@@ -69,7 +69,7 @@ impl Handle {
     {
         let method_type = drop_type(target, position, kinds)?;
         let root = Node::Drop {
-            target: boxed_copy(alloc, target)?,
+            target: target.root_owner()?,
             position,
             kinds: kinds.to_vec(alloc).map_err(|_| TreeFault::NoMemory)?,
         };

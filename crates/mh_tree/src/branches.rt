@@ -5,7 +5,6 @@ ghost use Rattle.mh_tree.specs.Constructors.{Refuses, guard_made, point_made};
 ghost use Rattle.mh_tree.specs.Handle.{IsSound};
 ghost use Rattle.mh_tree.specs.Tree.{guard as guard_tree, point as point_tree};
 
-use crate::copy::boxed_copy;
 use crate::fault::TreeFault;
 use crate::handle::Handle;
 use crate::limits::within_limits;
@@ -26,7 +25,7 @@ impl Handle {
     /// handle is of type `(int)int`, and gives `int 100` on `int 1` and `int -2` on `int 2`.
     ///
     /// *Refusals*: `NotBoolean`; `TypeMismatch` where the branches have two types or the test's
-    /// parameters do not begin theirs; `TooDeep`, `TooLarge`, and `NoMemory`. It copies the trees.
+    /// parameters do not begin theirs; `TooDeep`, `TooLarge`, and `NoMemory`.
     pub fn guard(
         alloc: Global,
         test: &Handle,
@@ -38,9 +37,9 @@ impl Handle {
     {
         let method_type = guard_type(test, target, fallback)?;
         let root = Node::Guard {
-            test: boxed_copy(alloc, test)?,
-            target: boxed_copy(alloc, target)?,
-            fallback: boxed_copy(alloc, fallback)?,
+            test: test.root_owner()?,
+            target: target.root_owner()?,
+            fallback: fallback.root_owner()?,
         };
         let depth = 1 + test.depth().max(target.depth().max(fallback.depth()));
         let size = 1 + (test.size() + (target.size() + fallback.size()));
@@ -60,7 +59,7 @@ impl Handle {
     /// `int 2` and `int 1` while point 0 is valid, and `int 1` from its invalidation on.
     ///
     /// *Refusals*: `TypeMismatch` where the branches have two types; `TooDeep`, `TooLarge`, and
-    /// `NoMemory`. It copies the trees.
+    /// `NoMemory`.
     pub fn point(
         alloc: Global,
         point: u32,
@@ -73,8 +72,8 @@ impl Handle {
         let method_type = point_type(point, target, fallback)?;
         let root = Node::Point {
             point,
-            target: boxed_copy(alloc, target)?,
-            fallback: boxed_copy(alloc, fallback)?,
+            target: target.root_owner()?,
+            fallback: fallback.root_owner()?,
         };
         let depth = 1 + target.depth().max(fallback.depth());
         let size = 1 + (target.size() + fallback.size());

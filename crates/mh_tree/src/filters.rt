@@ -8,13 +8,13 @@ ghost use Rattle.mh_tree.specs.TreeOf.{filter_trees};
 ghost use Rattle.mh_tree.specs.Handle.{IsSound};
 ghost use Rattle.mh_tree.specs.Tree.{filter as filter_tree, filter_return as filter_return_tree};
 
-use crate::copy::{boxed_copy, root_copy};
 use crate::fault::TreeFault;
 use crate::handle::Handle;
 use crate::limits::within_limits;
 use crate::node::{Node, with_parameter};
 use mh_type::{Kind, MethodType, same_kinds};
 use std::alloc::Global;
+use std::sync::Arc;
 
 impl Handle {
     /// The target on filtered arguments (`MethodHandles.filterArguments`).
@@ -34,7 +34,7 @@ impl Handle {
     /// *Refusals*: `BadPosition` where `position + filters.len()` is above the target's count of
     /// parameters, as a number without bounds; `NotUnary` where a filter has other than one parameter;
     /// `TypeMismatch` where a filter returns another kind than its place has; `TooDeep`, `TooLarge`,
-    /// and `NoMemory`. It copies all trees.
+    /// and `NoMemory`.
     pub fn filter(
         alloc: Global,
         target: &Handle,
@@ -46,9 +46,9 @@ impl Handle {
     {
         let method_type = filter_type(target, position, filters)?;
         let root = Node::Filter {
-            target: boxed_copy(alloc, target)?,
+            target: target.root_owner()?,
             position,
-            filters: copies(alloc, filters)?,
+            filters: owners(alloc, filters)?,
         };
         let depth = 1 + target.depth().max(deepest(filters));
         let size = 1 + (target.size() + total_size(filters));
@@ -68,7 +68,6 @@ impl Handle {
     ///
     /// *Refusals*: `NotUnary` where the filter has other than one parameter; `TypeMismatch` where that
     /// parameter is of another kind than the target returns; `TooDeep`, `TooLarge`, and `NoMemory`.
-    /// It copies both trees.
     pub fn filter_return(
         alloc: Global,
         target: &Handle,
@@ -79,8 +78,8 @@ impl Handle {
     {
         let method_type = filter_return_type(target, filter)?;
         let root = Node::FilterReturn {
-            target: boxed_copy(alloc, target)?,
-            filter: boxed_copy(alloc, filter)?,
+            target: target.root_owner()?,
+            filter: filter.root_owner()?,
         };
         let depth = 1 + target.depth().max(filter.depth());
         let size = 1 + (target.size() + filter.size());
@@ -225,18 +224,18 @@ fn greatest_bound(filters: &[Option<Handle>]) -> usize
     greatest
 }
 
-// A copy of each filter's tree.
-fn copies(alloc: Global, filters: &[Option<Handle>]) -> Result<Vec<Option<Node>>, TreeFault>
+// Another owner of each filter's tree.
+fn owners(alloc: Global, filters: &[Option<Handle>]) -> Result<Vec<Option<Arc<Node>>>, TreeFault>
     ensures value { IfOk result (λ v. filter_trees v.items ≡ map (option_map (λ f. f.tree)) filters.now) }
     ensures refused { IfErr result (λ e. e ≡ TreeFault.NoMemory) }
 {
-    let mut copied = Vec::new(alloc);
+    let mut owned = Vec::new(alloc);
     for filter in filters {
         let filter = match filter {
             None => None,
-            Some(filter) => Some(root_copy(alloc, filter)?),
+            Some(filter) => Some(filter.root_owner()?),
         };
-        copied.push(filter).map_err(|_| TreeFault::NoMemory)?;
+        owned.push(filter).map_err(|_| TreeFault::NoMemory)?;
     }
-    Ok(copied)
+    Ok(owned)
 }

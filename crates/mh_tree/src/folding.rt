@@ -5,7 +5,6 @@ ghost use Rattle.mh_tree.specs.Constructors.{Refuses, fold_made};
 ghost use Rattle.mh_tree.specs.Handle.{IsSound};
 ghost use Rattle.mh_tree.specs.Tree.{fold as fold_tree};
 
-use crate::copy::boxed_copy;
 use crate::fault::TreeFault;
 use crate::handle::Handle;
 use crate::limits::within_limits;
@@ -27,15 +26,15 @@ impl Handle {
     ///
     /// *Refusals*: `TypeMismatch` where the target has no parameter, the combiner returns another kind
     /// than its first, or the combiner's parameters do not begin the rest; `TooDeep`, `TooLarge`, and
-    /// `NoMemory`. It copies both trees.
+    /// `NoMemory`.
     pub fn fold(alloc: Global, target: &Handle, combiner: &Handle) -> Result<Handle, TreeFault>
         ensures value { IfOk result (λ h. fold_made target.now combiner.now ≡ Ok h) }
         ensures refused { IfErr result (λ e. Refuses e (fold_made target.now combiner.now)) }
     {
         let method_type = fold_type(target, combiner)?;
         let root = Node::Fold {
-            target: boxed_copy(alloc, target)?,
-            combiner: boxed_copy(alloc, combiner)?,
+            target: target.root_owner()?,
+            combiner: combiner.root_owner()?,
         };
         let depth = 1 + target.depth().max(combiner.depth());
         let size = 1 + (target.size() + combiner.size());

@@ -1,6 +1,7 @@
 //! Handles: shared trees, typed and within limits.
 
 ghost use Rattle.std.specs.Prelude.{◌≡◌, ◌≤◌, IfOk, IfErr};
+ghost use Rattle.std.specs.Arc.{arc_value};
 ghost use Rattle.mh_tree.specs.Handle.{TypedTree, IsSound};
 ghost use Rattle.mh_tree.specs.TreeOf.{tree_of};
 ghost use Rattle.mh_tree.specs.Limits.{depth as tree_depth, size as tree_size, point_bound as tree_point_bound};
@@ -12,10 +13,10 @@ use std::alloc::Global;
 use std::marker::Model;
 use std::sync::Arc;
 
-// A tree, and what is kept beside it.
+// An owner of a tree, and what is kept beside it.
 #[derive(Drop)]
 pub(crate) struct Rooted {
-    pub(crate) root: Node,
+    pub(crate) root: Arc<Node>,
     pub(crate) method_type: MethodType,
     pub(crate) depth: usize,
     pub(crate) size: usize,
@@ -23,7 +24,7 @@ pub(crate) struct Rooted {
 }
 
 /// A shared tree that is well typed, at most 96 deep and of at most 262,144 nodes. A clone of it is
-/// `share`, which takes no copy; the constructors copy the trees of their parts.
+/// `share`. No call copies a tree: the constructors take further owners of their parts.
 #[derive(Drop)]
 pub struct Handle {
     shared: Arc<Rooted>,
@@ -62,6 +63,7 @@ impl Handle {
         ensures value { IfOk result (λ h. h ≡ record { tree = tree_of root; signature = method_type }) }
         ensures refused { IfErr result (λ e. e ≡ TreeFault.NoMemory) }
     {
+        let root = Arc::new(alloc, root).map_err(|_| TreeFault::NoMemory)?;
         let shared = Arc::new(
             alloc,
             Rooted {
@@ -83,6 +85,15 @@ impl Handle {
     {
         let shared = Arc::try_clone(&self.shared).map_err(|_| TreeFault::NoMemory)?;
         Ok(Handle { shared })
+    }
+
+    // Another owner of the root.
+    pub(crate) fn root_owner(&self) -> Result<Arc<Node>, TreeFault>
+        ensures value { IfOk result (λ a. tree_of (arc_value a) ≡ self.now.tree) }
+        ensures refused { IfErr result (λ e. e ≡ TreeFault.NoMemory) }
+    {
+        let shared = &self.shared;
+        Arc::try_clone(&shared.root).map_err(|_| TreeFault::NoMemory)
     }
 
     /// The tree.

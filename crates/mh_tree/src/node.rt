@@ -9,9 +9,10 @@ ghost use Rattle.mh_tree.specs.TypeOf.{type_of, filtered_kinds};
 ghost use Rattle.mh_tree.specs.Typing.{IsTyped, AreTyped};
 
 use mh_type::{Kind, MethodType, Op, Value};
+use std::sync::Arc;
 
-/// A tree of combinators, one variant for each. A node alone is no handle: `Handle` lends nodes of
-/// trees that are typed and within limits.
+/// A tree of combinators, one variant for each. A node owns its parts together with other nodes and
+/// handles. A node alone is no handle: `Handle` lends nodes of trees that are typed and within limits.
 #[derive(Drop)]
 pub enum Node {
     /// `MethodHandles.constant`.
@@ -22,56 +23,66 @@ pub enum Node {
     Operation(Op),
     /// `MethodHandles.insertArguments`.
     Insert {
-        target: Box<Node>,
+        target: Arc<Node>,
         position: usize,
         values: Vec<Value>,
     },
     /// `MethodHandles.dropArguments`.
     Drop {
-        target: Box<Node>,
+        target: Arc<Node>,
         position: usize,
         kinds: Vec<Kind>,
     },
     /// `MethodHandles.permuteArguments`.
     Permute {
-        target: Box<Node>,
+        target: Arc<Node>,
         new_type: MethodType,
         reorder: Vec<usize>,
     },
     /// `MethodHandles.filterArguments`; no filter leaves the argument.
     Filter {
-        target: Box<Node>,
+        target: Arc<Node>,
         position: usize,
-        filters: Vec<Option<Node>>,
+        filters: Vec<Option<Arc<Node>>>,
     },
     /// `MethodHandles.filterReturnValue`.
     FilterReturn {
-        target: Box<Node>,
-        filter: Box<Node>,
+        target: Arc<Node>,
+        filter: Arc<Node>,
     },
     /// `MethodHandles.foldArguments`.
     Fold {
-        target: Box<Node>,
-        combiner: Box<Node>,
+        target: Arc<Node>,
+        combiner: Arc<Node>,
     },
     /// `MethodHandles.guardWithTest`.
     Guard {
-        test: Box<Node>,
-        target: Box<Node>,
-        fallback: Box<Node>,
+        test: Arc<Node>,
+        target: Arc<Node>,
+        fallback: Arc<Node>,
     },
     /// `SwitchPoint.guardWithTest`.
     Point {
         point: u32,
-        target: Box<Node>,
-        fallback: Box<Node>,
+        target: Arc<Node>,
+        fallback: Arc<Node>,
     },
 }
 
 impl Node {
-    /// The type of the node's tree, computed from its parts. A node of a handle's tree is typed.
-    #[cycle(types)]
+    /// The type of the node's tree, which is typed, as that of each node of a handle's tree is. It is
+    /// computed from the parts, in time linear in the size.
     pub fn method_type(&self) -> MethodType
+        requires typed { (m : Signature) × IsTyped (tree_of self.now) m }
+        ensures value { result ≡ type_of (tree_of self.now) }
+        ensures is { IsTyped (tree_of self.now) result }
+    {
+        self.computed_type()
+    }
+
+    // The type, computed from the parts.
+    #[cycle(types)]
+    fn computed_type(&self) -> MethodType
         requires typed { (m : Signature) × IsTyped (tree_of self.now) m }
         ensures value { result ≡ type_of (tree_of self.now) }
     {
@@ -83,13 +94,13 @@ impl Node {
                 target,
                 position,
                 values,
-            } => target.method_type().remove(*position, values.len()),
+            } => target.computed_type().remove(*position, values.len()),
             Node::Drop {
                 target,
                 position,
                 kinds,
             } => {
-                let Ok(made) = target.method_type().insert(*position, kinds) else {
+                let Ok(made) = target.computed_type().insert(*position, kinds) else {
                     unreachable!()
                 };
                 made
@@ -99,19 +110,19 @@ impl Node {
                 target,
                 position,
                 filters,
-            } => filtered_type(target.method_type(), *position, filters),
+            } => filtered_type(target.computed_type(), *position, filters),
             Node::FilterReturn { target, filter } => {
-                target.method_type().returning(filter.method_type().ret())
+                target.computed_type().returning(filter.computed_type().ret())
             }
-            Node::Fold { target, .. } => target.method_type().remove(0, 1),
-            Node::Guard { target, .. } | Node::Point { target, .. } => target.method_type(),
+            Node::Fold { target, .. } => target.computed_type().remove(0, 1),
+            Node::Guard { target, .. } | Node::Point { target, .. } => target.computed_type(),
         }
     }
 }
 
 // The target's type with each filter's parameter in its place.
 #[cycle(types)]
-fn filtered_type(target: MethodType, position: usize, filters: &[Option<Node>]) -> MethodType
+fn filtered_type(target: MethodType, position: usize, filters: &[Option<Arc<Node>>]) -> MethodType
     requires typed { (new : List Kind) × AreTyped (filters_of (filter_trees filters.now)) (drop position target.parameters) new }
     requires few { length target.parameters ≤ 16 }
     ensures value { result ≡ record { ret = target.ret; parameters = filtered_kinds (filters_of (filter_trees filters.now)) position target.parameters } }
@@ -119,7 +130,7 @@ fn filtered_type(target: MethodType, position: usize, filters: &[Option<Node>]) 
     let mut made = target;
     for (index, filter) in filters.iter().enumerate() {
         if let Some(filter) = filter {
-            let kind = filter.method_type().parameter(0);
+            let kind = filter.computed_type().parameter(0);
             made = with_parameter(&made, position + index, kind);
         }
     }

@@ -7,7 +7,6 @@ ghost use Rattle.mh_tree.specs.Handle.{IsSound};
 ghost use Rattle.mh_tree.specs.Tree.{permute as permute_tree};
 ghost use Rattle.mh_tree.specs.Typing.{kind_at};
 
-use crate::copy::boxed_copy;
 use crate::fault::TreeFault;
 use crate::handle::Handle;
 use crate::limits::within_limits;
@@ -29,8 +28,7 @@ impl Handle {
     ///
     /// *Refusals*: `BadReorder` where the reordering has not one entry for each parameter of the
     /// target, or names no parameter of the new type; `TypeMismatch` where the returns or the kinds of
-    /// a parameter and of what is passed there differ; `TooDeep`, `TooLarge`, and `NoMemory`. It copies
-    /// the target's tree.
+    /// a parameter and of what is passed there differ; `TooDeep`, `TooLarge`, and `NoMemory`.
     pub fn permute(
         alloc: Global,
         target: &Handle,
@@ -42,7 +40,7 @@ impl Handle {
     {
         let method_type = permute_type(target, new_type, reorder)?;
         let root = Node::Permute {
-            target: boxed_copy(alloc, target)?,
+            target: target.root_owner()?,
             new_type: new_type.copy(),
             reorder: reorder.to_vec(alloc).map_err(|_| TreeFault::NoMemory)?,
         };

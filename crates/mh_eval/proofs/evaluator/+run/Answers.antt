@@ -1,8 +1,11 @@
 use Rattle.std.proofs.Common.{◌≡◌, ap, ◌∙◌, rules, arith, List, Option, Ok}
+use Rattle.mh_tree.specs.Limits.{size, total_size}
 use Rattle.mh_tree.specs.Meaning.{filtered}
 use Rattle.mh_tree.specs.Tree.{filter, filters_of}
 use Rattle.mh_tree.specs.TreeOf.{tree_of, filter_trees}
 use Rattle.mh_tree.specs.declared.node.Node.{Node}
+use Rattle.std.specs.declared.alloc.Global.{Global}
+use Rattle.std.specs.declared.sync.Arc.{Arc}
 use Rattle.mh_tree.proofs.LeadingArguments.{filtered_length}
 use Rattle.mh_tree.proofs.Trees.{tree_of_filter}
 use Rattle.mh_eval.proofs.Branches.{guard_mean, guard_steps, fold_mean, fold_steps}
@@ -81,7 +84,7 @@ run-returns-in-Filter-clause-outcome t c =
     let e : tree_of c.args.node.now ≡ filter (tree_of c.in-Filter.target.value) c.in-Filter.position (filters_of (filter_trees c.in-Filter.filters.items)) =
     ap tree_of c.in-Filter.is ∙ tree_of_filter c.in-Filter.target c.in-Filter.position c.in-Filter.filters in
     let f : filters_of (filter_trees c.deref-in-Filter-2.result.now) ≡ filters_of (filter_trees c.in-Filter.filters.items) =
-    ap (λ (fs : List (Option Node)). filters_of (filter_trees fs)) c.deref-in-Filter-2.ensures.value in
+    ap (λ (fs : List (Option (Arc Node Global))). filters_of (filter_trees fs)) c.deref-in-Filter-2.ensures.value in
     let g : tree_of c.deref-in-Filter.result.now ≡ tree_of c.in-Filter.target.value = ap tree_of c.deref-in-Filter.ensures in
     rw e (rw (g, f) at c.run_filter.ensures.outcome)
 
@@ -90,6 +93,24 @@ run-returns-in-Filter-clause-steps t c =
     let e : tree_of c.args.node.now ≡ filter (tree_of c.in-Filter.target.value) c.in-Filter.position (filters_of (filter_trees c.in-Filter.filters.items)) =
     ap tree_of c.in-Filter.is ∙ tree_of_filter c.in-Filter.target c.in-Filter.position c.in-Filter.filters in
     let f : filters_of (filter_trees c.deref-in-Filter-2.result.now) ≡ filters_of (filter_trees c.in-Filter.filters.items) =
-    ap (λ (fs : List (Option Node)). filters_of (filter_trees fs)) c.deref-in-Filter-2.ensures.value in
+    ap (λ (fs : List (Option (Arc Node Global))). filters_of (filter_trees fs)) c.deref-in-Filter-2.ensures.value in
     let g : tree_of c.deref-in-Filter.result.now ≡ tree_of c.in-Filter.target.value = ap tree_of c.deref-in-Filter.ensures in
     rw e (rw (g, f) at c.run_filter.ensures.steps)
+
+pub run-returns-in-Filter-clause-few : goal.run-returns-in-Filter-clause-few
+run-returns-in-Filter-clause-few t c =
+    let e : tree_of c.args.node.now ≡ filter (tree_of c.in-Filter.target.value) c.in-Filter.position (filters_of (filter_trees c.in-Filter.filters.items)) =
+    ap tree_of c.in-Filter.is ∙ tree_of_filter c.in-Filter.target c.in-Filter.position c.in-Filter.filters in
+    let f : filters_of (filter_trees c.deref-in-Filter-2.result.now) ≡ filters_of (filter_trees c.in-Filter.filters.items) =
+    ap (λ (fs : List (Option (Arc Node Global))). filters_of (filter_trees fs)) c.deref-in-Filter-2.ensures.value in
+    let g : tree_of c.deref-in-Filter.result.now ≡ tree_of c.in-Filter.target.value = ap tree_of c.deref-in-Filter.ensures in
+    rw e (rw (g, f) at c.run_filter.ensures.few)
+
+pub run-run_filter-requires : goal.run-run_filter-requires
+run-run_filter-requires t c =
+    let e : tree_of c.args.node.now ≡ filter (tree_of c.in-Filter.target.value) c.in-Filter.position (filters_of (filter_trees c.in-Filter.filters.items)) =
+    ap tree_of c.in-Filter.is ∙ tree_of_filter c.in-Filter.target c.in-Filter.position c.in-Filter.filters in
+    let f : filters_of (filter_trees c.deref-in-Filter-2.result.now) ≡ filters_of (filter_trees c.in-Filter.filters.items) =
+    ap (λ (fs : List (Option (Arc Node Global))). filters_of (filter_trees fs)) c.deref-in-Filter-2.ensures.value in
+    let g : tree_of c.deref-in-Filter.result.now ≡ tree_of c.in-Filter.target.value = ap tree_of c.deref-in-Filter.ensures in
+    (omega (arith, ap size e, ap size g, ap total_size f), rw (g, f) (rw e at c.requires.can_run))

@@ -8,8 +8,8 @@ use Rattle.mh_tree.specs.Typing.{AreTyped}
 use Rattle.mh_tree.proofs.node.+types.Given as goal
 
 -- what is left to do: two for each node, and one for the call that has the filters
-abbrev pub decreases-Node::method_type : goal.decreases-Node::method_type
-decreases-Node::method_type l = 2 * size (tree_of l.self.now)
+abbrev pub decreases-Node::computed_type : goal.decreases-Node::computed_type
+decreases-Node::computed_type l = 2 * size (tree_of l.self.now)
 
 abbrev pub decreases-filtered_type : goal.decreases-filtered_type
 decreases-filtered_type l = 2 * total_size (filters_of (filter_trees l.filters.now)) + 1
