@@ -112,7 +112,9 @@ impl Node {
                 filters,
             } => filtered_type(target.computed_type(), *position, filters),
             Node::FilterReturn { target, filter } => {
-                target.computed_type().returning(filter.computed_type().ret())
+                target
+                    .computed_type()
+                    .returning(filter.computed_type().ret())
             }
             Node::Fold { target, .. } => target.computed_type().remove(0, 1),
             Node::Guard { target, .. } | Node::Point { target, .. } => target.computed_type(),
