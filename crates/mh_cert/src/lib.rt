@@ -3,8 +3,6 @@
 
 mod bounds;
 mod checker;
-#[cfg(test)]
-mod examples;
 mod fault;
 mod laws;
 mod marks;

@@ -4,8 +4,6 @@
 
 mod book;
 mod event;
-#[cfg(test)]
-mod examples;
 mod fault;
 mod laws;
 mod limits;

@@ -5,8 +5,6 @@
 mod control;
 mod copies;
 mod definition;
-#[cfg(test)]
-mod examples;
 mod fault;
 mod laws;
 mod link;

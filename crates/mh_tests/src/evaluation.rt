@@ -43,24 +43,10 @@ fn the_example_site_is_evaluated(rt: HostRuntime) -> Result<(), Fail> {
     Ok(())
 }
 
-/// Only the chosen branch of a guard runs: the other one would throw on 0.
-#[test]
-fn a_guard_runs_one_branch(rt: HostRuntime) -> Result<(), Fail> {
-    let equal = Handle::op(rt.alloc(), Op::Ieq)?;
-    let test = Handle::insert(rt.alloc(), &equal, 1, &[Value::Int(0)])?;
-    let seven = Handle::constant(rt.alloc(), &Value::Int(7))?;
-    let seven = Handle::drop(rt.alloc(), &seven, 0, &[Kind::Int])?;
-    let divide = Handle::op(rt.alloc(), Op::Idiv)?;
-    let tenth = Handle::insert(rt.alloc(), &divide, 0, &[Value::Int(10)])?;
-    let guard = Handle::guard(rt.alloc(), &test, &seven, &tenth)?;
-    let (on_zero, _) = evaluate(rt.alloc(), &[], &guard, &[Value::Int(0)])?;
-    assert_eq!(rt; int(&on_zero), Some(7));
-    let (on_three, _) = evaluate(rt.alloc(), &[], &guard, &[Value::Int(3)])?;
-    assert_eq!(rt; int(&on_three), Some(3));
-    let (alone, steps) = evaluate(rt.alloc(), &[], &tenth, &[Value::Int(0)])?;
-    assert_eq!(rt; thrown(&alone), Some(Throw::ArithmeticException));
-    assert_eq!(rt; steps, 2);
-    Ok(())
+/// The quotient of a number by the argument.
+fn quotient_of(alloc: Global, number: i32) -> Result<Handle, Fail> {
+    let divide = Handle::op(alloc, Op::Idiv)?;
+    Ok(Handle::insert(alloc, &divide, 0, &[Value::Int(number)])?)
 }
 
 /// An argument of a kind, from its text.
@@ -175,11 +161,12 @@ fn a_result_is_filtered(rt: HostRuntime) -> Result<(), Fail> {
 /// Filters run from left to right, and the first throw is the outcome.
 #[test]
 fn filters_run_from_left_to_right(rt: HostRuntime) -> Result<(), Fail> {
-    let divide = Handle::op(rt.alloc(), Op::Idiv)?;
-    let ten = Handle::insert(rt.alloc(), &divide, 0, &[Value::Int(10)])?;
-    let seven = Handle::insert(rt.alloc(), &divide, 0, &[Value::Int(7)])?;
+    let filters = [
+        Some(quotient_of(rt.alloc(), 10)?),
+        Some(quotient_of(rt.alloc(), 7)?),
+    ];
     let add = Handle::op(rt.alloc(), Op::Iadd)?;
-    let sums = Handle::filter(rt.alloc(), &add, 0, &[Some(ten), Some(seven)])?;
+    let sums = Handle::filter(rt.alloc(), &add, 0, &filters)?;
     let zeros = [Value::Int(0), Value::Int(0)];
     let (outcome, steps) = evaluate(rt.alloc(), &[], &sums, &zeros)?;
     assert_eq!(rt; thrown(&outcome), Some(Throw::ArithmeticException));
@@ -187,6 +174,11 @@ fn filters_run_from_left_to_right(rt: HostRuntime) -> Result<(), Fail> {
     let (outcome, steps) = evaluate(rt.alloc(), &[], &sums, &[Value::Int(5), Value::Int(2)])?;
     assert_eq!(rt; int(&outcome), Some(5));
     assert_eq!(rt; steps, 6);
+    Ok(())
+}
+
+#[test]
+fn an_argument_may_have_no_filter(rt: HostRuntime) -> Result<(), Fail> {
     let subtract = Handle::op(rt.alloc(), Op::Isub)?;
     let negate = Handle::op(rt.alloc(), Op::Ineg)?;
     let sum = Handle::filter(rt.alloc(), &subtract, 0, &[None, Some(negate)])?;
@@ -210,28 +202,26 @@ fn a_doubled_tree_enters_each_node(rt: HostRuntime) -> Result<(), Fail> {
     Ok(())
 }
 
-#[test]
-fn joined_texts_have_a_limit(rt: HostRuntime) -> Result<(), Fail> {
-    let mut long = String::new(rt.alloc());
+/// What joins the longest text with this one throws.
+fn thrown_by_joining(alloc: Global, more: &str) -> Result<Option<Throw>, Fail> {
+    let mut long = String::new(alloc);
     for _ in 0..65_536 {
         long.push('x')?;
     }
-    let join = Handle::op(rt.alloc(), Op::Concat)?;
-    let first = Value::Text(Text::new(rt.alloc(), long.as_str())?);
-    let (outcome, _) = evaluate(
-        rt.alloc(),
-        &[],
-        &join,
-        &[first.share()?, Value::Text(Text::new(rt.alloc(), "")?)],
-    )?;
-    assert_eq!(rt; thrown(&outcome), None);
-    let (outcome, _) = evaluate(
-        rt.alloc(),
-        &[],
-        &join,
-        &[first, Value::Text(Text::new(rt.alloc(), "x")?)],
-    )?;
-    assert_eq!(rt; thrown(&outcome), Some(Throw::TextTooLong));
+    let join = Handle::op(alloc, Op::Concat)?;
+    let long = Value::Text(Text::new(alloc, long.as_str())?);
+    let more = Value::Text(Text::new(alloc, more)?);
+    let (outcome, _) = evaluate(alloc, &[], &join, &[long, more])?;
+    Ok(thrown(&outcome))
+}
+
+#[test]
+fn joined_texts_have_a_limit(rt: HostRuntime) -> Result<(), Fail> {
+    assert_eq!(rt; thrown_by_joining(rt.alloc(), "")?, None);
+    assert_eq!(rt;
+        thrown_by_joining(rt.alloc(), "x")?,
+        Some(Throw::TextTooLong)
+    );
     Ok(())
 }
 

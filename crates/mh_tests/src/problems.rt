@@ -27,9 +27,22 @@ fn a_problem_is_read(rt: HostRuntime) -> Result<(), Fail> {
         assert_eq!(rt; problem.gain(link), gain);
         assert_eq!(rt; problem.needs(link).len(), if link == 0 { 2 } else { 0 });
     }
+    Ok(())
+}
+
+#[test]
+fn costs_are_read(rt: HostRuntime) -> Result<(), Fail> {
+    let Ok(problem) = read_problem(rt.alloc(), PROBLEM.as_bytes(), None) else {
+        return Err(Fail::from("the problem is not read"));
+    };
     for point in 0..problem.points() {
         assert_eq!(rt; problem.cost(point), 5 + point as u64);
     }
+    Ok(())
+}
+
+#[test]
+fn a_missing_problem_is_told(rt: HostRuntime) -> Result<(), Fail> {
     let missing = read_problem(rt.alloc(), PROBLEM.as_bytes(), Some("problem"));
     assert_eq!(rt; missing.err(), Some(MISSING));
     Ok(())

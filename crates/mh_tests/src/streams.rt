@@ -1,5 +1,7 @@
 //! Readers and writers that fail in mid-stream.
+use mh_command::command;
 use mh_text::{Fault, TextFault, Watched, run_bytes};
+use std::alloc::Global;
 use std::io::{self, ErrorKind, Read, Write};
 use std::test::Fail;
 
@@ -94,27 +96,73 @@ fn event_of(place: usize) -> u64 {
     }
 }
 
+/// What a run answers whose writer has this room, and how much of its lines it wrote.
+fn run_into(
+    alloc: Global,
+    room: usize,
+    takes_none: bool,
+) -> Result<(Result<(), Fault>, usize), Fail> {
+    let mut held = Vec::new(alloc);
+    let mut reader = Watched::new(SCRIPT.as_bytes());
+    let mut writer = Watched::new(SmallWriter {
+        held: &mut held,
+        room,
+        takes_none,
+    });
+    let answer = run_bytes(alloc, &mut reader, &mut writer);
+    drop(writer);
+    if LINES.as_bytes().starts_with(held.as_slice()) {
+        Ok((answer, held.len()))
+    } else {
+        Err(Fail::from("the lines have another beginning"))
+    }
+}
+
 #[test]
 fn a_failed_write_is_told_at_its_event(rt: HostRuntime) -> Result<(), Fail> {
-    for room in 0..LINES.len() {
-        for takes_none in [false, true] {
-            let mut held = Vec::new(rt.alloc());
-            let mut reader = Watched::new(SCRIPT.as_bytes());
-            let mut writer = Watched::new(SmallWriter {
-                held: &mut held,
-                room,
-                takes_none,
-            });
-            let answer = run_bytes(rt.alloc(), &mut reader, &mut writer);
-            let fault = Fault {
-                kind: TextFault::WriteFailed,
-                at: event_of(room),
-            };
-            assert_eq!(rt; answer, Err(fault), "at {room}");
-            drop(writer);
-            assert!(rt; LINES.as_bytes().starts_with(held.as_slice()));
-            assert_eq!(rt; held.len(), room);
-        }
+    for place in 0..LINES.len() * 2 {
+        let room = place / 2;
+        let (answer, written) = run_into(rt.alloc(), room, place % 2 == 0)?;
+        let fault = Fault {
+            kind: TextFault::WriteFailed,
+            at: event_of(room),
+        };
+        assert_eq!(rt; answer, Err(fault), "at {room}");
+        assert_eq!(rt; written, room);
+    }
+    Ok(())
+}
+
+/// A writer that takes every byte, and fails where it is flushed.
+#[derive(Drop)]
+struct Unflushed;
+
+impl Write for Unflushed {
+    fn write(&mut self, buf: &[u8]) -> io::Result<usize> {
+        Ok(buf.len())
+    }
+
+    fn flush(&mut self) -> io::Result<()> {
+        Err(io::Error::from(ErrorKind::Other))
+    }
+}
+
+const CHECK: &str =
+    "{\"problem\":{\"version\":1,\"costs\":[],\"links\":[]},\"plan\":{\"links\":[],\"points\":[],\"value\":0,\"flow\":[]}}";
+
+#[test]
+fn a_failed_last_flush_is_told(rt: HostRuntime) -> Result<(), Fail> {
+    for (word, input) in [("run", SCRIPT), ("check", CHECK)] {
+        let mut reader = Watched::new(input.as_bytes());
+        let mut out = Watched::new(Unflushed);
+        let mut err = Watched::new(Vec::new(rt.alloc()));
+        let words = ["mhlink", word];
+        let status = command(rt.alloc(), &words, &mut reader, &mut out, &mut err);
+        assert_eq!(rt;
+            err.inner.as_slice(),
+            "fault 11 WriteFailed at 0\n".as_bytes()
+        );
+        assert_eq!(rt; status, 3);
     }
     Ok(())
 }

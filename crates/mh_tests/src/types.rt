@@ -60,25 +60,29 @@ fn texts_keep_their_bytes(rt: HostRuntime) -> Result<(), Fail> {
     let other = text.share()?;
     drop(text);
     assert_eq!(rt; other.as_str(), "a \"b\" \\ ~");
+    Ok(())
+}
+
+#[test]
+fn texts_are_printable(rt: HostRuntime) -> Result<(), Fail> {
     for refused in ["\u{7f}", "\n", "é", "\u{1f}"] {
-        assert_eq!(rt;
-            Text::new(rt.alloc(), refused).err(),
-            Some(TypeFault::BadText)
-        );
+        let text = Text::new(rt.alloc(), refused);
+        assert_eq!(rt; text.err(), Some(TypeFault::BadText));
     }
+    Ok(())
+}
+
+#[test]
+fn texts_have_a_length(rt: HostRuntime) -> Result<(), Fail> {
     let mut long = String::new(rt.alloc());
     for _ in 0..65_536 {
         long.push('x')?;
     }
-    assert_eq!(rt;
-        Text::new(rt.alloc(), long.as_str())?.as_str().len(),
-        65_536
-    );
+    let text = Text::new(rt.alloc(), long.as_str())?;
+    assert_eq!(rt; text.as_str().len(), 65_536);
     long.push('x')?;
-    assert_eq!(rt;
-        Text::new(rt.alloc(), long.as_str()).err(),
-        Some(TypeFault::BadText)
-    );
+    let longer = Text::new(rt.alloc(), long.as_str());
+    assert_eq!(rt; longer.err(), Some(TypeFault::BadText));
     Ok(())
 }
 

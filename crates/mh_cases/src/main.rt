@@ -1,0 +1,26 @@
+//! The program `mh_cases`: runs each case of a table through `command`, and says of each whether it holds.
+#![tactic(auto)]
+
+mod case;
+mod ran;
+
+use crate::case::Case;
+use crate::ran::Ran;
+use anyhow::Context;
+use serde_json::Value;
+use std::io;
+
+/// Reads the table from standard input, a JSON list of cases, and prints a line for each and their count.
+fn main(rt: HostRuntime) -> anyhow::Result<()> {
+    let alloc = rt.alloc();
+    let text = io::read_to_string(alloc, rt.stdin())?;
+    let table = Value::from_str(alloc, text.as_str())?;
+    let cases = table.as_array().context("the table is no list")?;
+    for value in cases.as_slice() {
+        let case = Case::read(alloc, value)?;
+        let wrong = Ran::of(alloc, &case).differs_from(&case);
+        println!(rt; "{} {}", wrong.unwrap_or("holds"), case.id)?;
+    }
+    println!(rt; "{} cases", cases.len())?;
+    Ok(())
+}

@@ -1,0 +1,86 @@
+//! A definition and its world, each public call once.
+
+use mh_site::{
+    Control, Definition, DefinitionFault, Link, Listing, Name, Point, Points, Retargeting, Site,
+    World,
+};
+use mh_tree::{Declared, Handle};
+use mh_type::{Kind, MethodType, Op, Value};
+use std::alloc::Global;
+use std::test::Fail;
+
+fn point_of(alloc: Global, name: &str, cost: u64) -> Result<Point, Fail> {
+    Ok(Point {
+        name: Name::new(alloc, name)?,
+        cost,
+    })
+}
+
+fn link_of(alloc: Global, when: i32, weight: u64, needs: &[u32]) -> Result<Link, Fail> {
+    Ok(Link {
+        when: Value::Int(when),
+        weight,
+        needs: Listing::from_vec(Vec::from_slice(alloc, needs)?),
+    })
+}
+
+fn tree_of(alloc: Global, op: Op) -> Result<Declared, Fail> {
+    Ok(Declared::new(&Handle::op(alloc, op)?)?)
+}
+
+fn site_of(alloc: Global, key: Option<usize>, links: Vec<Link>) -> Result<Site, Fail> {
+    Ok(Site {
+        name: Name::new(alloc, "f")?,
+        method_type: MethodType::unary(Kind::Int, Kind::Int),
+        key,
+        target: tree_of(alloc, Op::Ineg)?,
+        links: Listing::from_vec(links),
+    })
+}
+
+fn two_points(alloc: Global) -> Result<Listing<Point>, Fail> {
+    let mut points = Vec::new(alloc);
+    points.push(point_of(alloc, "a", 5)?)?;
+    points.push(point_of(alloc, "b", 7)?)?;
+    Ok(Listing::from_vec(points))
+}
+
+fn of_one_site(alloc: Global, site: Site) -> Result<Result<Definition, DefinitionFault>, Fail> {
+    let mut sites = Vec::new(alloc);
+    sites.push(site)?;
+    Ok(Definition::new(two_points(alloc)?, Listing::from_vec(sites)))
+}
+
+#[test]
+fn needs_are_put_in_order(rt: HostRuntime) -> Result<(), Fail> {
+    let alloc = rt.alloc();
+    let mut links = Vec::new(alloc);
+    links.push(link_of(alloc, 1, 3, &[0])?)?;
+    links.push(link_of(alloc, 2, 1, &[1, 0])?)?;
+    let definition = of_one_site(alloc, site_of(alloc, Some(0), links)?)??;
+    for site in definition.sites() {
+        for link in site.links.as_slice() {
+            match &link.when {
+                Value::Int(1) => assert!(rt; link.needs.as_slice() == &[0][..]),
+                _ => assert!(rt; link.needs.as_slice() == &[0, 1][..]),
+            }
+        }
+    }
+    assert_eq!(rt; definition.sites().len(), 1);
+    assert_eq!(rt; definition.points().len(), 2);
+    Ok(())
+}
+
+#[test]
+fn controls_change_the_world(rt: HostRuntime) -> Result<(), Fail> {
+    let alloc = rt.alloc();
+    let site = site_of(alloc, None, Vec::new(alloc))?;
+    let definition = of_one_site(alloc, site)??;
+    let mut world = World::open(alloc, &definition)?;
+    assert!(rt; world.valid() == &[true, true][..]);
+    world.absorb(Control::Invalidate(Points::new(Vec::from_slice(alloc, &[1])?)));
+    assert!(rt; world.valid() == &[true, false][..]);
+    world.absorb(Control::Target(Retargeting::new(0, tree_of(alloc, Op::Ineg)?)?));
+    assert_eq!(rt; world.front(), 2);
+    Ok(())
+}
