@@ -7,6 +7,8 @@ mod evaluation;
 #[cfg(test)]
 mod java_values;
 #[cfg(test)]
+mod plans;
+#[cfg(test)]
 mod problems;
 #[cfg(test)]
 mod scripts;
