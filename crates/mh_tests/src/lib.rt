@@ -11,6 +11,8 @@ mod java_values;
 #[cfg(test)]
 mod machines;
 #[cfg(test)]
+mod planner;
+#[cfg(test)]
 mod plans;
 #[cfg(test)]
 mod problems;
