@@ -18,7 +18,7 @@ crates_below() {
             for (i = 1; i <= n; i++) name_all(its[i])
         }
         { sub(/#.*/, "") }
-        NF == 2 { uses[$1] = $2 }
+        NF == 2 { split($1, words, " "); uses[words[1]] = $2 }
         END { name_all("mhlink") }' "$here/crates.txt"
 }
 
