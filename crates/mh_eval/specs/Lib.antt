@@ -1,1 +1,5 @@
+pub mod Answers
+pub mod Entered
+pub mod Height
 pub mod Lent
+pub mod Quiet

@@ -1,20 +1,22 @@
 //! The evaluator.
 
-ghost use Rattle.std.specs.Prelude.{◌≡◌, ◌+◌, ◌<◌, ◌≤◌, ◌∷◌, [], length, is_none, IfOk, MatchResult};
+ghost use Rattle.std.specs.Prelude.{◌≡◌, ◌+◌, ◌<◌, ◌≤◌, ◌∷◌, [], length, is_none, slice_index_or, IfOk, MatchResult};
 ghost use Rattle.std.specs.List.{list_all};
 ghost use Rattle.mh_tree.specs.Limits.{size, total_size, point_bound};
 ghost use Rattle.mh_tree.specs.Meaning.{mean, steps, filtered, filter_steps};
 ghost use Rattle.mh_tree.specs.Tree.{insert, discard, permute, filter, filter_return, fold, guard, point as point_tree, filters_of};
 ghost use Rattle.mh_tree.specs.TreeOf.{tree_of, filter_trees};
 ghost use Rattle.mh_type.specs.Fits.{Fits};
+ghost use Rattle.mh_type.specs.Operations.{operate as outcome_of_operation, op_signature};
 ghost use Rattle.mh_tree.specs.Widths.{CanRun, CanFilter};
 
+use crate::answer::outcome_of;
 use crate::arguments::{append, owner, put_first, put_in, reordered, taken_out};
 use crate::fault::NoMemory;
 use crate::operations::operate;
 use crate::stack::Stack;
 use mh_tree::{Handle, Node};
-use mh_type::{Kind, MethodType, Outcome, Throw, Value};
+use mh_type::{Kind, MethodType, Op, Outcome, Throw, Value};
 use std::alloc::Global;
 use std::slice;
 use std::sync::Arc;
@@ -58,7 +60,7 @@ fn run(
     match node {
         Node::Constant(value) => Ok((Outcome::Value(owner(value)?), 1)),
         Node::Identity(_) => Ok((Outcome::Value(owner(&arguments[0])?), 1)),
-        Node::Operation(op) => Ok((operate(alloc, *op, arguments)?, 1)),
+        Node::Operation(op) => run_operation(alloc, *op, arguments),
         Node::Insert {
             target,
             position,
@@ -93,6 +95,28 @@ fn run(
             target,
             fallback,
         } => run_point(alloc, valid, *point, target, fallback, arguments),
+    }
+}
+
+// The operation, on the first two arguments. One that reads a single argument may be given no second.
+fn run_operation(alloc: Global, op: Op, arguments: &[Value]) -> Result<(Outcome, u64), NoMemory>
+    requires wide { length (op_signature op).parameters ≤ length arguments.now }
+    ensures outcome { IfOk result (λ r. r.0 ≡ outcome_of_operation op arguments.now) }
+    ensures steps { IfOk result (λ r. r.1 ≡ 1) }
+{
+    let absent = Value::Boolean(false);
+    let first = argument_or(arguments, 0, &absent);
+    let second = argument_or(arguments, 1, &absent);
+    outcome_of(operate(alloc, op, first, second), 1)
+}
+
+// The argument at a place, or what stands for an absent one.
+fn argument_or<'a>(arguments: &'a [Value], place: usize, absent: &'a Value) -> &'a Value
+    ensures value { result.now ≡ slice_index_or arguments.now place absent.now }
+{
+    match arguments.get(place) {
+        Some(argument) => argument,
+        None => absent,
     }
 }
 

@@ -1,18 +1,39 @@
 //! The memory of evaluations.
 
-use crate::fault::NoMemory;
-use std::alloc::Global;
+ghost use Rattle.std.specs.Prelude.{◌≡◌, IfOk};
 
-/// Where evaluations take their memory from. One stack serves any number of calls, one at a time.
+use crate::fault::NoMemory;
+use mh_type::Value;
+use std::alloc::Global;
+use std::marker::Model;
+
+/// The values that a stack has room for.
+pub const ROOM: usize = 16384;
+
+/// The results on which an evaluation goes on. One stack serves any number of calls, one at a time; between
+/// calls it is empty, after `NoMemory` too.
 #[derive(Drop)]
 pub struct Stack {
-    alloc: Global,
+    pub(crate) alloc: Global,
+    pub(crate) values: Vec<Value>,
+}
+
+impl Model for Stack {
+    ghost use Rattle.std.specs.Prelude.{◌≡◌, ◌≤◌, List, [], vec_capacity};
+    ghost use Rattle.mh_type.specs.declared.value.Value.{Value as Held};
+
+    ghost Value = { List Held };
+
+    ghost view = { λ s. s.values.items };
+
+    ghost invariant = { λ s. (s.values.items ≡ []) × (16384 ≤ vec_capacity s.values) };
 }
 
 impl Stack {
-    /// A stack over this allocator. Refused with `NoMemory` alone.
+    /// A stack over this allocator, with room for 16,384 values. Refused with `NoMemory` alone.
     pub fn new(alloc: Global) -> Result<Stack, NoMemory> {
-        Ok(Stack { alloc })
+        let values = Vec::with_capacity(alloc, ROOM).map_err(|_| NoMemory)?;
+        Ok(Stack { alloc, values })
     }
 
     // The allocator.

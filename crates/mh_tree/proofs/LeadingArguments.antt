@@ -78,7 +78,7 @@ one_more : (a e : List Value) (go : Value → Outcome) → 1 ≤ length a → fi
 one_more [] e go h = absurd (omega arith)
 one_more (x ∷ rest) e go h = refl
 
-operate_more : (o : Op) (a e : List Value) → length (op_signature o).parameters ≤ length a → operate o (a ++ e) ≡ operate o a
+pub operate_more : (o : Op) (a e : List Value) → length (op_signature o).parameters ≤ length a → operate o (a ++ e) ≡ operate o a
 operate_more Ineg a e h = one_more a e _ h
 operate_more Lneg a e h = one_more a e _ h
 operate_more I2l a e h = one_more a e _ h
@@ -103,18 +103,18 @@ operate_more Beq a e h = two_more a e _ h
 operate_more Concat a e h = two_more a e _ h
 operate_more Seq a e h = two_more a e _ h
 
-argument_more : (a e : List Value) (i : ℕ) → i < length a → argument (a ++ e) i ≡ argument a i
+pub argument_more : (a e : List Value) (i : ℕ) → i < length a → argument (a ++ e) i ≡ argument a i
 argument_more a e i h = get_or_append_left a e _ i h
 
-put_in_more : (a e : List Value) (p : ℕ) (xs : List Value) → p ≤ length a → put_in (a ++ e) p xs ≡ put_in a p xs ++ e
+pub put_in_more : (a e : List Value) (p : ℕ) (xs : List Value) → p ≤ length a → put_in (a ++ e) p xs ≡ put_in a p xs ++ e
 put_in_more a e p xs h = rw (take-append-le p a e h, drop-append-le p a e h) (simp append_assoc)
 
-taken_out_more : (a e : List Value) (p n : ℕ) → p + n ≤ length a → taken_out (a ++ e) p n ≡ taken_out a p n ++ e
+pub taken_out_more : (a e : List Value) (p n : ℕ) → p + n ≤ length a → taken_out (a ++ e) p n ≡ taken_out a p n ++ e
 taken_out_more a e p n h =
     let inside : p ≤ length a = omega arith in
     rw (take-append-le p a e inside, drop-append-le (p + n) a e h) (simp append_assoc)
 
-reordered_more : (a e : List Value) (n : ℕ) (r : List ℕ) → n ≤ length a → All (λ i. i < n) r → map (argument (a ++ e)) r ≡ map (argument a) r
+pub reordered_more : (a e : List Value) (n : ℕ) (r : List ℕ) → n ≤ length a → All (λ i. i < n) r → map (argument (a ++ e)) r ≡ map (argument a) r
 reordered_more a e n [] h all = refl
 reordered_more a e n (i ∷ r) h all =
     let first : i < n = all 0 0 (omega arith) in
@@ -123,16 +123,16 @@ reordered_more a e n (i ∷ r) h all =
     λ j. here j ∷ rest j
 
 -- further arguments, which a list of filters hands on
-abbrev with_more : List Value → Result (List Value) Throw → Result (List Value) Throw
+abbrev pub with_more : List Value → Result (List Value) Throw → Result (List Value) Throw
 with_more e (Ok a) = Ok (a ++ e)
 with_more e (Err t) = Err t
 
-abbrev count : Filters → ℕ
+abbrev pub count : Filters → ℕ
 count no_more = 0
 count (absent fs) = 1 + count fs
 count (present f fs) = 1 + count fs
 
-counted : (fs : Filters) (old new : List Kind) → AreTyped fs old new → count fs ≤ length old
+pub counted : (fs : Filters) (old new : List Kind) → AreTyped fs old new → count fs ≤ length old
 counted no_more old new h = omega arith
 counted (absent fs) (k ∷ old) (j ∷ new) h = omega (arith, counted fs old new h.1)
 counted (absent fs) [] new h = absurd h
@@ -149,7 +149,7 @@ carry_steps : (o : Outcome) (go go' : Value → ℕ) → ((x : Value) → go x �
 carry_steps (Value' x) go go' h = h x
 carry_steps (Thrown t) go go' h = refl
 
-filtered_more : (v : List Bool) (fs : Filters) (p : ℕ) (a e : List Value) → p + count fs ≤ length a → filtered v fs p (a ++ e) ≡ with_more e (filtered v fs p a)
+pub filtered_more : (v : List Bool) (fs : Filters) (p : ℕ) (a e : List Value) → p + count fs ≤ length a → filtered v fs p (a ++ e) ≡ with_more e (filtered v fs p a)
 filtered_more v no_more p a e h = refl
 filtered_more v (absent fs) p a e h = filtered_more v fs (p + 1) a e (omega arith)
 filtered_more v (present f fs) p a e h =
@@ -189,14 +189,14 @@ after_filters_more : (r : Result (List Value) Throw) (e : List Value) (go : List
 after_filters_more (Ok b) e go h = h b refl
 after_filters_more (Err t) e go h = refl
 
-leading : (c : Tree) (ret : Kind) (ks kinds : List Kind) (a e : List Value) → IsTyped c (record { ret = ret; parameters = ks }) → ks ≡ take (length ks) kinds → length kinds ≤ length a → take (arity c) (a ++ e) ≡ take (arity c) a
+pub leading : (c : Tree) (ret : Kind) (ks kinds : List Kind) (a e : List Value) → IsTyped c (record { ret = ret; parameters = ks }) → ks ≡ take (length ks) kinds → length kinds ≤ length a → take (arity c) (a ++ e) ≡ take (arity c) a
 leading c ret ks kinds a e typed begins wide =
     let many = arity_counts c _ typed in
     let first : length ks ≡ length (take (length ks) kinds) = ap (λ (xs : List Kind). length xs) begins in
     take-append-le (arity c) a e (omega (arith, length-take (length ks) kinds))
 
 -- further arguments change nothing
-mean_more : (v : List Bool) (t : Tree) (m : Signature) (a e : List Value) → IsTyped t m → length m.parameters ≤ length a → mean v t (a ++ e) ≡ mean v t a
+pub mean_more : (v : List Bool) (t : Tree) (m : Signature) (a e : List Value) → IsTyped t m → length m.parameters ≤ length a → mean v t (a ++ e) ≡ mean v t a
 mean_more v (constant x) m a e typed wide = refl
 mean_more v (identity k) m a e typed wide =
     let one = arity_counts (identity k) m typed in
@@ -272,7 +272,7 @@ steps_more v (point p x y) m a e (first, second) wide =
 
 -- A typed tree does on as many leading arguments as it has parameters what it does on all.
 module _ (v : List Bool) (t : Tree) (m : Signature) (a : List Value) (typed : IsTyped t m) (wide : length m.parameters ≤ length a) where
-  enough : length m.parameters ≤ length (take (arity t) a)
+  pub enough : length m.parameters ≤ length (take (arity t) a)
   enough = let many = arity_counts t m typed in omega (arith, length-take (arity t) a)
 
   pub mean_leading : mean v t (take (arity t) a) ≡ mean v t a

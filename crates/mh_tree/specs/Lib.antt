@@ -1,10 +1,16 @@
 pub mod Arity
+pub mod Code
+pub mod CodeOf
 pub mod Constructors
 pub mod Faults
 pub mod Handle
 pub mod Kept
+pub mod KeptCode
 pub mod Limits
 pub mod Meaning
+pub mod Prepared
+pub mod Running
+pub mod Scoped
 pub mod Tree
 pub mod TreeCode
 pub mod TreeOf

@@ -56,3 +56,7 @@ impl TreeFault {
         }
     }
 }
+
+// A growth was refused, or a further owner: what alone a function is refused that makes code.
+#[derive(Clone, Copy, Debug)]
+pub(crate) struct NoMemory;

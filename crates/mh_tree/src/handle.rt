@@ -16,6 +16,7 @@ use std::sync::Arc;
 // An owner of a tree, and what is kept beside it.
 #[derive(Drop)]
 pub(crate) struct Rooted {
+    pub(crate) alloc: Global,
     pub(crate) root: Arc<Node>,
     pub(crate) method_type: MethodType,
     pub(crate) depth: usize,
@@ -67,6 +68,7 @@ impl Handle {
         let shared = Arc::new(
             alloc,
             Rooted {
+                alloc,
                 root,
                 method_type,
                 depth,
@@ -85,6 +87,12 @@ impl Handle {
     {
         let shared = Arc::try_clone(&self.shared).map_err(|_| TreeFault::NoMemory)?;
         Ok(Handle { shared })
+    }
+
+    // Where the tree's memory was taken from.
+    pub(crate) fn alloc(&self) -> Global {
+        let shared = &self.shared;
+        shared.alloc
     }
 
     // Another owner of the root.

@@ -1,0 +1,384 @@
+-- Where no node that is entered has String in its type, the code takes no memory.
+use Rattle.std.proofs.Common.{◌≡◌, ℕ, zero, suc, ◌+◌, ◌*◌, ◌≤◌, refl, ap, sym, ◌∙◌, List, [], ◌∷◌, ◌++◌, take, drop, map, length, arith, Bool, true, false, max, Result, Ok, Err, subst, length-append, length-take, length-drop, ℤ, if◌then◌else◌}
+use Rattle.std.specs.Prelude.{slice_set}
+use Rattle.std.proofs.Math.ListN.{length-set}
+use Rattle.mh_type.specs.declared.kind.Kind.{Kind}
+use Rattle.mh_type.specs.declared.kind.Kind.TheVariants as kind
+use Rattle.mh_type.specs.declared.operation.Op.{Op}
+use Rattle.mh_type.specs.declared.operation.Op.TheVariants.{Iadd, Isub, Imul, Idiv, Irem, Ineg, Ieq, Ilt, Ladd, Lsub, Lmul, Ldiv, Lrem, Lneg, Leq, Llt, I2l, L2i, Not, Beq, Concat, Seq, Len}
+use Rattle.mh_type.specs.declared.value.Value.{Value}
+use Rattle.mh_type.specs.declared.value.Value.TheVariants.{Int, Long, Boolean, Text}
+use Rattle.mh_type.specs.declared.outcome.Throw.{Throw}
+use Rattle.mh_type.specs.declared.outcome.Outcome.{Outcome}
+use Rattle.mh_type.specs.declared.outcome.Outcome.TheVariants.{Thrown, Value as Value'}
+use Rattle.mh_type.specs.Kinds.{kind_of}
+use Rattle.mh_type.specs.Operations.{operate, op_signature, two_ints, two_longs, two_booleans, two_texts, one_int, one_long, first, with_boolean, with_text, is_zero}
+use Rattle.mh_type.specs.Signature.{Signature}
+use Rattle.mh_tree.specs.Limits.{depth, deepest}
+use Rattle.mh_tree.specs.Meaning.{◌>>=◌, mean, filtered, with_arguments, with_value, argument, put_in, taken_out, choose, is_valid}
+use Rattle.mh_tree.specs.Tree.{Tree, Filters, constant, identity, operation, insert, discard, permute, filter, filter_return, fold, guard, point, no_more, absent, present}
+use Rattle.mh_tree.specs.TypeOf.{type_of}
+use Rattle.mh_tree.specs.Typing.{IsTyped, AreTyped}
+use Rattle.mh_tree.proofs.Types.{few_parameters}
+use Rattle.mh_tree.proofs.Types.{type_computed}
+use Rattle.mh_tree.proofs.LeadingArguments.{mean_leading, filtered_length}
+use Rattle.mh_tree.proofs.OperandReads.{Reads, reads_now, reads_at, reads_inserted, reads_discarded, reads_permuted, reads_one, reads_newest, reads_set, reads_nothing, permuted_wide, filter_wide, shorter, one_more}
+use Rattle.mh_tree.proofs.Means.{means}
+use Rattle.mh_tree.specs.Code.{Code}
+use Rattle.mh_eval.proofs.EntersLeading.{chosen_along, one_along, enters_leading}
+use Rattle.mh_eval.specs.Entered.{WithValue, Chosen, OneOf, IsPlainKind, ArePlain, IsPlain, WithArguments, EntersPlain, FiltersPlain}
+use Rattle.mh_tree.specs.Prepared.{operand_at, prepared, prepared_filters}
+use Rattle.mh_eval.specs.Quiet.{IsQuiet, deep}
+use Rattle.mh_tree.specs.declared.operand.Operand.{Operand}
+use Rattle.mh_tree.specs.declared.operand.Operand.TheVariants.{Local, Constant}
+
+-- values that are no texts
+abbrev pub NoTexts : List Value → Type 0
+NoTexts [] = Unit {0}
+NoTexts (x ∷ xs) = IsPlainKind (kind_of x) × NoTexts xs
+
+abbrev NoText : Outcome → Type 0
+NoText o = WithValue o (λ x. IsPlainKind (kind_of x))
+
+pub of_kinds : (xs : List Value) → ArePlain (map kind_of xs) → NoTexts xs
+of_kinds [] h = tt
+of_kinds (x ∷ xs) (p, ps) = (p, of_kinds xs ps)
+
+kinds_take : (n : ℕ) (ks : List Kind) → ArePlain ks → ArePlain (take n ks)
+kinds_take zero ks h = tt
+kinds_take (suc n) [] h = tt
+kinds_take (suc n) (k ∷ ks) (p, ps) = (p, kinds_take n ks ps)
+
+kinds_drop : (n : ℕ) (ks : List Kind) → ArePlain ks → ArePlain (drop n ks)
+kinds_drop zero ks h = h
+kinds_drop (suc n) [] h = tt
+kinds_drop (suc n) (k ∷ ks) (p, ps) = kinds_drop n ks ps
+
+texts_append : (xs ys : List Value) → NoTexts xs → NoTexts ys → NoTexts (xs ++ ys)
+texts_append [] ys p q = q
+texts_append (x ∷ xs) ys (p, ps) q = (p, texts_append xs ys ps q)
+
+texts_take : (n : ℕ) (xs : List Value) → NoTexts xs → NoTexts (take n xs)
+texts_take zero xs h = tt
+texts_take (suc n) [] h = tt
+texts_take (suc n) (x ∷ xs) (p, ps) = (p, texts_take n xs ps)
+
+texts_drop : (n : ℕ) (xs : List Value) → NoTexts xs → NoTexts (drop n xs)
+texts_drop zero xs h = h
+texts_drop (suc n) [] h = tt
+texts_drop (suc n) (x ∷ xs) (p, ps) = texts_drop n xs ps
+
+texts_at : (i : ℕ) (xs : List Value) → NoTexts xs → IsPlainKind (kind_of (argument xs i))
+texts_at i [] h = tt
+texts_at zero (x ∷ xs) (p, ps) = p
+texts_at (suc i) (x ∷ xs) (p, ps) = texts_at i xs ps
+
+texts_set : (i : ℕ) (xs : List Value) (y : Value) → IsPlainKind (kind_of y) → NoTexts xs → NoTexts (slice_set xs i y)
+texts_set i [] y q h = tt
+texts_set zero (x ∷ xs) y q (p, ps) = (q, ps)
+texts_set (suc i) (x ∷ xs) y q (p, ps) = (p, texts_set i xs y q ps)
+
+texts_reordered : (xs : List Value) (r : List ℕ) → NoTexts xs → NoTexts (map (argument xs) r)
+texts_reordered xs [] h = tt
+texts_reordered xs (i ∷ r) h = (texts_at i xs h, texts_reordered xs r h)
+
+-- what operations give
+of_two_ints : (b : List Value) (go : ℤ → ℤ → Outcome) → ((x y : ℤ) → NoText (go x y)) → NoText (two_ints b go)
+of_two_ints [] go k = tt
+of_two_ints (x ∷ []) go k = tt
+of_two_ints (Int x ∷ Int y ∷ r) go k = k x y
+of_two_ints (Int x ∷ y ∷ r) go k = tt
+of_two_ints (x ∷ y ∷ r) go k = tt
+
+of_two_longs : (b : List Value) (go : ℤ → ℤ → Outcome) → ((x y : ℤ) → NoText (go x y)) → NoText (two_longs b go)
+of_two_longs [] go k = tt
+of_two_longs (x ∷ []) go k = tt
+of_two_longs (Long x ∷ Long y ∷ r) go k = k x y
+of_two_longs (Long x ∷ y ∷ r) go k = tt
+of_two_longs (x ∷ y ∷ r) go k = tt
+
+of_two_booleans : (b : List Value) (go : Bool → Bool → Outcome) → ((x y : Bool) → NoText (go x y)) → NoText (two_booleans b go)
+of_two_booleans [] go k = tt
+of_two_booleans (x ∷ []) go k = tt
+of_two_booleans (Boolean x ∷ Boolean y ∷ r) go k = k x y
+of_two_booleans (Boolean x ∷ y ∷ r) go k = tt
+of_two_booleans (x ∷ y ∷ r) go k = tt
+
+of_two_texts : (b : List Value) (go : List ℕ → List ℕ → Outcome) → ((x y : List ℕ) → NoText (go x y)) → NoText (two_texts b go)
+of_two_texts [] go k = tt
+of_two_texts (x ∷ []) go k = tt
+of_two_texts (Text x ∷ Text y ∷ r) go k = k x y
+of_two_texts (Text x ∷ y ∷ r) go k = tt
+of_two_texts (x ∷ y ∷ r) go k = tt
+
+of_one_int : (b : List Value) (go : ℤ → Outcome) → ((x : ℤ) → NoText (go x)) → NoText (one_int b go)
+of_one_int [] go k = tt
+of_one_int (Int x ∷ r) go k = k x
+of_one_int (x ∷ r) go k = tt
+
+of_one_long : (b : List Value) (go : ℤ → Outcome) → ((x : ℤ) → NoText (go x)) → NoText (one_long b go)
+of_one_long [] go k = tt
+of_one_long (Long x ∷ r) go k = k x
+of_one_long (x ∷ r) go k = tt
+
+of_one_boolean : (b : List Value) (go : Bool → Outcome) → ((x : Bool) → NoText (go x)) → NoText (first b (λ x. with_boolean x go))
+of_one_boolean [] go k = tt
+of_one_boolean (Boolean x ∷ r) go k = k x
+of_one_boolean (x ∷ r) go k = tt
+
+of_one_text : (b : List Value) (go : List ℕ → Outcome) → ((x : List ℕ) → NoText (go x)) → NoText (first b (λ x. with_text x go))
+of_one_text [] go k = tt
+of_one_text (Text x ∷ r) go k = k x
+of_one_text (x ∷ r) go k = tt
+
+if_text : (c : Bool) (t : Throw) (x : Value) → IsPlainKind (kind_of x) → NoText (if c then Thrown t else Value' x)
+if_text true t x h = tt
+if_text false t x h = h
+
+of_operation : (o : Op) (b : List Value) → IsPlainKind (op_signature o).ret → NoText (operate o b)
+of_operation Iadd b h = of_two_ints b _ (λ x y. tt)
+of_operation Isub b h = of_two_ints b _ (λ x y. tt)
+of_operation Imul b h = of_two_ints b _ (λ x y. tt)
+of_operation Idiv b h = of_two_ints b _ (λ x y. if_text (is_zero y) _ _ tt)
+of_operation Irem b h = of_two_ints b _ (λ x y. if_text (is_zero y) _ _ tt)
+of_operation Ineg b h = of_one_int b _ (λ x. tt)
+of_operation Ieq b h = of_two_ints b _ (λ x y. tt)
+of_operation Ilt b h = of_two_ints b _ (λ x y. tt)
+of_operation Ladd b h = of_two_longs b _ (λ x y. tt)
+of_operation Lsub b h = of_two_longs b _ (λ x y. tt)
+of_operation Lmul b h = of_two_longs b _ (λ x y. tt)
+of_operation Ldiv b h = of_two_longs b _ (λ x y. if_text (is_zero y) _ _ tt)
+of_operation Lrem b h = of_two_longs b _ (λ x y. if_text (is_zero y) _ _ tt)
+of_operation Lneg b h = of_one_long b _ (λ x. tt)
+of_operation Leq b h = of_two_longs b _ (λ x y. tt)
+of_operation Llt b h = of_two_longs b _ (λ x y. tt)
+of_operation I2l b h = of_one_int b _ (λ x. tt)
+of_operation L2i b h = of_one_long b _ (λ x. tt)
+of_operation Not b h = of_one_boolean b _ (λ x. tt)
+of_operation Beq b h = of_two_booleans b _ (λ x y. tt)
+of_operation Concat b h = absurd h
+of_operation Seq b h = of_two_texts b _ (λ x y. tt)
+of_operation Len b h = of_one_text b _ (λ x. tt)
+
+not_text : (k : Kind) → IsPlainKind k → k ≡ kind.Text → ⊥
+not_text k h e = subst IsPlainKind e h
+
+root_plain : (v : List Bool) (t : Tree) (a : List Value) → EntersPlain v t a → IsPlain (type_of t)
+root_plain v (constant x) a e = e.0
+root_plain v (identity k) a e = e.0
+root_plain v (operation o) a e = e.0
+root_plain v (insert t p xs) a e = e.0
+root_plain v (discard t p ks) a e = e.0
+root_plain v (permute t m r) a e = e.0
+root_plain v (filter t p fs) a e = e.0
+root_plain v (filter_return t f) a e = e.0
+root_plain v (fold t c) a e = e.0
+root_plain v (guard c x y) a e = e.0
+root_plain v (point p x y) a e = e.0
+
+-- the parameters of a node that is entered
+pub plain_parameters : (v : List Bool) (t : Tree) (m : Signature) (a : List Value) → IsTyped t m → EntersPlain v t a → ArePlain m.parameters
+plain_parameters v t m a typed e =
+    let P : Signature → Type 0 = λ n. ArePlain n.parameters in
+    subst P (type_computed t m typed) (root_plain v t a e).1
+
+inserted_plain : (v : List Bool) (t : Tree) (n : Signature) (p : ℕ) (xs b : List Value) → IsTyped t n → map kind_of xs ≡ take (length xs) (drop p n.parameters) → NoTexts b → EntersPlain v t (put_in b p xs) → NoTexts (put_in b p xs)
+inserted_plain v t n p xs b typed kinds h e =
+    let plain = plain_parameters v t n _ typed e in
+    let values = of_kinds xs (subst ArePlain (sym kinds) (kinds_take (length xs) (drop p n.parameters) (kinds_drop p n.parameters plain))) in
+    texts_append (take p b) (xs ++ drop p b) (texts_take p b h) (texts_append xs (drop p b) values (texts_drop p b h))
+
+-- goes on with a value that is no text
+along : (o : Outcome) (E Q : Value → Type 0) → NoText o → WithValue o E → ((x : Value) → IsPlainKind (kind_of x) → E x → Q x) → WithValue o Q
+along (Value' x) E Q h e k = k x h e
+along (Thrown t) E Q h e k = tt
+
+then_plain : (o : Outcome) (go : Value → Outcome) (E : Value → Type 0) → NoText o → WithValue o E → ((x : Value) → IsPlainKind (kind_of x) → E x → NoText (go x)) → NoText (o >>= go)
+then_plain (Value' x) go E h e k = k x h e
+then_plain (Thrown t) go E h e k = tt
+
+then_filter : (o : Outcome) (g : Value → Result (List Value) Throw) (E : Value → Type 0) → NoText o → WithValue o E → ((x : Value) → IsPlainKind (kind_of x) → E x → WithArguments (g x) NoTexts) → WithArguments (with_value o g) NoTexts
+then_filter (Value' x) g E h e k = k x h e
+then_filter (Thrown t) g E h e k = tt
+
+with_filtered : (r : Result (List Value) Throw) (go : List Value → Outcome) (E : List Value → Type 0) → WithArguments r NoTexts → WithArguments r E → ((a : List Value) → r ≡ Ok a → NoTexts a → E a → NoText (go a)) → NoText (with_arguments r go)
+with_filtered (Ok a) go E h e k = k a refl h e
+with_filtered (Err t) go E h e k = tt
+
+choose_plain : (z : Value) (X Y : Outcome) (A B : Type 0) → Chosen z A B → (A → NoText X) → (B → NoText Y) → NoText (choose z X Y)
+choose_plain (Boolean true) X Y A B e f g = f e
+choose_plain (Boolean false) X Y A B e f g = g e
+choose_plain (Int x) X Y A B e f g = g e
+choose_plain (Long x) X Y A B e f g = g e
+choose_plain (Text x) X Y A B e f g = g e
+
+if_plain : (z : Bool) (X Y : Outcome) (A B : Type 0) → OneOf z A B → (A → NoText X) → (B → NoText Y) → NoText (if z then X else Y)
+if_plain true X Y A B e f g = f e
+if_plain false X Y A B e f g = g e
+
+-- a tree that enters no node with String in its type gives no text
+mutual
+  plain_result : (v : List Bool) (t : Tree) (m : Signature) (b : List Value) → IsTyped t m → length m.parameters ≤ length b → NoTexts b → EntersPlain v t b → NoText (mean v t b)
+  plain_result v (constant x) m b typed wide h e = e.0.0
+  plain_result v (identity k) m b typed wide h e = texts_at 0 b h
+  plain_result v (operation o) m b typed wide h e = of_operation o b e.0.0
+  plain_result v (insert t p xs) m b (n, typed, inserts) wide h e =
+      let made = ap (λ (k : Signature). length k.parameters) inserts.made in
+      let inside = inserts.inside in
+      let count = simp (length-append, length-take, length-drop) at made in
+      plain_result v t n (put_in b p xs) typed (simp (length-append, length-take, length-drop) (omega arith)) (inserted_plain v t n p xs b typed inserts.kinds h e.1) e.1
+  plain_result v (discard t p ks) m b (n, typed, discards) wide h e =
+      let made = ap (λ (k : Signature). length k.parameters) discards.made in
+      let inside = discards.inside in
+      let count = simp (length-append, length-take, length-drop) at made in
+      plain_result v t n (taken_out b p (length ks)) typed (simp (length-append, length-take, length-drop) (omega arith)) (texts_append (take p b) _ (texts_take p b h) (texts_drop (p + length ks) b h)) e.1
+  plain_result v (permute t new_type r) m b (n, typed, reorders, made) wide h e =
+      plain_result v t n (map (argument b) r) typed (permuted_wide n m r b reorders) (texts_reordered b r h) e.1
+  plain_result v (filter t p fs) m b (n, typed, inside, returns, firsts, filters) wide h e =
+      let enough = filter_wide p fs n.parameters m.parameters b inside firsts filters wide in
+      with_filtered (filtered v fs p b) (mean v t) (EntersPlain v t) (plain_filters v fs _ _ p b filters h e.1) e.2
+      (λ a is texts inner. plain_result v t n a typed (omega (arith, filtered_length v fs p b a is)) texts inner)
+  plain_result v (filter_return t f) m b (k, typed, last) wide h e =
+      then_plain (mean v t b) _ (λ x. EntersPlain v f (x ∷ [])) (plain_result v t _ b typed wide h e.1) e.2
+      (λ x p inner. plain_result v f _ (x ∷ []) last (omega arith) (p, tt) inner)
+  plain_result v (fold t c) m b (k, ks, typed, combiner, begins) wide h e =
+      let few = shorter ks m.parameters begins in
+      let lead = mean_leading v c _ b combiner (omega arith) in
+      let entered = enters_leading v c _ b combiner (omega arith) e.1 in
+      let W : Outcome → Type 0 = λ o. WithValue o (λ x. EntersPlain v t (x ∷ b)) in
+      let P : Outcome → Type 0 = λ o. NoText (o >>= (λ x. mean v t (x ∷ b))) in
+      subst P (sym lead)
+      (then_plain (mean v c b) _ (λ x. EntersPlain v t (x ∷ b)) (plain_result v c _ b combiner (omega arith) h entered) (subst W lead e.2)
+      (λ x p inner. plain_result v t _ (x ∷ b) typed (omega arith) (p, h) inner))
+  plain_result v (guard c x y) m b (ks, test, begins, one, two) wide h e =
+      let few = shorter ks m.parameters begins in
+      let lead = mean_leading v c _ b test (omega arith) in
+      let entered = enters_leading v c _ b test (omega arith) e.1 in
+      let W : Outcome → Type 0 = λ o. WithValue o (λ z. Chosen z (EntersPlain v x b) (EntersPlain v y b)) in
+      let P : Outcome → Type 0 = λ o. NoText (o >>= (λ z. choose z (mean v x b) (mean v y b))) in
+      subst P (sym lead)
+      (then_plain (mean v c b) _ (λ z. Chosen z (EntersPlain v x b) (EntersPlain v y b)) (plain_result v c _ b test (omega arith) h entered) (subst W lead e.2)
+      (λ z p inner. choose_plain z _ _ _ _ inner (plain_result v x m b one wide h) (plain_result v y m b two wide h)))
+  plain_result v (point p x y) m b (one, two) wide h e =
+      if_plain (is_valid v p) _ _ _ _ e.1 (plain_result v x m b one wide h) (plain_result v y m b two wide h)
+
+  plain_filters : (v : List Bool) (fs : Filters) (old new : List Kind) (p : ℕ) (b : List Value) → AreTyped fs old new → NoTexts b → FiltersPlain v fs p b → WithArguments (filtered v fs p b) NoTexts
+  plain_filters v no_more old new p b typed h e = h
+  plain_filters v (absent fs) (z ∷ old) (j ∷ new) p b typed h e = plain_filters v fs old new (p + 1) b typed.1 h e
+  plain_filters v (absent fs) [] new p b typed h e = absurd typed
+  plain_filters v (absent fs) (z ∷ old) [] p b typed h e = absurd typed
+  plain_filters v (present f fs) (z ∷ old) (j ∷ new) p b typed h e =
+      then_filter (mean v f (argument b p ∷ [])) _ (λ x. FiltersPlain v fs (p + 1) (slice_set b p x)) (plain_result v f _ (argument b p ∷ []) typed.0 (omega arith) (texts_at p b h, tt) e.0) e.1
+      (λ x q inner. plain_filters v fs old new (p + 1) (slice_set b p x) typed.1 (texts_set p b x q h) inner)
+  plain_filters v (present f fs) [] new p b typed h e = absurd typed
+  plain_filters v (present f fs) (z ∷ old) [] p b typed h e = absurd typed
+
+-- both facts of the arguments after a filter
+both_with : (o : Outcome) (g : Value → Result (List Value) Throw) (F : Value → Type 0) (E : List Value → Type 0) → WithValue o F → WithArguments (with_value o g) E → WithValue o (λ x. F x × WithArguments (g x) E)
+both_with (Value' x) g F E p q = (p, q)
+both_with (Thrown t) g F E p q = tt
+
+-- and its code takes no memory
+mutual
+  pub quiet : (v : List Bool) (t : Tree) (m : Signature) (env : List Operand) (d s : ℕ) (a l b : List Value) → IsTyped t m → length m.parameters ≤ length b → d ≡ length l → Reads a l env b → NoTexts b → EntersPlain v t b → IsQuiet v (prepared t env d s) a l
+  quiet v (constant x) m env d s a l b typed wide deep h n e = not_text (kind_of x) e.0.0
+  quiet v (identity k) m env d s a l b typed wide deep h n e =
+      let same = reads_at a l env b 0 (reads_now a l env b h) in
+      λ is. not_text (kind_of (argument b 0)) (texts_at 0 b n) (ap kind_of (sym same) ∙ is)
+  quiet v (operation o) m env d s a l b typed wide deep h n e =
+      λ is. let P : Op → Type 0 = λ q. IsPlainKind (op_signature q).ret in subst P is e.0.0
+  quiet v (insert t p xs) m env d s a l b (n, typed, inserts) wide deep h none e =
+      let made = ap (λ (k : Signature). length k.parameters) inserts.made in
+      let inside = inserts.inside in
+      let count = simp (length-append, length-take, length-drop) at made in
+      quiet v t n _ d (s + 1) a l (put_in b p xs) typed (simp (length-append, length-take, length-drop) (omega arith)) deep (reads_inserted a l env b p xs h) (inserted_plain v t n p xs b typed inserts.kinds none e.1) e.1
+  quiet v (discard t p ks) m env d s a l b (n, typed, discards) wide deep h none e =
+      let made = ap (λ (k : Signature). length k.parameters) discards.made in
+      let inside = discards.inside in
+      let count = simp (length-append, length-take, length-drop) at made in
+      quiet v t n _ d (s + 1) a l (taken_out b p (length ks)) typed (simp (length-append, length-take, length-drop) (omega arith)) deep (reads_discarded a l env b p (length ks) h) (texts_append (take p b) _ (texts_take p b none) (texts_drop (p + length ks) b none)) e.1
+  quiet v (permute t new_type r) m env d s a l b (n, typed, reorders, made) wide deep h none e =
+      quiet v t n _ d (s + 1) a l (map (argument b) r) typed (permuted_wide n m r b reorders) deep (reads_permuted a l env b r h) (texts_reordered b r none) e.1
+  quiet v (filter t p fs) m env d s a l b (n, typed, inside, returns, firsts, filters) wide deep h none e =
+      quiet_filters v fs (drop p n.parameters) (drop p m.parameters) p env d (s + 1) a l b (prepared t) t (length n.parameters) filters
+      (filter_wide p fs n.parameters m.parameters b inside firsts filters wide) deep h none e.1 e.2
+      (λ env' d' s' l' b' wide' deep' h' none' e'. quiet v t n env' d' s' a l' b' typed wide' deep' h' none' e')
+  quiet v (filter_return t f) m env d s a l b (k, typed, last) wide deep h n e =
+      let P : Outcome → Type 0 = λ o. WithValue o (λ x. IsQuiet v (prepared f (Local d ∷ []) (d + 1) 0) a (l ++ x ∷ [])) in (
+        quiet v t _ env d 0 a l b typed wide deep h n e.1,
+        subst P (sym (means v t _ env d 0 a l b typed wide deep h))
+            (along (mean v t b) (λ x. EntersPlain v f (x ∷ [])) _ (plain_result v t _ b typed wide n e.1) e.2
+            (λ x p inner. quiet v f _ (Local d ∷ []) (d + 1) 0 a (l ++ x ∷ []) (x ∷ []) last (omega arith) (one_more l x d deep) (reads_newest a l x d [] [] deep (reads_nothing a l)) (p, tt) inner)),
+      )
+  quiet v (fold t c) m env d s a l b (k, ks, typed, combiner, begins) wide deep h n e =
+      let few = shorter ks m.parameters begins in
+      let lead = mean_leading v c _ b combiner (omega arith) in
+      let entered = enters_leading v c _ b combiner (omega arith) e.1 in
+      let W : Outcome → Type 0 = λ o. WithValue o (λ x. EntersPlain v t (x ∷ b)) in
+      let P : Outcome → Type 0 = λ o. WithValue o (λ x. IsQuiet v (prepared t (Local d ∷ env) (d + 1) 0) a (l ++ x ∷ [])) in (
+        quiet v c _ env d 0 a l b combiner (omega arith) deep h n entered,
+        subst P (sym (means v c _ env d 0 a l b combiner (omega arith) deep h))
+            (along (mean v c b) (λ x. EntersPlain v t (x ∷ b)) _ (plain_result v c _ b combiner (omega arith) n entered) (subst W lead e.2)
+            (λ x p inner. quiet v t _ (Local d ∷ env) (d + 1) 0 a (l ++ x ∷ []) (x ∷ b) typed (omega arith) (one_more l x d deep) (reads_newest a l x d env b deep h) (p, n) inner)),
+      )
+  quiet v (guard c x y) m env d s a l b (ks, test, begins, one, two) wide deep h n e =
+      let few = shorter ks m.parameters begins in
+      let lead = mean_leading v c _ b test (omega arith) in
+      let entered = enters_leading v c _ b test (omega arith) e.1 in
+      let W : Outcome → Type 0 = λ o. WithValue o (λ z. Chosen z (EntersPlain v x b) (EntersPlain v y b)) in
+      let P : Outcome → Type 0 = λ o. WithValue o (λ z. Chosen z (IsQuiet v (prepared x env d 0) a l) (IsQuiet v (prepared y env d 0) a l)) in (
+        quiet v c _ env d 0 a l b test (omega arith) deep h n entered,
+        subst P (sym (means v c _ env d 0 a l b test (omega arith) deep h))
+            (along (mean v c b) (λ z. Chosen z (EntersPlain v x b) (EntersPlain v y b)) _ (plain_result v c _ b test (omega arith) n entered) (subst W lead e.2)
+            (λ z p inner. chosen_along z _ _ _ _ (quiet v x m env d 0 a l b one wide deep h n) (quiet v y m env d 0 a l b two wide deep h n) inner)),
+      )
+  quiet v (point p x y) m env d s a l b (one, two) wide deep h n e =
+      one_along (is_valid v p) _ _ _ _ (quiet v x m env d 0 a l b one wide deep h n) (quiet v y m env d 0 a l b two wide deep h n) e.1
+
+  quiet_filters : (v : List Bool) (fs : Filters) (old new : List Kind) (p : ℕ) (env : List Operand) (d s : ℕ) (a l b : List Value) (go : List Operand → ℕ → ℕ → Code) (t : Tree) (w : ℕ) → AreTyped fs old new → w ≤ length b → d ≡ length l → Reads a l env b → NoTexts b → FiltersPlain v fs p b → WithArguments (filtered v fs p b) (EntersPlain v t) → ((env' : List Operand) (d' s' : ℕ) (l' b' : List Value) → w ≤ length b' → d' ≡ length l' → Reads a l' env' b' → NoTexts b' → EntersPlain v t b' → IsQuiet v (go env' d' s') a l') → IsQuiet v (prepared_filters fs p env d s go) a l
+  quiet_filters v no_more old new p env d s a l b go t w typed wide deep h n e inner k = k env d s l b wide deep h n inner
+  quiet_filters v (absent fs) (z ∷ old) (j ∷ new) p env d s a l b go t w typed wide deep h n e inner k =
+      quiet_filters v fs old new (p + 1) env d s a l b go t w typed.1 wide deep h n e inner k
+  quiet_filters v (absent fs) [] new p env d s a l b go t w typed wide deep h n e inner k = absurd typed
+  quiet_filters v (absent fs) (z ∷ old) [] p env d s a l b go t w typed wide deep h n e inner k = absurd typed
+  quiet_filters v (present f fs) (z ∷ old) (j ∷ new) p env d s a l b go t w typed wide deep h n e inner k =
+      let P : Outcome → Type 0 = λ o. WithValue o (λ x. IsQuiet v (prepared_filters fs (p + 1) (slice_set env p (Local d)) (d + 1) 0 go) a (l ++ x ∷ [])) in (
+        quiet v f _ (operand_at env p ∷ []) d 0 a l (argument b p ∷ []) typed.0 (omega arith) deep (reads_one a l env b p h) (texts_at p b n, tt) e.0,
+        subst P (sym (means v f _ (operand_at env p ∷ []) d 0 a l (argument b p ∷ []) typed.0 (omega arith) deep (reads_one a l env b p h)))
+            (along (mean v f (argument b p ∷ [])) (λ x. FiltersPlain v fs (p + 1) (slice_set b p x) × WithArguments (filtered v fs (p + 1) (slice_set b p x)) (EntersPlain v t)) _
+            (plain_result v f _ (argument b p ∷ []) typed.0 (omega arith) (texts_at p b n, tt) e.0) (both_with (mean v f (argument b p ∷ [])) _ _ (EntersPlain v t) e.1 inner)
+            (λ x q pair. quiet_filters v fs old new (p + 1) (slice_set env p (Local d)) (d + 1) 0 a (l ++ x ∷ []) (slice_set b p x) go t w typed.1 (omega (arith, length-set b p x)) (one_more l x d deep) (reads_set a l x d p env b deep h) (texts_set p b x q n) pair.0 pair.1 k)),
+      )
+  quiet_filters v (present f fs) [] new p env d s a l b go t w typed wide deep h n e inner k = absurd typed
+  quiet_filters v (present f fs) (z ∷ old) [] p env d s a l b go t w typed wide deep h n e inner k = absurd typed
+
+-- the locals of a tree's code
+mutual
+  pub shallow : (t : Tree) (m : Signature) (env : List Operand) (d s : ℕ) → IsTyped t m → deep (prepared t env d s) ≤ 16 * depth t
+  shallow (constant x) m env d s typed = omega arith
+  shallow (identity k) m env d s typed = omega arith
+  shallow (operation o) m env d s typed = omega arith
+  shallow (insert t p xs) m env d s (n, typed, inserts) = omega (arith, shallow t n (take p env ++ (map Constant xs ++ drop p env)) d (s + 1) typed)
+  shallow (discard t p ks) m env d s (n, typed, discards) = omega (arith, shallow t n (take p env ++ drop (p + length ks) env) d (s + 1) typed)
+  shallow (permute t new_type r) m env d s (n, typed, reorders, made) = omega (arith, shallow t n (map (operand_at env) r) d (s + 1) typed)
+  shallow (filter t p fs) m env d s (n, typed, inside, returns, firsts, filters) =
+      let few = few_parameters t n typed in
+      let whole = shallow_filters fs (drop p n.parameters) (drop p m.parameters) p env d (s + 1) (prepared t) (16 * max (depth t) (deepest fs)) filters
+      (λ env' d' s'. omega (arith, shallow t n env' d' s' typed)) (omega arith) in
+      omega (arith, whole, length-drop p n.parameters)
+  shallow (filter_return t f) m env d s (k, typed, last) = omega (arith, shallow t _ env d 0 typed, shallow f _ (Local d ∷ []) (d + 1) 0 last)
+  shallow (fold t c) m env d s (k, ks, typed, combiner, begins) = omega (arith, shallow c _ env d 0 combiner, shallow t _ (Local d ∷ env) (d + 1) 0 typed)
+  shallow (guard c x y) m env d s (ks, test, begins, one, two) = omega (arith, shallow c _ env d 0 test, shallow x m env d 0 one, shallow y m env d 0 two)
+  shallow (point p x y) m env d s (one, two) = omega (arith, shallow x m env d 0 one, shallow y m env d 0 two)
+
+  shallow_filters : (fs : Filters) (old new : List Kind) (p : ℕ) (env : List Operand) (d s : ℕ) (go : List Operand → ℕ → ℕ → Code) (most : ℕ) → AreTyped fs old new → ((env' : List Operand) (d' s' : ℕ) → deep (go env' d' s') ≤ most) → 16 * deepest fs ≤ most → deep (prepared_filters fs p env d s go) ≤ length old + most
+  shallow_filters no_more old new p env d s go most typed k h = omega (arith, k env d s)
+  shallow_filters (absent fs) (z ∷ old) (j ∷ new) p env d s go most typed k h = omega (arith, shallow_filters fs old new (p + 1) env d s go most typed.1 k h)
+  shallow_filters (absent fs) [] new p env d s go most typed k h = absurd typed
+  shallow_filters (absent fs) (z ∷ old) [] p env d s go most typed k h = absurd typed
+  shallow_filters (present f fs) (z ∷ old) (j ∷ new) p env d s go most typed k h =
+      let rest = shallow_filters fs old new (p + 1) (slice_set env p (Local d)) (d + 1) 0 go most typed.1 k (omega arith) in
+      let one = shallow f _ (operand_at env p ∷ []) d 0 typed.0 in
+      omega arith
+  shallow_filters (present f fs) [] new p env d s go most typed k h = absurd typed
+  shallow_filters (present f fs) (z ∷ old) [] p env d s go most typed k h = absurd typed

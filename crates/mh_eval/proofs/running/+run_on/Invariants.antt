@@ -1,0 +1,34 @@
+use Rattle.std.proofs.Common.{◌≡◌, ◌+◌, ◌*◌, ◌≤◌, length, take, vec_capacity}
+use Rattle.mh_tree.specs.CodeOf.{code_of}
+use Rattle.mh_eval.specs.Height.{height}
+use Rattle.mh_eval.specs.Quiet.{IsQuiet, deep}
+use Rattle.mh_tree.specs.Running.{run_code, code_steps, weight}
+use Rattle.mh_tree.specs.Scoped.{IsScoped}
+use Rattle.mh_eval.proofs.running.+run_on.Given as goal
+
+-- what is left to do: two for each level, and one for the call that has entered a piece
+abbrev pub decreases-run_on : goal.decreases-run_on
+decreases-run_on l = 2 * height (code_of l.code.now)
+
+abbrev pub decreases-push_first : goal.decreases-push_first
+decreases-push_first l = 2 * height (code_of l.first.now) + 1
+
+abbrev pub decreases-run_on-loop-operand : goal.decreases-run_on-loop-operand
+decreases-run_on-loop-operand l = height (code_of l.node)
+
+-- the piece so far, below the locals so far, does what the code does below those that were there
+abbrev pub invariant-run_on-loop-operand : goal.invariant-run_on-loop-operand
+invariant-run_on-loop-operand l =
+    record {
+      kept : take l.depth l.stack.items ≡ l.initial.stack.items;
+      outcome : run_code l.valid (code_of l.node) l.arguments l.stack.items ≡ run_code l.valid (code_of l.code) l.arguments l.initial.stack.items;
+      steps : l.total + code_steps l.valid (code_of l.node) l.arguments l.stack.items ≡ l.before + code_steps l.valid (code_of l.code) l.arguments l.initial.stack.items;
+      few : l.total + weight (code_of l.node) ≤ l.before + weight (code_of l.code);
+      scoped : IsScoped (length l.valid) (length l.arguments) (length l.stack.items) (code_of l.node);
+      lower : height (code_of l.node) ≤ height (code_of l.code);
+      room : vec_capacity l.initial.stack ≤ vec_capacity l.stack;
+      quiet : IsQuiet l.valid (code_of l.code) l.arguments l.initial.stack.items → IsQuiet l.valid (code_of l.node) l.arguments l.stack.items;
+      shallow : length l.stack.items + deep (code_of l.node) ≤ length l.initial.stack.items + deep (code_of l.code);
+      small : l.before + weight (code_of l.code) ≤ 262144;
+      whole : l.depth ≡ length l.initial.stack.items;
+    }

@@ -1,0 +1,40 @@
+-- What an answer says of an outcome.
+use Rattle.std.specs.Prelude.{◌≡◌, ℕ, List, [], ◌∷◌, ◌++◌, length}
+use Rattle.mh_type.specs.declared.value.Value.TheVariants as value
+use Rattle.mh_type.specs.declared.outcome.Outcome.{Outcome}
+use Rattle.mh_type.specs.declared.outcome.Outcome.TheVariants as outcome
+use Rattle.mh_type.specs.declared.value.Value.{Value}
+use Rattle.mh_tree.specs.Meaning.{argument}
+use Rattle.mh_eval.specs.declared.answer.Pushed.{Pushed}
+use Rattle.mh_eval.specs.declared.answer.Pushed.TheVariants as pushed
+use Rattle.mh_eval.specs.declared.answer.Answer.{Answer}
+use Rattle.mh_eval.specs.declared.answer.Answer.TheVariants.{Int, Long, Boolean, Text, Thrown, NoMemory}
+
+-- it is the outcome, or memory was refused
+abbrev pub Gives : Answer → Outcome → Type 0
+Gives (Int x) o = o ≡ outcome.Value (value.Int x)
+Gives (Long x) o = o ≡ outcome.Value (value.Long x)
+Gives (Boolean x) o = o ≡ outcome.Value (value.Boolean x)
+Gives (Text x) o = o ≡ outcome.Value (value.Text x)
+Gives (Thrown t) o = o ≡ outcome.Thrown t
+Gives NoMemory o = Unit {0}
+
+-- the same with the number of steps, m in all
+abbrev pub Ran : Answer → ℕ → Outcome → ℕ → Type 0
+Ran (Int x) n o m = (o ≡ outcome.Value (value.Int x)) × (n ≡ m)
+Ran (Long x) n o m = (o ≡ outcome.Value (value.Long x)) × (n ≡ m)
+Ran (Boolean x) n o m = (o ≡ outcome.Value (value.Boolean x)) × (n ≡ m)
+Ran (Text x) n o m = (o ≡ outcome.Value (value.Text x)) × (n ≡ m)
+Ran (Thrown t) n o m = (o ≡ outcome.Thrown t) × (n ≡ m)
+Ran NoMemory n o m = Unit {0}
+
+-- a value was put on the stack, or memory was refused
+abbrev pub PushedBy : Pushed → ℕ → Outcome → ℕ → List Value → List Value → Type 0
+PushedBy pushed.Value n o m old new =
+    (o ≡ outcome.Value (argument new (length old))) × (n ≡ m) × (new ≡ old ++ argument new (length old) ∷ [])
+PushedBy (pushed.Thrown t) n o m old new = (o ≡ outcome.Thrown t) × (n ≡ m) × (new ≡ old)
+PushedBy pushed.NoMemory n o m old new = new ≡ old
+
+abbrev pub IsPushed : Pushed → Type 0
+IsPushed pushed.NoMemory = ⊥
+IsPushed _ = Unit {0}

@@ -1,0 +1,18 @@
+use Rattle.std.proofs.Common.{◌∙◌, subst, sym}
+use Rattle.std.specs.Arc.{arc_value}
+use Rattle.mh_tree.specs.CodeOf.{code_of}
+use Rattle.mh_tree.specs.Constructors.{point_made}
+use Rattle.mh_tree.specs.Handle.{TypedTree, IsSound}
+use Rattle.mh_tree.proofs.PreparedParts.{point_has_code}
+use Rattle.mh_tree.proofs.prepared.Prepared.point.Goals as goal
+
+pub invariant_of-result : goal.invariant_of-result
+invariant_of-result c =
+    let P : TypedTree → Type 0 = λ h. IsSound h.tree h.signature in
+    let sound = subst P c.handle.view_is c.handle.invariant.sound in
+    let made = sym (λ i. point_made c.args.point (c.target.view_is i) (c.fallback.view_is i)) ∙ c.in_ok-handle.ensures.value in
+    record {
+      sound = sound;
+      code = point_has_code c.args.point c.args.target.now c.args.fallback.now c.in_ok-handle.handle (code_of (arc_value c.in_ok-code.code)) made
+          (subst P c.fallback.view_is c.fallback.invariant.sound) sound c.in_ok-code.ensures.value;
+    }

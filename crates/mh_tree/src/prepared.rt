@@ -1,0 +1,171 @@
+//! Handles with their code.
+
+ghost use Rattle.std.specs.Prelude.{◌≡◌, Ok, IfOk, IfErr};
+ghost use Rattle.std.specs.Arc.{arc_value};
+ghost use Rattle.mh_tree.specs.Code.{branch, switch};
+ghost use Rattle.mh_tree.specs.CodeOf.{code_of};
+ghost use Rattle.mh_tree.specs.Constructors.{Refuses, guard_made, point_made};
+ghost use Rattle.mh_tree.specs.Handle.{IsSound};
+ghost use Rattle.mh_tree.specs.Prepared.{handle_code};
+
+use crate::fault::{NoMemory, TreeFault};
+use crate::handle::Handle;
+use crate::operands::arguments;
+use crate::piece::Piece;
+use crate::preparing::{owned, prepare};
+use std::alloc::Global;
+use std::marker::Model;
+use std::sync::Arc;
+
+/// A handle and its prepared code, in which moved arguments vanish and each leaf names its operands. A
+/// clone of it is `share`, which copies no code.
+///
+/// A contract sees the handle's tree and type. That the code is the tree's is the invariant.
+#[derive(Drop)]
+pub struct Prepared {
+    handle: Handle,
+    code: Arc<Piece>,
+}
+
+impl Model for Prepared {
+    ghost use Rattle.mh_tree.specs.Handle.{TypedTree};
+
+    ghost Value = { TypedTree };
+
+    ghost use Rattle.mh_tree.specs.TreeCode.{coded_typed_tree};
+
+    ghost coded = { coded_typed_tree };
+
+    ghost use Rattle.mh_tree.specs.KeptCode.{kept_handle, IsPrepared};
+
+    ghost view = { kept_handle };
+
+    ghost invariant = { IsPrepared };
+}
+
+impl Prepared {
+    /// The handle with its code, in time linear in the tree's size. Refused with `NoMemory` alone.
+    pub fn new(handle: &Handle) -> Result<Prepared, TreeFault>
+        ensures value { IfOk result (λ p. p ≡ handle.now) }
+        ensures refused { IfErr result (λ e. e ≡ TreeFault.NoMemory) }
+    {
+        let Ok(code) = call_code(handle.alloc(), handle) else {
+            return Err(TreeFault::NoMemory);
+        };
+        let handle = handle.share()?;
+        Ok(Prepared { handle, code })
+    }
+
+    /// The target where the test gives true, and else the fallback: what `Handle::guard` makes of the
+    /// three handles, with its refusals. It takes the code of its parts as it is, in constant time.
+    pub fn guard(
+        alloc: Global,
+        test: &Prepared,
+        target: &Prepared,
+        fallback: &Prepared,
+    ) -> Result<Prepared, TreeFault>
+        ensures value { IfOk result (λ p. guard_made test.now target.now fallback.now ≡ Ok p) }
+        ensures refused { IfErr result (λ e. Refuses e (guard_made test.now target.now fallback.now)) }
+    {
+        let handle = Handle::guard(alloc, &test.handle, &target.handle, &fallback.handle)?;
+        let code = guard_code(alloc, test, target, fallback)?;
+        Ok(Prepared { handle, code })
+    }
+
+    /// The target while a point is valid, and else the fallback: what `Handle::point` makes of the two
+    /// handles, with its refusals. It takes the code of its parts as it is, in constant time.
+    pub fn point(
+        alloc: Global,
+        point: u32,
+        target: &Prepared,
+        fallback: &Prepared,
+    ) -> Result<Prepared, TreeFault>
+        ensures value { IfOk result (λ p. point_made point target.now fallback.now ≡ Ok p) }
+        ensures refused { IfErr result (λ e. Refuses e (point_made point target.now fallback.now)) }
+    {
+        let handle = Handle::point(alloc, point, &target.handle, &fallback.handle)?;
+        let code = point_code(alloc, point, target, fallback)?;
+        Ok(Prepared { handle, code })
+    }
+
+    /// Another owner of the handle and of its code. Refused with `NoMemory` alone.
+    pub fn share(&self) -> Result<Prepared, TreeFault>
+        ensures value { IfOk result (λ p. p ≡ self.now) }
+        ensures refused { IfErr result (λ e. e ≡ TreeFault.NoMemory) }
+    {
+        let code = self.code_owner()?;
+        let handle = self.handle.share()?;
+        Ok(Prepared { handle, code })
+    }
+
+    // Another owner of the code.
+    fn code_owner(&self) -> Result<Arc<Piece>, TreeFault>
+        ensures value { IfOk result (λ a. code_of (arc_value a) ≡ handle_code self.now) }
+        ensures refused { IfErr result (λ e. e ≡ TreeFault.NoMemory) }
+    {
+        Arc::try_clone(&self.code).map_err(|_| TreeFault::NoMemory)
+    }
+
+    /// The handle.
+    pub fn handle(&self) -> &Handle
+        ensures value { result.now ≡ self.now }
+    {
+        &self.handle
+    }
+
+    /// The code.
+    pub fn code(&self) -> &Piece
+        ensures value { code_of result.now ≡ handle_code self.now }
+        ensures sound { IsSound self.now.tree self.now.signature }
+    {
+        &self.code
+    }
+}
+
+// The code of a handle's calls.
+fn call_code(alloc: Global, handle: &Handle) -> Result<Arc<Piece>, NoMemory>
+    ensures value { IfOk result (λ a. code_of (arc_value a) ≡ handle_code handle.now) }
+{
+    let count = handle.method_type().count();
+    let operands = arguments(alloc, count as u32)?;
+    let code = prepare(alloc, handle.root(), &operands, 0, 0)?;
+    owned(alloc, code)
+}
+
+// The code of a guard over prepared parts.
+fn guard_code(
+    alloc: Global,
+    test: &Prepared,
+    target: &Prepared,
+    fallback: &Prepared,
+) -> Result<Arc<Piece>, TreeFault>
+    ensures value { IfOk result (λ a. code_of (arc_value a) ≡ branch 1 (handle_code test.now) (handle_code target.now) (handle_code fallback.now)) }
+    ensures refused { IfErr result (λ e. e ≡ TreeFault.NoMemory) }
+{
+    let code = Piece::Branch {
+        test: test.code_owner()?,
+        target: target.code_owner()?,
+        fallback: fallback.code_owner()?,
+        steps: 1,
+    };
+    Arc::new(alloc, code).map_err(|_| TreeFault::NoMemory)
+}
+
+// The code of a point over prepared parts.
+fn point_code(
+    alloc: Global,
+    point: u32,
+    target: &Prepared,
+    fallback: &Prepared,
+) -> Result<Arc<Piece>, TreeFault>
+    ensures value { IfOk result (λ a. code_of (arc_value a) ≡ switch 1 point (handle_code target.now) (handle_code fallback.now)) }
+    ensures refused { IfErr result (λ e. e ≡ TreeFault.NoMemory) }
+{
+    let code = Piece::Point {
+        point,
+        target: target.code_owner()?,
+        fallback: fallback.code_owner()?,
+        steps: 1,
+    };
+    Arc::new(alloc, code).map_err(|_| TreeFault::NoMemory)
+}
