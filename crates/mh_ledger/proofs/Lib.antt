@@ -1,0 +1,4 @@
+pub mod Added
+pub mod Flushes
+pub mod Held
+pub mod Taken

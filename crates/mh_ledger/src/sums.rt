@@ -1,0 +1,39 @@
+//! Lists of numbers, added place by place.
+
+ghost use Rattle.std.specs.Prelude.{◌≡◌, ◌+◌, ◌<◌, ◌≤◌, ◌^◌, ◌↔◌, ℕ, length, replicate, IsTrue};
+ghost use Rattle.std.specs.List.{All};
+ghost use Rattle.mh_ledger.specs.Ledgers.{at, added};
+
+// Whether no sum passes the limit.
+pub(crate) fn all_fit(sums: &[u64], more: &[u64], limit: u64) -> bool
+    requires lengths { length sums.now ≡ length more.now }
+    requires sums { All (λ n. n ≤ 2 ^ 62) sums.now }
+    requires more { All (λ n. n ≤ 2 ^ 62) more.now }
+    ensures value { IsTrue result ↔ ((j : ℕ) → j < length sums.now → at sums.now j + at more.now j ≤ limit) }
+{
+    for place in 0..sums.len() {
+        if sums[place] + more[place] > limit {
+            return false;
+        }
+    }
+    true
+}
+
+// Adds to each number the one at its place.
+pub(crate) fn add(sums: &mut Vec<u64>, more: &[u64])
+    requires lengths { length sums.old.items ≡ length more.now }
+    requires sums { All (λ n. n ≤ 2 ^ 62) sums.old.items }
+    requires more { All (λ n. n ≤ 2 ^ 62) more.now }
+    ensures value { sums.new.items ≡ added sums.old.items more.now }
+{
+    for place in 0..sums.len() {
+        sums[place] += more[place];
+    }
+}
+
+// Makes each number 0.
+pub(crate) fn clear(numbers: &mut Vec<u64>)
+    ensures value { numbers.new.items ≡ replicate (length numbers.old.items) 0 }
+{
+    numbers.fill(0);
+}
