@@ -1,0 +1,6 @@
+use Rattle.mh_pic.proofs.Bounds.{chain_depth, chain_size, chain_bound}
+use Rattle.mh_pic.proofs.Chains.{chain_faithful}
+use Rattle.mh_pic.proofs.laws.chains_are_faithful.Goals as goal
+
+pub returns : goal.returns
+returns c = record { faithful = chain_faithful; deep = chain_depth; large = chain_size; bound = chain_bound }

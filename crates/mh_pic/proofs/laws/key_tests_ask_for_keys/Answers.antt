@@ -1,0 +1,6 @@
+use Rattle.mh_pic.proofs.Chains.{same_equal}
+use Rattle.mh_pic.proofs.KeyTests.{key_test_mean, key_shown, key_found}
+use Rattle.mh_pic.proofs.laws.key_tests_ask_for_keys.Goals as goal
+
+pub returns : goal.returns
+returns c = record { answers = key_test_mean; equal = same_equal; shown = key_shown; alone = key_found }

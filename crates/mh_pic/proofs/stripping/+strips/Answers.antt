@@ -1,0 +1,55 @@
+use Rattle.std.proofs.Common.{◌≡◌, ◌++◌, [], ◌∷◌, refl, ap, sym, ◌∙◌, arith, List, Option, Some}
+use Rattle.mh_pic.proofs.stripping.+strips.Goals.{strip_filters-in-None, strip_filters-in-Some+in_ok-made-in-Some+in_ok-owner-in-Some}
+use Rattle.std.specs.declared.alloc.Global.{Global}
+use Rattle.std.specs.declared.sync.Arc.{Arc}
+use Rattle.mh_tree.proofs.Trees.{tree_of_filter}
+use Rattle.mh_tree.specs.Limits.{size, total_size}
+use Rattle.mh_tree.specs.Tree.{filter, filters_of}
+use Rattle.mh_tree.specs.TreeOf.{tree_of, filter_trees}
+use Rattle.mh_tree.specs.declared.node.Node.{Node}
+use Rattle.mh_pic.specs.Outcomes.{made_or}
+use Rattle.mh_pic.specs.Specialised.{stripped, stripped_filters}
+use Rattle.mh_pic.proofs.StrippedFilters.{if_ok, member_size, pushed_at}
+use Rattle.mh_pic.proofs.stripping.+strips.Goals as goal
+
+pub strip-strip_filters-requires : goal.strip-strip_filters-requires
+strip-strip_filters-requires t c =
+    let e = ap tree_of c.in-Filter.is ∙ tree_of_filter c.in-Filter.target c.in-Filter.position c.in-Filter.filters in
+    let f : filters_of (filter_trees c.deref-in-Filter-2.result.now) ≡ filters_of (filter_trees c.in-Filter.filters.items) =
+    ap (λ (fs : List (Option (Arc Node Global))). filters_of (filter_trees fs)) c.deref-in-Filter-2.ensures.value in
+    (omega (arith, ap size e, ap total_size f), tt)
+
+pub strip-returns-in_ok-filters-in-Filter-clause-value : goal.strip-returns-in_ok-filters-in-Filter-clause-value
+strip-returns-in_ok-filters-in-Filter-clause-value t c =
+    let e = ap tree_of c.in-Filter.is ∙ tree_of_filter c.in-Filter.target c.in-Filter.position c.in-Filter.filters in
+    let f : filters_of (filter_trees c.deref-in-Filter-2.result.now) ≡ filters_of (filter_trees c.in-Filter.filters.items) =
+    ap (λ (fs : List (Option (Arc Node Global))). filters_of (filter_trees fs)) c.deref-in-Filter-2.ensures.value in
+    let n : tree_of c.deref-in-Filter.result.now ≡ tree_of c.in-Filter.target.value = ap tree_of c.deref-in-Filter.ensures in
+    let first : made_or c.in_ok-made-in-Filter.made (tree_of c.in-Filter.target.value) ≡ stripped c.args.needs.now (tree_of c.in-Filter.target.value) =
+    rw n at c.in_ok-made-in-Filter.ensures.value in
+    let rest : filters_of (filter_trees c.in_ok-filters-in-Filter.filters.items) ≡ stripped_filters c.args.needs.now (filters_of (filter_trees c.in-Filter.filters.items)) =
+    c.in_ok-filters-in-Filter.ensures.value ∙ ap (stripped_filters c.args.needs.now) f in
+    if_ok _ _ c.filter.result
+    (λ o g. g (tree_of c.args.node.now) ∙ (λ i. filter (first i) c.in-Filter.position (rest i)) ∙ sym (ap (stripped c.args.needs.now) e))
+    c.filter.ensures.value
+
+pub strip_filters-strip-requires : goal.strip_filters-strip-requires
+strip_filters-strip-requires t c =
+    let n : size (tree_of c.deref.result.now) ≡ size (tree_of c.in-Some.filter.value) = ap (λ (x : Node). size (tree_of x)) c.deref.ensures in
+    let found : Some c.in-Some.filter ≡ _ = rw c.in-Some.is at c.filter-item.is in
+    let part = member_size c.args.filters.now c.loop-filter.filter-index c.in-Some.filter c.loop-filter-test.true found in
+    (omega (arith, n, part), tt)
+
+pub strip_filters-loop-filter-preserved : goal.strip_filters-loop-filter-preserved
+strip_filters-loop-filter-preserved t c =
+    let items : c.push.new.self.items ≡ c.loop-filter.stripped.items ++ (c.match-filter.filter ∷ []) = first_of (search (arith), grind (arith, c.push.ensures.items, c.in_ok-map_err.ensures.cases)) in
+    let step : filters_of (filter_trees (c.match-filter.filter ∷ [])) ≡ stripped_filters c.args.needs.now (filters_of (filter_trees (c.filter-item.result ∷ []))) =
+    elim c.match-filter.branch [
+      | strip_filters-in-None w ↦ rw (w.filter-is, w.in-None.is) refl
+      | strip_filters-in-Some+in_ok-made-in-Some+in_ok-owner-in-Some w ↦
+          let n : tree_of w.deref.result.now ≡ tree_of w.in-Some.filter.value = ap tree_of w.deref.ensures in
+          let first : tree_of w.in_ok-owner-in-Some.field-0.value ≡ stripped c.args.needs.now (tree_of w.in-Some.filter.value) =
+          w.in_ok-owner-in-Some.ensures.value ∙ (rw n at w.in_ok-made-in-Some.ensures.value) in
+          rw (w.filter-is, w.in-Some.is) (λ i. filters_of (Some (first i) ∷ []))
+    ] in
+    rw items (pushed_at c.args.needs.now c.loop-filter.stripped.items c.args.filters.now c.loop-filter.filter-index c.match-filter.filter c.filter-item.result c.loop-filter-test.true c.filter-item.is c.loop-filter.invariant step)

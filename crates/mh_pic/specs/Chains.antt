@@ -1,0 +1,47 @@
+-- A site's inline cache as a tree (Hölzle, Chambers, Ungar 1991, polymorphic inline caches; `MethodHandles.guardWithTest` and
+-- `SwitchPoint.guardWithTest`, Java SE 17): specialised trees, each behind its key test and its points, and last the base tree.
+use Rattle.std.specs.Prelude.{◌≡◌, ℕ, ◌<◌, ◌≤◌, Bool, List, [], ◌∷◌, length}
+use Rattle.std.specs.List.{All}
+use Rattle.mh_type.specs.declared.kind.Kind.{Kind}
+use Rattle.mh_type.specs.declared.value.Value.{Value}
+use Rattle.mh_type.specs.Fits.{Fits}
+use Rattle.mh_type.specs.Kinds.{kind_of}
+use Rattle.mh_type.specs.Signature.{Signature}
+use Rattle.mh_tree.specs.Meaning.{mean}
+use Rattle.mh_tree.specs.Tree.{Tree, guard, point}
+use Rattle.mh_tree.specs.Typing.{IsTyped}
+use Rattle.mh_pic.specs.Keys.{key_test}
+use Rattle.mh_pic.specs.Specialised.{specialised}
+
+-- a key, and the points that its tree needs, ascending
+pub record PlainEntry : Type 0 where
+  pub key : Value
+  pub needs : List ℕ
+
+-- the tree x while all these points are valid, and the base from when one is not
+abbrev pub points : List ℕ → Tree → Tree → Tree
+points [] x base = x
+points (p ∷ rest) x base = point p (points rest x base) base
+
+-- the cache that holds these entries, over kinds before the key place
+abbrev pub chain : List Kind → Tree → List PlainEntry → Tree
+chain kinds base [] = base
+chain kinds base (e ∷ rest) =
+    guard (key_test kinds e.key) (points e.needs (specialised e.needs kinds e.key base) base) (chain kinds base rest)
+
+-- the tree has the other's type, and gives what the other gives, whichever points are valid
+pub record IsFaithful (tree base : Tree) (m : Signature) : Type 0 where
+  pub typed : IsTyped tree m
+  pub same : (v : List Bool) (a : List Value) → Fits m a → mean v tree a ≡ mean v base a
+
+-- the keys are of one kind
+abbrev pub HaveKind : Kind → List PlainEntry → Type 0
+HaveKind k entries = All (λ (e : PlainEntry). kind_of e.key ≡ k) entries
+
+-- an entry has at most 8 needs
+abbrev pub HaveFewNeeds : List PlainEntry → Type 0
+HaveFewNeeds entries = All (λ (e : PlainEntry). length e.needs ≤ 8) entries
+
+-- each need is below n
+abbrev pub HaveNeedsBelow : ℕ → List PlainEntry → Type 0
+HaveNeedsBelow n entries = All (λ (e : PlainEntry). All (λ p. p < n) e.needs) entries

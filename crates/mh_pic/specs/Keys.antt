@@ -1,0 +1,70 @@
+-- Key tests: the trees that ask whether the argument at the key place is a key. The kinds are those of the parameters
+-- before the key place, so their number is the place.
+use Rattle.std.specs.Prelude.{Bool, true, false, not, ◌&&◌, Option, Some, None, List, [], ◌∷◌, nat_eq, if◌then◌else◌}
+use Rattle.std.specs.Ordering.{int_eq}
+use Rattle.std.specs.Str.{bytes_eq}
+use Rattle.mh_type.specs.declared.kind.Kind.{Kind}
+use Rattle.mh_type.specs.declared.kind.Kind.TheVariants as kind
+use Rattle.mh_type.specs.declared.operation.Op.{Op}
+use Rattle.mh_type.specs.declared.operation.Op.TheVariants.{Ieq, Leq, Beq, Seq}
+use Rattle.mh_type.specs.declared.value.Value.{Value}
+use Rattle.mh_type.specs.declared.value.Value.TheVariants.{Int, Long, Boolean, Text}
+use Rattle.mh_type.specs.Kinds.{kind_of, kind_eq, kinds_eq}
+use Rattle.mh_tree.specs.Tree.{Tree, operation, insert, discard}
+
+abbrev pub same_truth : Bool → Bool → Bool
+same_truth true b = b
+same_truth false b = not b
+
+-- whether two values are one: of one kind, and equal
+abbrev pub same_value : Value → Value → Bool
+same_value (Int x) (Int y) = int_eq x y
+same_value (Long x) (Long y) = int_eq x y
+same_value (Boolean x) (Boolean y) = same_truth x y
+same_value (Text x) (Text y) = bytes_eq x y
+same_value _ _ = false
+
+-- the equality of a kind
+abbrev pub equality : Kind → Op
+equality kind.Int = Ieq
+equality kind.Long = Leq
+equality kind.Boolean = Beq
+equality kind.Text = Seq
+
+-- whether the first argument is the key
+abbrev pub first_test : Value → Tree
+first_test key = insert (operation (equality (kind_of key))) 1 (key ∷ [])
+
+-- whether the argument behind these kinds is the key: the arguments before it are dropped
+abbrev pub key_test : List Kind → Value → Tree
+key_test [] key = first_test key
+key_test (k ∷ kinds) key = discard (first_test key) 0 (k ∷ kinds)
+
+-- the kind whose equality an operation is
+abbrev pub equality_kind : Op → Option Kind
+equality_kind Ieq = Some kind.Int
+equality_kind Leq = Some kind.Long
+equality_kind Beq = Some kind.Boolean
+equality_kind Seq = Some kind.Text
+equality_kind _ = None
+
+-- the one value of a list, if it has the kind
+abbrev pub one_of_kind : Option Kind → List Value → Option Value
+one_of_kind (Some k) (x ∷ []) = if kind_eq (kind_of x) k then Some x else None
+one_of_kind _ _ = None
+
+-- the key of a test of the first argument
+abbrev pub first_key : Tree → Option Value
+first_key (insert (operation o) p xs) = if nat_eq p 1 then one_of_kind (equality_kind o) xs else None
+first_key _ = None
+
+-- the key of a key test behind these kinds; none of any other tree
+abbrev pub key_in : List Kind → Tree → Option Value
+key_in [] t = first_key t
+key_in (k ∷ kinds) (discard t p ks) = if nat_eq p 0 && kinds_eq (k ∷ kinds) ks then first_key t else None
+key_in _ _ = None
+
+-- what a key test of the key's kind answers where the argument is the key
+abbrev pub decided : Value → Option Value → Option Bool
+decided key (Some x) = if kind_eq (kind_of x) (kind_of key) then Some (same_value key x) else None
+decided key None = None

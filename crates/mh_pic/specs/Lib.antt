@@ -1,0 +1,4 @@
+pub mod Keys
+pub mod Specialised
+pub mod Chains
+pub mod Outcomes

@@ -1,0 +1,100 @@
+//! Key tests among nodes.
+
+ghost use Rattle.std.specs.Prelude.{◌≡◌, option_copied};
+ghost use Rattle.mh_tree.specs.TreeOf.{tree_of};
+ghost use Rattle.mh_pic.specs.Keys.{decided as key_decided, equality_kind as kind_of_equality, first_key as first_key_in, key_in as key_in_tree, one_of_kind as one_of, same_value as values_same};
+
+use mh_tree::Node;
+use mh_type::{Kind, Op, Value, same_kinds};
+
+/// Whether both values are one: of one kind, and equal.
+fn same_value(one: &Value, other: &Value) -> bool
+    ensures value { result ≡ values_same one.now other.now }
+{
+    match (one, other) {
+        (Value::Int(x), Value::Int(y)) => *x == *y,
+        (Value::Long(x), Value::Long(y)) => *x == *y,
+        (Value::Boolean(x), Value::Boolean(y)) => *x == *y,
+        (Value::Text(x), Value::Text(y)) => x.as_str() == y.as_str(),
+        _ => false,
+    }
+}
+
+// The kind whose equality an operation is.
+fn equality_kind(op: Op) -> Option<Kind>
+    ensures value { result ≡ kind_of_equality op }
+{
+    match op {
+        Op::Ieq => Some(Kind::Int),
+        Op::Leq => Some(Kind::Long),
+        Op::Beq => Some(Kind::Boolean),
+        Op::Seq => Some(Kind::Text),
+        _ => None,
+    }
+}
+
+// The key of a test of the first argument; none of any other tree.
+fn first_key(node: &Node) -> Option<&Value>
+    ensures value { option_copied result ≡ first_key_in (tree_of node.now) }
+{
+    let Node::Insert {
+        target,
+        position,
+        values,
+    } = node
+    else {
+        return None;
+    };
+    let Node::Operation(op) = &**target else {
+        return None;
+    };
+    if *position != 1 {
+        return None;
+    }
+    one_of_kind(equality_kind(*op), values)
+}
+
+// The one value of a list, if it has the kind.
+fn one_of_kind(kind: Option<Kind>, values: &[Value]) -> Option<&Value>
+    ensures value { option_copied result ≡ one_of kind values.now }
+{
+    let kind = kind?;
+    match values {
+        [value] if value.kind().is(kind) => Some(value),
+        _ => None,
+    }
+}
+
+/// The key of a key test behind these kinds; none of any other tree.
+pub fn key_in<'a>(node: &'a Node, before: &[Kind]) -> Option<&'a Value>
+    ensures value { option_copied result ≡ key_in_tree before.now (tree_of node.now) }
+{
+    if before.is_empty() {
+        return first_key(node);
+    }
+    let Node::Drop {
+        target,
+        position,
+        kinds,
+    } = node
+    else {
+        return None;
+    };
+    if *position != 0 || !same_kinds(before, kinds) {
+        return None;
+    }
+    first_key(target)
+}
+
+/// What a key test of this key, if it is one of the other key's kind, answers where the argument is the
+/// other key.
+pub fn decided(key: &Value, tested: Option<&Value>) -> Option<bool>
+    ensures value { result ≡ key_decided key.now (option_copied tested.entry) }
+{
+    let tested = tested?;
+    if tested.kind().is(key.kind()) {
+        Some(same_value(key, tested))
+    } else {
+        None
+    }
+}

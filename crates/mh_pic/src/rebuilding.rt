@@ -1,0 +1,246 @@
+//! Nodes over parts of which some were made anew: a part is made, or none where the old one stays.
+
+ghost use Rattle.std.specs.Prelude.{◌≡◌, IfOk, IfErr};
+ghost use Rattle.std.specs.Arc.{arc_value};
+ghost use Rattle.mh_tree.specs.Tree.{Tree, insert as insert_tree, discard as drop_tree, permute as permute_tree, filter as filter_tree, filters_of, filter_return as filter_return_tree, fold as fold_tree, guard as guard_tree, point as point_tree};
+ghost use Rattle.mh_tree.specs.TreeOf.{tree_of, filter_trees};
+ghost use Rattle.mh_pic.specs.Outcomes.{made_or};
+
+use mh_tree::{Node, TreeFault};
+use mh_type::{Kind, MethodType, Value};
+use std::alloc::Global;
+use std::sync::Arc;
+
+// The part that was made, or a further owner of the old one.
+pub(crate) fn owner(made: Option<Arc<Node>>, old: &Arc<Node>) -> Result<Arc<Node>, TreeFault>
+    ensures value { IfOk result (λ a. tree_of (arc_value a) ≡ made_or made (tree_of (arc_value old.now))) }
+    ensures refused { IfErr result (λ e. e ≡ TreeFault.NoMemory) }
+{
+    match made {
+        Some(node) => Ok(node),
+        None => Arc::try_clone(old).map_err(|_| TreeFault::NoMemory),
+    }
+}
+
+// A node that was made.
+pub(crate) fn root(alloc: Global, node: Node) -> Result<Option<Arc<Node>>, TreeFault>
+    ensures value { IfOk result (λ o. (t : _) → made_or o t ≡ tree_of node) }
+    ensures refused { IfErr result (λ e. e ≡ TreeFault.NoMemory) }
+{
+    let node = Arc::new(alloc, node).map_err(|_| TreeFault::NoMemory)?;
+    Ok(Some(node))
+}
+
+// Another owner of each value.
+fn copy_values(alloc: Global, values: &[Value]) -> Result<Vec<Value>, TreeFault>
+    ensures value { IfOk result (λ v. v.items ≡ values.now) }
+    ensures refused { IfErr result (λ e. e ≡ TreeFault.NoMemory) }
+{
+    let mut copied = Vec::new(alloc);
+    for value in values {
+        let value = value.share().map_err(|_| TreeFault::NoMemory)?;
+        copied.push(value).map_err(|_| TreeFault::NoMemory)?;
+    }
+    Ok(copied)
+}
+
+// `MethodHandles.insertArguments` over a target.
+pub(crate) fn insert(
+    alloc: Global,
+    target: Option<Arc<Node>>,
+    position: usize,
+    values: &[Value],
+) -> Result<Option<Arc<Node>>, TreeFault>
+    ensures value { IfOk result (λ o. (t : Tree) → made_or o (insert_tree t position values.now) ≡ insert_tree (made_or target t) position values.now) }
+    ensures refused { IfErr result (λ e. e ≡ TreeFault.NoMemory) }
+{
+    let Some(target) = target else {
+        return Ok(None);
+    };
+    let values = copy_values(alloc, values)?;
+    root(
+        alloc,
+        Node::Insert {
+            target,
+            position,
+            values,
+        },
+    )
+}
+
+// `MethodHandles.dropArguments` over a target.
+pub(crate) fn discard(
+    alloc: Global,
+    target: Option<Arc<Node>>,
+    position: usize,
+    kinds: &[Kind],
+) -> Result<Option<Arc<Node>>, TreeFault>
+    ensures value { IfOk result (λ o. (t : Tree) → made_or o (drop_tree t position kinds.now) ≡ drop_tree (made_or target t) position kinds.now) }
+    ensures refused { IfErr result (λ e. e ≡ TreeFault.NoMemory) }
+{
+    let Some(target) = target else {
+        return Ok(None);
+    };
+    let kinds = kinds.to_vec(alloc).map_err(|_| TreeFault::NoMemory)?;
+    root(
+        alloc,
+        Node::Drop {
+            target,
+            position,
+            kinds,
+        },
+    )
+}
+
+// `MethodHandles.permuteArguments` over a target.
+pub(crate) fn permute(
+    alloc: Global,
+    target: Option<Arc<Node>>,
+    new_type: &MethodType,
+    reorder: &[usize],
+) -> Result<Option<Arc<Node>>, TreeFault>
+    ensures value { IfOk result (λ o. (t : Tree) → made_or o (permute_tree t new_type.now reorder.now) ≡ permute_tree (made_or target t) new_type.now reorder.now) }
+    ensures refused { IfErr result (λ e. e ≡ TreeFault.NoMemory) }
+{
+    let Some(target) = target else {
+        return Ok(None);
+    };
+    let reorder = reorder.to_vec(alloc).map_err(|_| TreeFault::NoMemory)?;
+    let new_type = new_type.copy();
+    root(
+        alloc,
+        Node::Permute {
+            target,
+            new_type,
+            reorder,
+        },
+    )
+}
+
+// `MethodHandles.filterArguments` over a target and filters that were looked at one by one.
+pub(crate) fn filter(
+    alloc: Global,
+    made: Option<Arc<Node>>,
+    target: &Arc<Node>,
+    position: usize,
+    filters: Vec<Option<Arc<Node>>>,
+) -> Result<Option<Arc<Node>>, TreeFault>
+    ensures value { IfOk result (λ o. (t : Tree) → made_or o t ≡ filter_tree (made_or made (tree_of (arc_value target.now))) position (filters_of (filter_trees filters.items))) }
+    ensures refused { IfErr result (λ e. e ≡ TreeFault.NoMemory) }
+{
+    let target = owner(made, target)?;
+    root(
+        alloc,
+        Node::Filter {
+            target,
+            position,
+            filters,
+        },
+    )
+}
+
+// `MethodHandles.filterReturnValue` over a target and a filter.
+pub(crate) fn filter_return(
+    alloc: Global,
+    made: Option<Arc<Node>>,
+    target: &Arc<Node>,
+    other: Option<Arc<Node>>,
+    filter: &Arc<Node>,
+) -> Result<Option<Arc<Node>>, TreeFault>
+    ensures value { IfOk result (λ o. made_or o (filter_return_tree (tree_of (arc_value target.now)) (tree_of (arc_value filter.now))) ≡
+        filter_return_tree (made_or made (tree_of (arc_value target.now))) (made_or other (tree_of (arc_value filter.now)))) }
+    ensures refused { IfErr result (λ e. e ≡ TreeFault.NoMemory) }
+{
+    match (made, other) {
+        (None, None) => Ok(None),
+        (made, other) => {
+            let target = owner(made, target)?;
+            let filter = owner(other, filter)?;
+            root(alloc, Node::FilterReturn { target, filter })
+        }
+    }
+}
+
+// `MethodHandles.foldArguments` over a target and a combiner.
+pub(crate) fn fold(
+    alloc: Global,
+    made: Option<Arc<Node>>,
+    target: &Arc<Node>,
+    other: Option<Arc<Node>>,
+    combiner: &Arc<Node>,
+) -> Result<Option<Arc<Node>>, TreeFault>
+    ensures value { IfOk result (λ o. made_or o (fold_tree (tree_of (arc_value target.now)) (tree_of (arc_value combiner.now))) ≡
+        fold_tree (made_or made (tree_of (arc_value target.now))) (made_or other (tree_of (arc_value combiner.now)))) }
+    ensures refused { IfErr result (λ e. e ≡ TreeFault.NoMemory) }
+{
+    match (made, other) {
+        (None, None) => Ok(None),
+        (made, other) => {
+            let target = owner(made, target)?;
+            let combiner = owner(other, combiner)?;
+            root(alloc, Node::Fold { target, combiner })
+        }
+    }
+}
+
+// `SwitchPoint.guardWithTest` over a target and a fallback.
+pub(crate) fn point(
+    alloc: Global,
+    point: u32,
+    made: Option<Arc<Node>>,
+    target: &Arc<Node>,
+    other: Option<Arc<Node>>,
+    fallback: &Arc<Node>,
+) -> Result<Option<Arc<Node>>, TreeFault>
+    ensures value { IfOk result (λ o. made_or o (point_tree point (tree_of (arc_value target.now)) (tree_of (arc_value fallback.now))) ≡
+        point_tree point (made_or made (tree_of (arc_value target.now))) (made_or other (tree_of (arc_value fallback.now)))) }
+    ensures refused { IfErr result (λ e. e ≡ TreeFault.NoMemory) }
+{
+    match (made, other) {
+        (None, None) => Ok(None),
+        (made, other) => {
+            let target = owner(made, target)?;
+            let fallback = owner(other, fallback)?;
+            root(
+                alloc,
+                Node::Point {
+                    point,
+                    target,
+                    fallback,
+                },
+            )
+        }
+    }
+}
+
+// `MethodHandles.guardWithTest` over a test, a target and a fallback.
+pub(crate) fn guard(
+    alloc: Global,
+    asked: Option<Arc<Node>>,
+    test: &Arc<Node>,
+    made: Option<Arc<Node>>,
+    target: &Arc<Node>,
+    other: Option<Arc<Node>>,
+    fallback: &Arc<Node>,
+) -> Result<Option<Arc<Node>>, TreeFault>
+    ensures value { IfOk result (λ o. made_or o (guard_tree (tree_of (arc_value test.now)) (tree_of (arc_value target.now)) (tree_of (arc_value fallback.now))) ≡
+        guard_tree (made_or asked (tree_of (arc_value test.now))) (made_or made (tree_of (arc_value target.now))) (made_or other (tree_of (arc_value fallback.now)))) }
+    ensures refused { IfErr result (λ e. e ≡ TreeFault.NoMemory) }
+{
+    match (asked, made, other) {
+        (None, None, None) => Ok(None),
+        (asked, made, other) => {
+            let test = owner(asked, test)?;
+            let target = owner(made, target)?;
+            let fallback = owner(other, fallback)?;
+            root(
+                alloc,
+                Node::Guard {
+                    test,
+                    target,
+                    fallback,
+                },
+            )
+        }
+    }
+}
