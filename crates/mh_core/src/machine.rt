@@ -16,7 +16,7 @@ use crate::fault::NoMemory;
 use crate::limits::Limits;
 use crate::refusal::Refusal;
 use crate::reply::Reply;
-use mh_eval::{Stack, eval, fits};
+use mh_eval::{Stack, fits, run};
 use mh_site::{Definition, Listing};
 use mh_tree::Declared;
 use mh_type::{Outcome, Value};
@@ -191,8 +191,8 @@ impl Machine {
         ensures taken { OnOk result (self.new ≡ extended self.old (Call worker site arguments)) }
         ensures refused { OnErr result (self.new ≡ self.old) }
     {
-        let (outcome, steps) = evaluated(&mut self.stack, &self.book, site, arguments.as_slice())?;
         self.events.reserve(1)?;
+        let (outcome, steps) = evaluated(&mut self.stack, &self.book, site, arguments.as_slice())?;
         self.events.push_reserved(Event::Call {
             worker,
             site,
@@ -241,9 +241,9 @@ fn evaluated(
     ensures answer { IfOk result (λ p. Called p.0 p.1 ≡ answer_of_call book.now.definition book.now.records site arguments.now) }
 {
     let world = book.world();
-    let linked = world.linked(site);
+    let linked = world.prepared(site);
     let valid = world.valid();
-    match eval(stack, valid, linked, arguments) {
+    match run(stack, valid, linked, arguments) {
         Ok((outcome, steps)) => Ok((outcome, steps)),
         Err(_) => Err(NoMemory),
     }

@@ -4,3 +4,4 @@ pub mod Mapped
 pub mod Lawful
 pub mod Tables
 pub mod LookBack
+pub mod Numbers

@@ -4,6 +4,7 @@ pub mod Ascending
 pub mod Definitions
 pub mod Defined
 pub mod Lawful
+pub mod Links
 pub mod Controls
 pub mod Worlds
 pub mod SiteStates

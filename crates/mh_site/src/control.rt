@@ -3,16 +3,15 @@
 ghost use Rattle.std.specs.Prelude.{◌≡◌, IfOk};
 
 use crate::fault::NoMemory;
-use mh_tree::{Declared, Handle};
+use mh_tree::{Declared, Handle, Prepared};
 use std::marker::Model;
 
-/// A site's new tree, with another owner of it for the linked tree, so that a world can take both
-/// without memory.
+/// A site's new tree, and the linked tree with its code, so that a world can take both without memory.
 #[derive(Drop)]
 pub struct Retargeting {
     pub(crate) site: usize,
     pub(crate) base: Declared,
-    pub(crate) linked: Handle,
+    pub(crate) linked: Prepared,
 }
 
 impl Model for Retargeting {
@@ -29,20 +28,21 @@ impl Model for Retargeting {
 }
 
 impl Retargeting {
-    /// The tree for the site, by its number. Refused where there is no further owner of the tree.
+    /// The tree for the site, by its number, in time linear in its size: its code is made here. Refused
+    /// where a growth was refused, or a further owner of the tree.
     pub fn new(site: usize, base: Declared) -> Result<Retargeting, NoMemory>
         ensures value { IfOk result (λ r. r ≡ record { site = site; tree = base }) }
     {
-        let linked = owner(base.handle())?;
+        let linked = prepared(base.handle())?;
         Ok(Retargeting { site, base, linked })
     }
 }
 
-// Another owner of a tree.
-pub(crate) fn owner(handle: &Handle) -> Result<Handle, NoMemory>
-    ensures value { IfOk result (λ h. h ≡ handle.now) }
+// A tree with its code.
+pub(crate) fn prepared(handle: &Handle) -> Result<Prepared, NoMemory>
+    ensures value { IfOk result (λ p. p ≡ handle.now) }
 {
-    handle.share().map_err(|_| NoMemory)
+    Prepared::new(handle).map_err(|_| NoMemory)
 }
 
 /// Points that become invalid together, by their numbers (`SwitchPoint.invalidateAll`, Java SE 17).

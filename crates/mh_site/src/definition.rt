@@ -1,14 +1,16 @@
 //! Points and sites that fit together.
 
-ghost use Rattle.std.specs.Prelude.{◌≡◌, ◌<◌, Ok, Err, Some, None, length, IfOk, IfErr, MatchResult};
+ghost use Rattle.std.specs.Prelude.{◌≡◌, ◌<◌, ◌≤◌, ◌+◌, ◌⊎◌, ℕ, Ok, Err, Some, None, length, IfOk, IfErr, MatchResult};
 ghost use Rattle.mh_site.specs.Defined.{point_at, site_at, link_of};
 ghost use Rattle.mh_site.specs.Definitions.{definition_made, definition_fault};
 ghost use Rattle.mh_site.specs.Lawful.{IsDefinition};
+ghost use Rattle.mh_site.specs.Links.{links, link_at, first_link as first_link_of, site_of as site_of_link};
 
 use crate::copies::{copy_points, copy_sites};
 use crate::fault::{DefinitionFault, NoMemory};
 use crate::link::Link;
 use crate::listing::Listing;
+use crate::numbering::{Numbering, number_links};
 use crate::order::order_sites;
 use crate::point::Point;
 use crate::point_tests::test_points;
@@ -31,6 +33,7 @@ pub const MOST_SITES: usize = 1024;
 pub struct Definition {
     points: Listing<Point>,
     sites: Listing<Site>,
+    numbering: Numbering,
 }
 
 impl Model for Definition {
@@ -40,27 +43,36 @@ impl Model for Definition {
 
     ghost coded = { coded_definition };
 
-    ghost use Rattle.mh_site.specs.Lawful.{IsDefinition};
+    ghost use Rattle.mh_site.specs.Links.{IsNumbered};
 
     ghost view = { λ d. record { points = d.points; sites = d.sites } };
 
-    ghost invariant = { λ d. IsDefinition record { points = d.points; sites = d.sites } };
+    ghost invariant = { λ d. IsNumbered record { points = d.points; sites = d.sites } d.numbering.firsts.items d.numbering.homes.items };
 }
 
 impl Definition {
-    /// The definition of these parts, with the needs of each link in ascending order. It takes no
-    /// memory; what is refused is dropped.
+    /// The definition of these parts, with the needs of each link in ascending order. What is refused is
+    /// dropped.
     ///
-    /// Refused with the first test that fails, as `DefinitionFault` tells them.
-    pub fn new(points: Listing<Point>, sites: Listing<Site>) -> Result<Definition, DefinitionFault>
+    /// Refused with the first test that fails, as `DefinitionFault` tells them, and then with `NoMemory`.
+    pub fn new(
+        alloc: Global,
+        points: Listing<Point>,
+        sites: Listing<Site>,
+    ) -> Result<Definition, DefinitionFault>
         ensures value { IfOk result (λ d. definition_made points sites ≡ Ok d) }
-        ensures refused { IfErr result (λ e. definition_made points sites ≡ Err e) }
+        ensures refused { IfErr result (λ e. (definition_made points sites ≡ Err e) ⊎ ((definition_fault points sites ≡ None) × (e ≡ DefinitionFault.NoMemory))) }
     {
         test(points.as_slice(), sites.as_slice())?;
         let mut sites = sites.into_vec();
         order_sites(&mut sites);
+        let numbering = number_links(alloc, &sites)?;
         let sites = Listing::from_vec(sites);
-        Ok(Definition { points, sites })
+        Ok(Definition {
+            points,
+            sites,
+            numbering,
+        })
     }
 
     /// The same definition, of which the trees and texts get another owner. Refused where a growth was
@@ -70,7 +82,12 @@ impl Definition {
     {
         let points = copy_points(alloc, self.points.as_slice())?;
         let sites = copy_sites(alloc, self.sites.as_slice())?;
-        Ok(Definition { points, sites })
+        let numbering = number_links(alloc, sites.as_slice())?;
+        Ok(Definition {
+            points,
+            sites,
+            numbering,
+        })
     }
 
     /// The points, by number.
@@ -167,6 +184,38 @@ impl Definition {
         ensures value { result.now ≡ (link_of self.now site link).needs }
     {
         self.links(site)[link].needs.as_slice()
+    }
+}
+
+impl Definition {
+    /// The number of links of all sites. Links are numbered from 0, site by site, and at a site in its
+    /// order.
+    pub fn link_count(&self) -> usize
+        ensures count { result ≡ length (links self.now) }
+        ensures lawful { IsDefinition self.now }
+    {
+        self.numbering.homes.len()
+    }
+
+    /// The number of a site's first link: its links have the numbers from this one on. At a site without
+    /// links it is that of the next link. O(1).
+    pub fn first_link(&self, site: usize) -> usize
+        requires inside { site < length self.now.sites }
+        ensures value { result ≡ first_link_of self.now site }
+        ensures links { (k : ℕ) → k < length (site_at self.now site).links → link_at self.now (result + k) ≡ (site, link_of self.now site k) }
+        ensures within { result + length (site_at self.now site).links ≤ length (links self.now) }
+    {
+        self.numbering.firsts[site]
+    }
+
+    /// The number of a link's site. O(1).
+    pub fn site_of(&self, link: usize) -> usize
+        requires inside { link < length (links self.now) }
+        ensures value { result ≡ site_of_link self.now link }
+        ensures known { result < length self.now.sites }
+        ensures within { (first_link_of self.now result ≤ link) × (link < first_link_of self.now result + length (site_at self.now result).links) }
+    {
+        self.numbering.homes[link]
     }
 }
 

@@ -15,8 +15,7 @@ pub struct NoMemory;
 /// each over the whole of it, and the first that fails is told. Memory comes last.
 #[derive(Clone, Copy, Debug, PartialEq, Eq, Error)]
 pub enum DefinitionFault {
-    /// A growth was refused. `Definition::new` takes no memory and never tells it: it is for those
-    /// who make the parts.
+    /// A growth was refused.
     #[error("1 NoMemory")]
     NoMemory,
     /// More than 1,024 points.
@@ -62,6 +61,16 @@ pub enum DefinitionFault {
     /// A target of another type than its site's.
     #[error("15 TypeMismatch")]
     TypeMismatch,
+}
+
+impl From<NoMemory> for DefinitionFault {
+    ghost use Rattle.mh_site.specs.declared.fault.DefinitionFault.{DefinitionFault};
+
+    ghost from_gives = { λ _ fault. fault ≡ DefinitionFault.NoMemory };
+
+    fn from(_refused: NoMemory) -> DefinitionFault {
+        DefinitionFault::NoMemory
+    }
 }
 
 impl DefinitionFault {

@@ -10,6 +10,7 @@ mod laws;
 mod link;
 mod listing;
 mod name;
+mod numbering;
 mod order;
 mod point;
 mod point_tests;

@@ -6,11 +6,11 @@ ghost use Rattle.mh_site.specs.Worlds.{WorldState, opened, opening, after, repla
 ghost use Rattle.mh_site.specs.SiteStates.{site_state};
 ghost use Rattle.mh_site.specs.declared.control.Control.{Control};
 
-use crate::control::{Control, Points, Retargeting, owner};
+use crate::control::{Control, Points, Retargeting, prepared};
 use crate::definition::Definition;
 use crate::fault::NoMemory;
 use crate::site::Site;
-use mh_tree::{Declared, Handle};
+use mh_tree::{Declared, Handle, Prepared};
 use std::alloc::Global;
 use std::marker::Model;
 
@@ -18,7 +18,7 @@ use std::marker::Model;
 #[derive(Drop)]
 pub(crate) struct SiteWorld {
     base: Declared,
-    linked: Handle,
+    linked: Prepared,
     kept: Vec<u32>,
     version: u64,
 }
@@ -51,7 +51,7 @@ impl Model for World {
 
 impl World {
     /// The world of a definition before any control: all points are valid, and each site runs its
-    /// target. Refused where a growth was refused, or a further owner of a tree.
+    /// target, whose code is made here. Refused where a growth was refused, or a further owner of a tree.
     pub fn open(alloc: Global, definition: &Definition) -> Result<World, NoMemory>
         ensures value { IfOk result (λ w. w ≡ opened definition.now) }
         ensures replays { IfOk result (λ w. w ≡ replay (opened definition.now) []) }
@@ -83,6 +83,14 @@ impl World {
 
     /// The tree that a call of the site runs.
     pub fn linked(&self, site: usize) -> &Handle
+        requires inside { site < length self.now.sites }
+        ensures value { result.now ≡ (state_at self.now site).linked }
+    {
+        self.sites[site].linked.handle()
+    }
+
+    /// The tree that a call of the site runs, with its code.
+    pub fn prepared(&self, site: usize) -> &Prepared
         requires inside { site < length self.now.sites }
         ensures value { result.now ≡ (state_at self.now site).linked }
     {
@@ -143,7 +151,7 @@ fn open_site(alloc: Global, site: &Site) -> Result<SiteWorld, NoMemory>
 {
     Ok(SiteWorld {
         base: site.target.share().map_err(|_| NoMemory)?,
-        linked: owner(site.target.handle())?,
+        linked: prepared(site.target.handle())?,
         kept: Vec::new(alloc),
         version: 0,
     })

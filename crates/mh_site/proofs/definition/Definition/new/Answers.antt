@@ -3,6 +3,7 @@ use Rattle.mh_site.specs.declared.point.Point.{Point}
 use Rattle.mh_site.specs.declared.site.Site.{Site}
 use Rattle.mh_site.specs.Definitions.{definition_fault, site_in_order}
 use Rattle.mh_site.specs.Lawful.{IsDefinition}
+use Rattle.mh_site.specs.Links.{AreNumbers}
 use Rattle.mh_site.proofs.Lawful.{lawful}
 use Rattle.mh_site.proofs.definition.Definition.new.Goals as goal
 
@@ -15,5 +16,9 @@ made ps tested ss others kept h same alike e =
 
 pub invariant_of-result : goal.invariant_of-result
 invariant_of-result c =
-    made c.args.points _ c.args.sites _ _ c.in_ok-test.ensures.value c.as_slice.ensures.value c.as_slice-2.ensures.value
-    (c.from_vec-sites.ensures.value ∙ (c.order_sites.ensures.value ∙ ap (map site_in_order) c.into_vec-sites.ensures.value))
+    let same = c.from_vec-sites.ensures.value in
+    record {
+      lawful = made c.args.points _ c.args.sites _ _ c.in_ok-test.ensures.value c.as_slice.ensures.value c.as_slice-2.ensures.value
+          (same ∙ (c.order_sites.ensures.value ∙ ap (map site_in_order) c.into_vec-sites.ensures.value));
+      numbers = subst (λ (ss : List Site). AreNumbers ss c.in_ok-numbering.numbering.firsts.items c.in_ok-numbering.numbering.homes.items) (c.deref.ensures.value ∙ sym same) c.in_ok-numbering.ensures.value;
+    }
