@@ -18,7 +18,7 @@ fn main(rt: HostRuntime) -> anyhow::Result<()> {
     let cases = table.as_array().context("the table is no list")?;
     for value in cases.as_slice() {
         let case = Case::read(alloc, value)?;
-        let wrong = Ran::of(alloc, &case).differs_from(&case);
+        let wrong = Ran::of(&rt, alloc, &case).differs_from(&case);
         println!(rt; "{} {}", wrong.unwrap_or("holds"), case.id)?;
     }
     println!(rt; "{} cases", cases.len())?;

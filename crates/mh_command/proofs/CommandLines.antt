@@ -1,55 +1,61 @@
 -- What words are taken for.
 use Rattle.std.proofs.Common.{◌≡◌, ◌⊎◌, inl, inr, ◌∙◌, sym, ap, subst, refl, ◌&&◌, ℕ, List, [], ◌∷◌, Option, Some, None, true, codes, option_map, IfOk}
-use Rattle.std.specs.Box.{box_value}
 use Rattle.clap.specs.Simple.{built, entered, names_of}
 use Rattle.clap.specs.Faults.{built_fault}
 use Rattle.clap.specs.Takes.{built_takes}
 use Rattle.clap.specs.Walk.{nothing_held, stop_after}
-use Rattle.clap.specs.Words.{HasKind, HasMatchesOf, Row, Text, app_of, fault_of, is_simple, is_simple_and_free, kind_of, subcommand_name_of, subcommand_of, subcommand_rows, subcommand_rows_of, takes}
+use Rattle.clap.specs.Words.{HasKind, HasMatchesOf, Row, Text, app_of, fault_of, is_simple, is_simple_and_free, kind_of, subcommand_of, subcommand_rows_of, takes}
 use Rattle.clap.specs.declared.builder.command.Command.{Command}
 use Rattle.clap.specs.declared.error.Error.{Error}
 use Rattle.clap.specs.declared.error.kind.ErrorKind.{ErrorKind}
 use Rattle.clap.specs.declared.error.kind.ErrorKind.TheVariants.{DisplayHelp, DisplayVersion, OutOfMemory}
 use Rattle.clap.specs.declared.parser.matches.ArgMatches.{ArgMatches}
-use Rattle.clap.specs.declared.parser.matches.ArgMatches.TheViews.{out-ArgMatches, out-SubCommand}
+use Rattle.clap.specs.declared.parser.matches.ArgMatches.TheViews.{out-ArgMatches}
 use Rattle.clap.proofs.OnLiterals.{clap_on_literals}
-use Rattle.mh_command.specs.CommandLine.{program, word_of, AsksFor, AsksHelp, AsksVersion}
+use Rattle.mh_command.specs.CommandLine.{program, AsksFor, AsksHelp, AsksVersion, IsNamed}
 use Rattle.mh_command.specs.declared.request.Request.{Request}
-use Rattle.mh_command.specs.declared.request.Request.TheVariants.{Run, Check}
+use Rattle.mh_command.specs.declared.request.Request.TheVariants.{Run, Check, Plan}
 
 is_plain : is_simple program ≡ true
 unfolding clap_on_literals
 is_plain = refl
 
--- the words of a subcommand are taken
-taken_words : (request : Request) → is_simple program && built_takes (built program) nothing_held (word_of request ∷ []) ≡ true
+-- the words of `run` and `check` are taken
+taken_run : is_simple program && built_takes (built program) nothing_held (codes "run" ∷ []) ≡ true
 unfolding clap_on_literals
-taken_words Run = refl
-taken_words Check = refl
+taken_run = refl
+
+taken_check : is_simple program && built_takes (built program) nothing_held (codes "check" ∷ []) ≡ true
+unfolding clap_on_literals
+taken_check = refl
 
 pub is_taken : (request : Request) (words : List (List ℕ)) → AsksFor request words → takes program words ≡ true
-is_taken request words is = subst (λ after. is_simple program && built_takes (built program) nothing_held after ≡ true) (sym is) (taken_words request)
+is_taken Run words is = subst (λ after. is_simple program && built_takes (built program) nothing_held after ≡ true) (sym is) taken_run
+is_taken Check words is = subst (λ after. is_simple program && built_takes (built program) nothing_held after ≡ true) (sym is) taken_check
+is_taken (Plan options) words is = is.0
 
-abbrev name_in : Option (Text × List Row) → Option Text
-name_in = option_map (λ p. p.0)
+abbrev entered_by : List (List ℕ) → Option (Text × List Row)
+entered_by after = entered (built program) (stop_after (built program).top.rules (names_of (built program)) after)
 
-abbrev name_entered : List (List ℕ) → Option Text
-name_entered after = name_in (entered (built program) (stop_after (built program).top.rules (names_of (built program)) after))
-
-word_entered : (request : Request) → name_entered (word_of request ∷ []) ≡ Some (word_of request)
+named_run : IsNamed Run (entered_by (codes "run" ∷ []))
 unfolding clap_on_literals
-word_entered Run = refl
-word_entered Check = refl
+named_run = refl
 
-name_in_rows : (m : ArgMatches) → subcommand_name_of m ≡ name_in (subcommand_rows_of m)
-name_in_rows m = elim (out-ArgMatches m).subcommand as (λ o. option_map (λ b. (out-SubCommand (box_value b)).name.now) o ≡ name_in (subcommand_rows o)) [ None ↦ refl | Some b ↦ refl ]
+named_check : IsNamed Check (entered_by (codes "check" ∷ []))
+unfolding clap_on_literals
+named_check = refl
+
+is_named : (request : Request) (words : List (List ℕ)) → AsksFor request words → IsNamed request (subcommand_of program words)
+is_named Run words is = subst (λ after. IsNamed Run (entered_by after)) (sym is) named_run
+is_named Check words is = subst (λ after. IsNamed Check (entered_by after)) (sym is) named_check
+is_named (Plan options) words is = is.1
 
 module _ (c : Command) (words : List (List ℕ)) (made : app_of c ≡ program) where
   -- matches of these words are those of the subcommand
-  pub is_matched : (m : ArgMatches) → HasMatchesOf (app_of c) words m → (request : Request) → AsksFor request words → subcommand_name_of m ≡ Some (word_of request)
+  pub is_matched : (m : ArgMatches) → HasMatchesOf (app_of c) words m → (request : Request) → AsksFor request words → IsNamed request (subcommand_rows_of m)
   is_matched m has request is =
       let rows : subcommand_rows_of m ≡ subcommand_of (app_of c) words = (has (ap is_simple made ∙ is_plain)).1 in
-      name_in_rows m ∙ ap name_in (rows ∙ ap (λ a. subcommand_of a words) made) ∙ subst (λ after. name_entered after ≡ Some (word_of request)) (sym is) (word_entered request)
+      subst (IsNamed request) (sym (rows ∙ ap (λ a. subcommand_of a words) made)) (is_named request words is)
 
 is_free : is_simple_and_free program ≡ true
 unfolding clap_on_literals

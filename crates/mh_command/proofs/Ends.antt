@@ -6,6 +6,7 @@ use Rattle.mh_core.specs.Legal.{MachineState}
 use Rattle.mh_core.specs.declared.event.Event.{Event}
 use Rattle.mh_text.specs.Bytes.{HasFailed, one_more}
 use Rattle.mh_text.specs.Checks.{FailsCheck}
+use Rattle.mh_text.specs.Planning.{FailsPlan}
 use Rattle.mh_text.specs.Faults.{fault_line}
 use Rattle.mh_text.specs.Gives.{IsEndOf}
 use Rattle.mh_text.specs.Lines.{lines_of}
@@ -19,7 +20,7 @@ use Rattle.mh_command.specs.Answers.{Answer, Answers, EndsIn, FailsIn, IsAnswerT
 use Rattle.mh_command.specs.Statuses.{status_told}
 use Rattle.mh_command.specs.Streams.{IsDone, IsKeptBack, IsTold}
 use Rattle.mh_command.specs.declared.request.Request.{Request}
-use Rattle.mh_command.specs.declared.request.Request.TheVariants.{Run, Check}
+use Rattle.mh_command.specs.declared.request.Request.TheVariants.{Run, Check, Plan}
 
 pub one_more_fails : (n : ℕ) → HasFailed n (one_more n)
 one_more_fails n = omega arith
@@ -33,6 +34,7 @@ nothing_appended (Some xs) (Some ys) kept = kept ∙ sym (append-nil xs)
 pub nothing_done : (request : Request) (input old : Option (List ℕ)) (A B : Type 0) → FailsIn request input old old A B (outside NoMemory)
 nothing_done Run input old A B = inl (Keeps-refl old, inl refl)
 nothing_done Check input old A B = inl (Keeps-refl old, inl refl)
+nothing_done (Plan options) input old A B = inl (Keeps-refl old, inl refl)
 
 -- the statuses of faults
 pub told_range : (k : TextFault) → (0 < status_told k) × (status_told k ≤ 4) × (status_told k ≢ 2)
@@ -81,6 +83,9 @@ module _ (old mid new : Option (List ℕ)) (kept : Keeps mid new) where
   fails_kept Check input A B e (inl (same, unread)) = inl (Keeps-trans old mid new same kept, unread)
   fails_kept Check input A B e (inr (verdict, found, (is, failed, (front, rest, split, begun)))) =
       inr (verdict, found, (is, failed, (front, rest, split, Appends-kept old mid new front begun kept)))
+  fails_kept (Plan options) input A B e (inl (same, unread)) = inl (Keeps-trans old mid new same kept, unread)
+  fails_kept (Plan options) input A B e (inr (text, planned, (is, failed, (front, rest, split, begun)))) =
+      inr (text, planned, (is, failed, (front, rest, split, Appends-kept old mid new front begun kept)))
 
   works_kept : (request : Request) (input : Option (List ℕ)) (status : ℕ) → Works request input old mid status → Works request input old new status
   works_kept request None status known = known
@@ -110,6 +115,10 @@ module _ (old new : Option (List ℕ)) (A B : Type 0) (e : Fault) (small : statu
   refuses_input Check (Some bytes) (inl (kept, inr (inl (read, failed)))) = absurd (not_outside ReadFailed (omega arith) read)
   refuses_input Check (Some bytes) (inl (kept, inr (inr fault))) = (inr (e, fault, refl), kept)
   refuses_input Check (Some bytes) (inr (verdict, found, (is, failed, begun))) = absurd (not_outside WriteFailed (omega arith) is)
+  refuses_input (Plan options) (Some bytes) (inl (kept, inl memory)) = absurd (not_outside NoMemory (omega arith) memory)
+  refuses_input (Plan options) (Some bytes) (inl (kept, inr (inl (read, failed)))) = absurd (not_outside ReadFailed (omega arith) read)
+  refuses_input (Plan options) (Some bytes) (inl (kept, inr (inr fault))) = (inr (e, fault, refl), kept)
+  refuses_input (Plan options) (Some bytes) (inr (text, planned, (is, failed, begun))) = absurd (not_outside WriteFailed (omega arith) is)
 
 -- The work of a request from the output o to m, a flush to n, and what is told from the errors e to f.
 -- The numbers are the failures of the output and of the errors.

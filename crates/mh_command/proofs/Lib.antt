@@ -1,2 +1,3 @@
 mod CommandLines
 mod Ends
+mod Options

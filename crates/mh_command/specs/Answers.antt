@@ -9,6 +9,8 @@ use Rattle.mh_text.specs.Faults.{fault_line}
 use Rattle.mh_text.specs.Lines.{lines_of}
 use Rattle.mh_text.specs.Output.{script_of_input, first, outside, IsScriptFault, Failed}
 use Rattle.mh_text.specs.declared.fault.Fault.{Fault}
+use Rattle.mh_text.specs.Planning.{IsPlanned, IsProblemFault, FailsPlan}
+use Rattle.mh_text.specs.declared.planning.PlanOptions.{PlanOptions}
 use Rattle.mh_text.specs.declared.script.Script.{Script}
 use Rattle.mh_text.specs.declared.verdict.Verdict.{Verdict}
 use Rattle.mh_text.specs.declared.fault.TextFault.TheVariants.{WriteFailed}
@@ -42,10 +44,17 @@ IsCheckAnswer input answer =
     ((verdict : Verdict) × IsVerdict input verdict × (answer ≡ output_alone (status_found verdict) (verdict_line verdict)))
     ⊎ ((e : Fault) × IsClaimFault input e × (answer ≡ turned_down e))
 
+-- a problem: the lines of a best plan; else the first fault
+abbrev pub IsPlanAnswer : PlanOptions → List ℕ → Answer → Type 0
+IsPlanAnswer options input answer =
+    ((text : List ℕ) × IsPlanned options input text × (answer ≡ output_alone 0 text))
+    ⊎ ((e : Fault) × IsProblemFault input e × (answer ≡ turned_down e))
+
 -- what a request is answered with where no stream fails and memory is to be had
 abbrev pub IsAnswerTo : Request → List ℕ → Answer → Type 0
 IsAnswerTo request.Run = IsRunAnswer
 IsAnswerTo request.Check = IsCheckAnswer
+IsAnswerTo (request.Plan options) = IsPlanAnswer options
 
 -- The status is that of such an answer to the input, and its texts were appended to both streams.
 abbrev pub Answers : Request → Option (List ℕ) → ℕ → Option (List ℕ) → Option (List ℕ) → Option (List ℕ) → Option (List ℕ) → Type 0
@@ -66,6 +75,7 @@ Works request input old new status =
 abbrev pub FailsIn : Request → Option (List ℕ) → Option (List ℕ) → Option (List ℕ) → Type 0 → Type 0 → Fault → Type 0
 FailsIn request.Run = Failed
 FailsIn request.Check = FailsCheck
+FailsIn (request.Plan options) = FailsPlan options
 
 -- A request ends in a fault: its own, or that of the last flush, and the whole answer is then written.
 abbrev pub EndsIn : Request → Option (List ℕ) → Option (List ℕ) → Option (List ℕ) → Type 0 → Type 0 → Fault → Type 0

@@ -1,28 +1,75 @@
 -- The words of a command line.
-use Rattle.std.specs.Prelude.{◌≡◌, ◌⊎◌, ℕ, List, [], ◌∷◌, drop, codes, true}
+use Rattle.std.specs.Prelude.{◌≡◌, ◌⊎◌, ◌<◌, ◌≤◌, ℕ, Bool, List, [], ◌∷◌, drop, codes, true, false, Option, Some, None, pos, ⊤}
+use Rattle.std.specs.Str.Parse.{IsNumeral, digits_value, without_leading_plus, true_text, false_text}
 use Rattle.clap.specs.Simple.{on_top}
-use Rattle.clap.specs.Words.{App, new_app, with_subcommand}
+use Rattle.clap.specs.Words.{App, Row, Rule, new_app, new_rule, one_of, subcommand_of, takes, with_rule, with_subcommand}
+use Rattle.clap.specs.declared.builder.action.ArgAction.TheVariants.{SetTrue}
+use Rattle.clap.specs.declared.builder.value_parser.ValueParser.TheVariants.{Signed}
 use Rattle.clap.specs.declared.error.kind.ErrorKind.{ErrorKind}
+use Rattle.mh_text.specs.declared.planning.PlanOptions.{PlanOptions}
 use Rattle.mh_command.specs.Statuses.{status_answered}
 use Rattle.mh_command.specs.declared.request.Request.{Request}
-use Rattle.mh_command.specs.declared.request.Request.TheVariants.{Run, Check}
+use Rattle.mh_command.specs.declared.request.Request.TheVariants.{Run, Check, Plan}
 
 -- the program before its subcommands: it has a version, and one of its subcommands is required
 abbrev pub root_app : App
 root_app = on_top (λ s. record s { has_version = true; subcommand_required = true }) (new_app (codes "mhlink"))
 
+-- `--workers N`, N from 1 to 64, and 1 where it is not given
+abbrev pub workers_rule : Rule
+workers_rule = record (new_rule (codes "workers")) {
+  long = Some (codes "workers");
+  value_names = 1;
+  defaults = codes "1" ∷ [];
+  parser = Some (Signed (pos 1) (pos 64));
+}
+
+-- a word that is there or not
+abbrev pub flag_rule : List ℕ → Rule
+flag_rule name = record (new_rule name) { long = Some name; action = Some SetTrue }
+
+abbrev pub plan_app : App
+plan_app = with_rule (with_rule (with_rule (new_app (codes "plan")) workers_rule) (flag_rule (codes "certificate"))) (flag_rule (codes "phases"))
+
 -- the program
 abbrev pub program : App
-program = with_subcommand (with_subcommand root_app (new_app (codes "run")).top) (new_app (codes "check")).top
+program = with_subcommand (with_subcommand (with_subcommand root_app (new_app (codes "run")).top) (new_app (codes "check")).top) plan_app.top
 
--- the subcommand of a request
-abbrev pub word_of : Request → List ℕ
-word_of Run = codes "run"
-word_of Check = codes "check"
+-- there are from 1 to 64 workers
+abbrev pub HasWorkers : Request → Type 0
+HasWorkers (Plan options) = (0 < options.workers) × (options.workers ≤ 64)
+HasWorkers _ = ⊤
 
--- the words, the program's name first, are those of this request, as `mhlink run`
+-- a text is a number in decimal digits
+abbrev pub IsNumber : Option (List ℕ) → ℕ → Type 0
+IsNumber (Some text) n = IsNumeral 10 (without_leading_plus text) × (digits_value 10 (without_leading_plus text) ≡ n)
+IsNumber None n = ⊥
+
+abbrev pub truth_text : Bool → List ℕ
+truth_text true = true_text
+truth_text false = false_text
+
+-- what was found after `plan` says these options
+pub record AreOptions (options : PlanOptions) (rows : List Row) : Type 0 where
+  pub workers : IsNumber (one_of (codes "workers") rows) options.workers
+  pub some : 0 < options.workers
+  pub few : options.workers ≤ 64
+  pub certificate : one_of (codes "certificate") rows ≡ Some (truth_text options.certificate)
+  pub phases : one_of (codes "phases") rows ≡ Some (truth_text options.phases)
+
+-- the subcommand of a request, with what was found after it
+abbrev pub IsNamed : Request → Option (List ℕ × List Row) → Type 0
+IsNamed Run (Some (name, rows)) = name ≡ codes "run"
+IsNamed Check (Some (name, rows)) = name ≡ codes "check"
+IsNamed (Plan options) (Some (name, rows)) = (name ≡ codes "plan") × AreOptions options rows
+IsNamed request None = ⊥
+
+-- The words, the program's name first, are those of this request: `mhlink run`; or, in any order that clap takes,
+-- `mhlink plan --workers 2 --certificate`.
 abbrev pub AsksFor : Request → List (List ℕ) → Type 0
-AsksFor request words = drop 1 words ≡ word_of request ∷ []
+AsksFor Run words = drop 1 words ≡ codes "run" ∷ []
+AsksFor Check words = drop 1 words ≡ codes "check" ∷ []
+AsksFor (Plan options) words = (takes program words ≡ true) × IsNamed (Plan options) (subcommand_of program words)
 
 -- those of `mhlink --help`, or of `mhlink -h`
 abbrev pub AsksHelp : List (List ℕ) → Type 0

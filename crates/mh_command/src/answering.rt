@@ -8,24 +8,27 @@ ghost use Rattle.mh_text.specs.Gives.{IsEndOf};
 ghost use Rattle.mh_text.specs.Output.{outside};
 ghost use Rattle.mh_text.specs.declared.fault.TextFault.TheVariants.{WriteFailed};
 ghost use Rattle.mh_command.specs.Answers.{Works, FailsIn};
-ghost use Rattle.mh_command.specs.CommandLine.{IsReply};
+ghost use Rattle.mh_command.specs.CommandLine.{HasWorkers, IsReply};
 ghost use Rattle.mh_command.specs.Streams.{IsTold, IsShown, IsDone};
 
 use crate::request::Request;
 use crate::status::{COMMAND_LINE, DONE, IO_FAILED, NO_MEMORY, status_of_fault, status_of_verdict};
 use clap::Error;
 use clap::error::ErrorKind;
-use mh_text::{Fault, TextFault, Watched, check_bytes, run_bytes};
+use mh_text::{Fault, TextFault, Watched, check_bytes, plan_bytes, run_bytes};
 use std::alloc::Global;
 use std::io::{Read, Write};
+use std::thread::Threads;
 
 /// Does what the request asks, up to the last flush, and gives its status.
-pub(crate) fn work<R: Read, W: Write>(
+pub(crate) fn work<T: Threads + Sync, R: Read, W: Write>(
+    rt: &T,
     alloc: Global,
     request: Request,
     reader: &mut Watched<R>,
     out: &mut Watched<W>,
 ) -> Result<u8, Fault>
+    requires workers { HasWorkers request }
     ensures works { IfOk result (Works request (R.remaining reader.old.inner)
         (W.contents out.old.inner) (W.contents out.new.inner)) }
     ensures small { IfOk result (λ status. status < 2) }
@@ -45,6 +48,10 @@ pub(crate) fn work<R: Read, W: Write>(
         Request::Check => {
             let verdict = check_bytes(alloc, reader, out)?;
             Ok(status_of_verdict(verdict))
+        }
+        Request::Plan(options) => {
+            plan_bytes(rt, alloc, options, reader, out)?;
+            Ok(DONE)
         }
     }
 }

@@ -6,7 +6,7 @@ ghost use Rattle.std.specs.Io.KnownBytes.{Keeps};
 ghost use Rattle.mh_text.specs.Bytes.{HasFailed};
 ghost use Rattle.mh_text.specs.declared.fault.Fault.{Fault};
 ghost use Rattle.mh_command.specs.Answers.{Answers, EndsIn, IsTurnedDown};
-ghost use Rattle.mh_command.specs.CommandLine.{program, AsksFor, AsksHelp, AsksVersion, IsReply};
+ghost use Rattle.mh_command.specs.CommandLine.{program, AsksFor, AsksHelp, AsksVersion, HasWorkers, IsReply};
 ghost use Rattle.mh_command.specs.Streams.{IsTold};
 ghost use Rattle.mh_command.specs.declared.request.Request.{Request};
 
@@ -17,15 +17,18 @@ use mh_text::Watched;
 use std::alloc::Global;
 use std::convert::AsStr;
 use std::io::{Read, Write};
+use std::thread::Threads;
 
 /// Does what is asked, and gives the status.
-fn perform<R: Read, W: Write, E: Write>(
+fn perform<T: Threads + Sync, R: Read, W: Write, E: Write>(
+    rt: &T,
     alloc: Global,
     request: Request,
     reader: &mut Watched<R>,
     out: &mut Watched<W>,
     err: &mut Watched<E>,
 ) -> u8
+    requires workers { HasWorkers request }
     ensures known { result ≤ 4 }
     ensures asked { result ≢ 2 }
     ensures answers { result < 2 → Answers request (R.remaining reader.old.inner) result
@@ -41,18 +44,20 @@ fn perform<R: Read, W: Write, E: Write>(
         × (reader.new.failures ≡ reader.old.failures) × (out.new.failures ≡ out.old.failures)
         × (err.new.failures ≡ err.old.failures) }
 {
-    let worked = work(alloc, request, reader, out);
+    let worked = work(rt, alloc, request, reader, out);
     end(alloc, worked, out, err)
 }
 
 /// Runs one command line, of which the first word is the program's name, and answers the status.
 ///
 /// `mhlink run` reads a script from `reader`, and writes the line of each reply to `out`. `mhlink
-/// check` reads a problem and a plan, and writes to `out` whether the plan is accepted. A fault is
-/// one line on `err`. The statuses: 0 done, also help and the version, which go to `out`; 1 the input
+/// check` reads a problem and a plan, and writes to `out` whether the plan is accepted. `mhlink plan`
+/// reads a problem, and writes its best plan to `out`; it takes `--workers N`, N from 1 to 64,
+/// `--certificate` and `--phases`, and starts threads by `rt`. A fault is one line on `err`. The statuses: 0 done, also help and the version, which go to `out`; 1 the input
 /// is refused, or its plan; 2 the command line is wrong, and nothing is read; 3 a read, a write or a
 /// flush failed; 4 memory ran out outside an event.
-pub fn command<S: AsStr, R: Read, W: Write, E: Write>(
+pub fn command<T: Threads + Sync, S: AsStr, R: Read, W: Write, E: Write>(
+    rt: &T,
     alloc: Global,
     words: &[S],
     reader: &mut Watched<R>,
@@ -84,7 +89,7 @@ pub fn command<S: AsStr, R: Read, W: Write, E: Write>(
         → IsReply result ErrorKind.DisplayVersion × (reader.new ≡ reader.old) }
 {
     match parse(alloc, words) {
-        Ok(Some(request)) => perform(alloc, request, reader, out, err),
+        Ok(Some(request)) => perform(rt, alloc, request, reader, out, err),
         Ok(None) => COMMAND_LINE,
         Err(error) => reply(alloc, &error, out, err),
     }

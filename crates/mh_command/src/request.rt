@@ -1,11 +1,12 @@
 //! What a command line asks for.
-ghost use Rattle.std.specs.Prelude.{◌≡◌, ◌⊎◌, [], ◌∷◌, false, Some, OnOk, IfOk, IfErr, codes, map};
-ghost use Rattle.clap.specs.Words.{app_of, fault_of, kind_of, new_app, subcommand_name_of};
+ghost use Rattle.std.specs.Prelude.{◌≡◌, ◌<◌, ◌≤◌, ◌⊎◌, [], ◌∷◌, false, Some, OnOk, IfOk, IfErr, IfSome, codes, map};
+ghost use Rattle.clap.specs.Words.{app_of, fault_of, found_of, kind_of, new_app, rows_of, rule_of, subcommand_rows_of, with_rule};
 ghost use Rattle.clap.specs.declared.builder.command.Command.TheViews.{out-Command};
 ghost use Rattle.clap.specs.declared.error.kind.ErrorKind.{ErrorKind};
-ghost use Rattle.mh_command.specs.CommandLine.{root_app, program, word_of, AsksFor};
+ghost use Rattle.mh_command.specs.CommandLine.{root_app, plan_app, program, workers_rule, flag_rule, AreOptions, AsksFor, HasWorkers, IsNamed};
 
-use clap::{ArgMatches, Command, Error};
+use clap::{Arg, ArgAction, ArgMatches, Command, Error, value_parser};
+use mh_text::PlanOptions;
 use std::alloc::{AllocError, Global};
 use std::convert::AsStr;
 
@@ -16,6 +17,8 @@ pub enum Request {
     Run,
     /// `mhlink check`: whether a plan is best for its problem.
     Check,
+    /// `mhlink plan`: the best plan of a problem.
+    Plan(PlanOptions),
 }
 
 /// What `mhlink --help` ends with.
@@ -23,6 +26,7 @@ const AFTER_HELP: &str = "\
 Examples:
   mhlink run < examples/first-calls.json
   mhlink check < examples/check-shared-point.json
+  mhlink plan --certificate < examples/plan-shared-point.json
 
 Statuses: 0 done, 1 the input or its plan is refused, 2 the command line is wrong,
 3 a read or a write failed, 4 memory ran out.
@@ -45,6 +49,14 @@ Reads a JSON object with a problem and a plan from standard input, and writes
 Example:
   mhlink check < examples/check-shared-point.json";
 
+/// What `mhlink plan --help` ends with.
+const AFTER_PLAN: &str = "\
+Reads a problem from standard input, a JSON object with costs and links, and writes the
+line of its plan: links, points, value, and the sum of the flow that shows it to be best.
+
+Example:
+  mhlink plan --workers 4 --certificate < examples/plan-shared-point.json";
+
 fn run_command<'a>(alloc: Global) -> Command<'a>
     ensures app { app_of result ≡ new_app (codes "run") }
     ensures local { (out-Command result).has_globals ≡ false }
@@ -61,6 +73,62 @@ fn check_command<'a>(alloc: Global) -> Command<'a>
     Command::new(alloc, "check")
         .about("Checks the plan on standard input beside its problem")
         .after_help(AFTER_CHECK)
+}
+
+/// The command line with one option more.
+fn with_option<'a>(command: Command<'a>, option: Arg<'a>) -> Result<Command<'a>, AllocError>
+    requires own { option.global ≡ false }
+    ensures app { IfOk result (λ c. app_of c ≡ with_rule (app_of command.entry) (rule_of option.entry)) }
+    ensures local { IfOk result (λ c. (out-Command c).has_globals ≡ (out-Command command.entry).has_globals) }
+{
+    command.arg(option)
+}
+
+/// How many workers plan.
+fn workers_option<'a>(alloc: Global) -> Arg<'a>
+    ensures rule { rule_of result ≡ workers_rule }
+    ensures own { result.global ≡ false }
+{
+    Arg::new(alloc, "workers")
+        .long("workers")
+        .value_name("N")
+        .default_value("1")
+        .value_parser(value_parser!(u8).range(1..=64))
+        .help("How many workers plan, from 1 to 64")
+}
+
+/// Something more that is written.
+fn flag<'a>(alloc: Global, name: &'a str, help: &'a str) -> Arg<'a>
+    ensures rule { rule_of result ≡ flag_rule name.entry.now }
+    ensures own { result.global ≡ false }
+{
+    Arg::new(alloc, name)
+        .long(name)
+        .action(ArgAction::SetTrue)
+        .help(help)
+}
+
+fn plan_command<'a>(alloc: Global) -> Result<Command<'a>, AllocError>
+    ensures app { IfOk result (λ c. app_of c ≡ plan_app) }
+    ensures local { IfOk result (λ c. (out-Command c).has_globals ≡ false) }
+{
+    let command = Command::new(alloc, "plan")
+        .about("Plans the problem on standard input, and writes the line of its plan")
+        .after_help(AFTER_PLAN);
+    let certificate = flag(
+        alloc,
+        "certificate",
+        "Writes the plan as JSON too, with its flow",
+    );
+    let phases = flag(
+        alloc,
+        "phases",
+        "Writes how many phases the flow took, and their bound",
+    );
+    let command = with_option(command, workers_option(alloc))?;
+    let command = with_option(command, certificate)?;
+    let command = with_option(command, phases)?;
+    Ok(command)
 }
 
 /// The program before its subcommands.
@@ -80,17 +148,37 @@ fn build<'a>(alloc: Global) -> Result<Command<'a>, AllocError>
 {
     root_command(alloc)
         .subcommand(run_command(alloc))?
-        .subcommand(check_command(alloc))
+        .subcommand(check_command(alloc))?
+        .subcommand(plan_command(alloc)?)
+}
+
+/// The options of the words after `plan`; none where there are not from 1 to 64 workers, which clap
+/// refuses itself.
+fn options_of(matches: &ArgMatches) -> Option<PlanOptions>
+    ensures value { (options : PlanOptions) → AreOptions options (rows_of (found_of matches.now)) → result ≡ Some options }
+    ensures some { IfSome result (λ options. 0 < options.workers) }
+    ensures few { IfSome result (λ options. options.workers ≤ 64) }
+{
+    let workers = matches.get_one::<u8>("workers")?;
+    if workers == 0 || workers > 64 {
+        return None;
+    }
+    Some(PlanOptions {
+        workers: usize::from(workers),
+        certificate: matches.get_flag("certificate"),
+        phases: matches.get_flag("phases"),
+    })
 }
 
 /// The request of the subcommand that was used; none where none was, which clap refuses itself.
 fn request_of(matches: &ArgMatches) -> Option<Request>
-    ensures value { (request : Request) → subcommand_name_of matches.now ≡ Some (word_of request)
-        → result ≡ Some request }
+    ensures value { (request : Request) → IsNamed request (subcommand_rows_of matches.now) → result ≡ Some request }
+    ensures bounded { IfSome result HasWorkers }
 {
-    match matches.subcommand_name() {
-        Some("run") => Some(Request::Run),
-        Some("check") => Some(Request::Check),
+    match matches.subcommand()? {
+        ("run", _) => Some(Request::Run),
+        ("check", _) => Some(Request::Check),
+        ("plan", options) => Some(Request::Plan(options_of(options)?)),
         _ => None,
     }
 }
@@ -99,6 +187,7 @@ fn request_of(matches: &ArgMatches) -> Option<Request>
 pub(crate) fn parse<S: AsStr>(alloc: Global, words: &[S]) -> Result<Option<Request>, Error>
     ensures asked { IfOk result (λ asked. (request : Request) → AsksFor request (map S.text words.now)
         → asked ≡ Some request) }
+    ensures bounded { IfOk result (λ asked. IfSome asked HasWorkers) }
     ensures taken { IfErr result (λ e. (request : Request) → AsksFor request (map S.text words.now)
         → kind_of e ≡ ErrorKind.OutOfMemory) }
     ensures kinds { (kind : ErrorKind) → fault_of program (map S.text words.now) ≡ kind ∷ []

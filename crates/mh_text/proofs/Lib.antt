@@ -3,6 +3,8 @@ pub mod Forms
 pub mod Loop
 pub mod NameLemmas
 pub mod OfInput
+pub mod PlanData
+pub mod ProblemInputs
 pub mod Problems
 pub mod Reached
 pub mod Runs

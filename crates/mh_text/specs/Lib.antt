@@ -5,6 +5,8 @@ pub mod Gives
 pub mod Lines
 pub mod Names
 pub mod Output
+pub mod PlanLines
+pub mod Planning
 pub mod Plans
 pub mod Problems
 pub mod Script

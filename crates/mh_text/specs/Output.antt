@@ -12,6 +12,7 @@ use Rattle.mh_text.specs.declared.fault.TextFault.TheVariants as fault
 use Rattle.mh_core.specs.declared.event.Event.{Event}
 use Rattle.mh_core.specs.declared.reply.Reply.{Reply}
 use Rattle.mh_text.specs.declared.script.Script.{Script}
+use Rattle.mh_text.specs.Bytes.{most_bytes}
 use Rattle.mh_text.specs.Gives.{◌>>=◌, or_fault, at_place}
 use Rattle.mh_text.specs.Lines.{line_of, lines_of}
 use Rattle.mh_core.specs.Legal.{MachineState, Run, opened_machine}
@@ -23,7 +24,7 @@ json_in input = if is_utf8 input then or_fault read_fault.NotJson (read input) e
 
 -- the JSON value of an input within the limit
 abbrev pub json_of_input : List ℕ → Result Data Fault
-json_of_input input = if nat_le (length input) 1048576 then at_place 0 (json_in input) else Err (record { kind = fault.TooLong; at = 0 })
+json_of_input input = if nat_le (length input) most_bytes then at_place 0 (json_in input) else Err (record { kind = fault.TooLong; at = 0 })
 
 -- the script of an input
 abbrev pub script_of_input : List ℕ → Result Script Fault

@@ -245,3 +245,11 @@ impl From<NoMemory> for Fault {
         }
     }
 }
+
+impl From<mh_network::NoMemory> for Fault {
+    ghost from_gives = { λ _ e. e ≡ record { kind = text.NoMemory; at = 0 } };
+
+    fn from(_e: mh_network::NoMemory) -> Fault {
+        Fault::from(TextFault::NoMemory)
+    }
+}

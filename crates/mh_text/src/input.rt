@@ -1,6 +1,6 @@
 //! The whole input.
 ghost use Rattle.std.specs.Prelude.{◌≡◌, ◌<◌, ◌≤◌, ◌⊎◌, length, IfOk, IfErr, OnOk, OnErr, IfSome, IsErrOf};
-ghost use Rattle.mh_text.specs.Bytes.{HasFailed};
+ghost use Rattle.mh_text.specs.Bytes.{HasFailed, most_bytes};
 ghost use Rattle.std.specs.Io.KnownBytes.{Consumes};
 
 use crate::fault::TextFault;
@@ -17,8 +17,8 @@ pub(crate) fn read_input<R: Read>(
     reader: &mut Watched<R>,
 ) -> Result<Vec<u8>, TextFault>
     ensures ok { IfOk result (λ input. IfSome (R.remaining reader.old.inner) (λ bytes. input.items ≡ bytes)) }
-    ensures short { IfOk result (λ input. length input.items ≤ 1048576) }
-    ensures long { IsErrOf result TextFault.TooLong → IfSome (R.remaining reader.old.inner) (λ bytes. 1048576 < length bytes) }
+    ensures short { IfOk result (λ input. length input.items ≤ most_bytes) }
+    ensures long { IsErrOf result TextFault.TooLong → IfSome (R.remaining reader.old.inner) (λ bytes. most_bytes < length bytes) }
     ensures kept { OnOk result (reader.new.failures ≡ reader.old.failures) }
     ensures failed { IsErrOf result TextFault.ReadFailed → HasFailed reader.old.failures reader.new.failures }
     ensures kinds { IfErr result (λ e. (e ≡ TextFault.NoMemory) ⊎ (e ≡ TextFault.TooLong) ⊎ (e ≡ TextFault.ReadFailed)) }

@@ -1,6 +1,7 @@
 //! Scripts, problems and plans from JSON, and the lines of what they give.
 #![tactic(auto)]
 
+mod certificate;
 mod check;
 mod claim;
 mod declarations;
@@ -14,6 +15,8 @@ mod lines;
 mod links;
 mod names;
 mod plan;
+mod plan_lines;
+mod planning;
 mod points;
 mod problem;
 mod run;
@@ -27,9 +30,12 @@ mod values;
 mod verdict;
 mod watched;
 
+pub use certificate::plan_json;
 pub use check::check_bytes;
 pub use fault::{Fault, TextFault};
 pub use plan::read_plan;
+pub use plan_lines::plan_line;
+pub use planning::{PlanOptions, plan_bytes};
 pub use problem::read_problem;
 pub use run::run_bytes;
 pub use script::{Script, read_script};

@@ -49,7 +49,7 @@ fn read_declarations(alloc: Global, value: &Value) -> Result<Declarations, ReadF
     let names = point_names(alloc, points.as_slice())?;
     let scope = read_scope(alloc, names, definition)?;
     let sites = read_sites(alloc, &scope, definition)?;
-    let definition = Definition::new(points, sites)?;
+    let definition = Definition::new(alloc, points, sites)?;
     let sites = site_names(alloc, definition.sites())?;
     Ok(Declarations {
         definition,

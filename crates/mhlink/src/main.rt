@@ -24,6 +24,13 @@ fn main(rt: HostRuntime) -> io::Result<ExitCode> {
     let mut reader = Watched::new(rt.stdin());
     let mut out = Watched::new(out);
     let mut err = Watched::new(rt.stderr());
-    let status = command(alloc, words.as_slice(), &mut reader, &mut out, &mut err);
+    let status = command(
+        &rt,
+        alloc,
+        words.as_slice(),
+        &mut reader,
+        &mut out,
+        &mut err,
+    );
     Ok(ExitCode::from(status))
 }

@@ -7,3 +7,8 @@ pub returns-in_err-schedule-clause-value : goal.returns-in_err-schedule-clause-v
 returns-in_err-schedule-clause-value c =
     let p = err_from_is_err_and c.from_residual-in_err-schedule.result c.from_residual-in_err-schedule.ensures.1 in
     rw (p.1, p.2) (script_fails (view c.args.value.now) c.in_ok-declared.declared _ c.in_ok-declared.ensures.value c.in_err-schedule.ensures.value)
+
+pub returns-in_err-schedule-clause-kind : goal.returns-in_err-schedule-clause-kind
+returns-in_err-schedule-clause-kind c =
+    let p = err_from_is_err_and c.from_residual-in_err-schedule.result c.from_residual-in_err-schedule.ensures.1 in
+    rw (p.1, p.2) c.in_err-schedule.ensures.kind

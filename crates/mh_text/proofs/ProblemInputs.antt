@@ -1,0 +1,42 @@
+-- A problem that was read is that of the input, or its first fault was told; and what is written of its plan.
+use Rattle.std.proofs.Common.{◌≡◌, ◌⊎◌, inl, inr, refl, sym, ap, ℕ, List, Option, Some, None, Result, Ok, Err, IfOk, IfErr, IfSome}
+use Rattle.std.specs.Io.KnownBytes.{Appends}
+use Rattle.mh_network.specs.Problems.{ProblemData}
+use Rattle.mh_text.specs.declared.fault.Fault.{Fault}
+use Rattle.mh_text.specs.declared.fault.TextFault.TheVariants.{NoMemory}
+use Rattle.mh_text.specs.declared.problem.ProblemRows.{ProblemRows}
+use Rattle.mh_text.specs.Output.{outside}
+use Rattle.mh_text.specs.declared.planning.PlanOptions.{PlanOptions}
+use Rattle.mh_text.specs.Planning.{IsProblemInput, IsProblemFault, IsPlanOf, IsPlanned}
+use Rattle.mh_text.specs.Problems.{rows_of_input, IsMade, IsNotMade, MakesProblem}
+
+made_of : (rows : Result ProblemRows Fault) (p : ProblemData) → MakesProblem rows (Ok p) → (r : ProblemRows) × (rows ≡ Ok r) × IsMade r p
+made_of (Ok rows) p made = (rows, refl, made)
+made_of (Err first) p made = absurd made
+
+fault_of : (rows : Result ProblemRows Fault) (e : Fault) → MakesProblem rows (Err e) → (e ≡ outside NoMemory) ⊎ ((rows ≡ Err e) ⊎ ((r : ProblemRows) × (rows ≡ Ok r) × IsNotMade r e))
+fault_of (Ok rows) e (inl memory) = inl memory
+fault_of (Ok rows) e (inr fails) = inr (inr (rows, refl, fails))
+fault_of (Err first) e (inl memory) = inl memory
+fault_of (Err first) e (inr same) = inr (inl (ap Err (sym same)))
+
+pub is_input : (input : List ℕ) (r : Result ProblemData Fault) → MakesProblem (rows_of_input None input) r → IfOk r (λ p. IsProblemInput input p)
+is_input input (Ok p) made = made_of (rows_of_input None input) p made
+is_input input (Err e) made = tt
+
+pub is_fault : (input : List ℕ) (r : Result ProblemData Fault) → MakesProblem (rows_of_input None input) r → IfErr r (λ e. (e ≡ outside NoMemory) ⊎ IsProblemFault input e)
+is_fault input (Ok p) made = tt
+is_fault input (Err e) made = fault_of (rows_of_input None input) e made
+
+-- the lines of a plan are those of the input's problem
+pub planned_in : (options : PlanOptions) (input : Option (List ℕ)) (p : ProblemData) (text : List ℕ)
+    → IfSome input (λ bytes. IsProblemInput bytes p) → IsPlanOf options p text → IfSome input (λ bytes. IsPlanned options bytes text)
+planned_in options None p text known plan = known
+planned_in options (Some bytes) p text is plan = (p, is, plan)
+
+-- and where they stand written, the answer does
+pub written_in : (options : PlanOptions) (input old new : Option (List ℕ)) (p : ProblemData) (text : List ℕ)
+    → IfSome input (λ bytes. IsProblemInput bytes p) → IsPlanOf options p text → Appends old new text
+    → IfSome input (λ bytes. (text : List ℕ) × IsPlanned options bytes text × Appends old new text)
+written_in options None old new p text known plan written = known
+written_in options (Some bytes) old new p text is plan written = (text, (p, is, plan), written)

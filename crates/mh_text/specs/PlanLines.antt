@@ -1,0 +1,54 @@
+-- The text of plans, and of how they were made.
+use Rattle.std.specs.Prelude.{ℕ, ◌+◌, ◌*◌, List, [], ◌∷◌, ◌++◌, codes, length, map}
+use Rattle.std.specs.Fmt.{decimal, signed_decimal}
+use Rattle.std.specs.List.{flat_map, sum_by}
+use Rattle.serde_json.specs.Data.{Data, number, array, object, unsigned, no_members, member}
+use Rattle.serde_json.specs.Find.{of_integer}
+use Rattle.serde_json.specs.View.{items_of}
+use Rattle.serde_json.specs.Written.{compact_text}
+use Rattle.mh_network.specs.Problems.{ProblemData}
+use Rattle.mh_network.specs.Selection.{Row, value_of}
+use Rattle.mh_cert.specs.declared.plan.Plan.{Plan}
+
+-- numbers with commas between them, and a dash where there is none
+abbrev pub numbers_text : List ℕ → List ℕ
+numbers_text [] = codes "-"
+numbers_text (n ∷ ns) = decimal n ++ flat_map (λ m. codes "," ++ decimal m) ns
+
+-- links and points by number
+abbrev pub chosen_text : Plan → List ℕ
+chosen_text plan = codes "links " ++ (numbers_text plan.links ++ (codes " points " ++ numbers_text plan.points))
+
+-- and the value; the flow is the sum of its amounts
+abbrev pub plan_text : Plan → List ℕ
+plan_text plan = chosen_text plan ++ (codes " value " ++ (signed_decimal plan.value ++ (codes " flow " ++ decimal (value_of plan.flow))))
+
+abbrev pub count_data : ℕ → Data
+count_data n = number (unsigned n)
+
+abbrev pub counts_data : List ℕ → Data
+counts_data ns = array (items_of (map count_data ns))
+
+-- link, point, amount
+abbrev pub row_data : Row → Data
+row_data r = counts_data (r.0 ∷ r.1 ∷ r.2 ∷ [])
+
+-- a plan as a JSON object
+abbrev pub plan_data : Plan → Data
+plan_data plan = object
+    (member (codes "flow") (array (items_of (map row_data plan.flow)))
+    (member (codes "links") (counts_data plan.links)
+    (member (codes "points") (counts_data plan.points)
+    (member (codes "value") (number (of_integer plan.value)) no_members))))
+
+-- its text without spaces
+abbrev pub plan_json : Plan → List ℕ
+plan_json plan = compact_text (plan_data plan)
+
+-- the links and points of each part, and 2, added up
+abbrev pub phases_bound : ProblemData → List ℕ → ℕ
+phases_bound P phases = length P.links + length P.costs + 2 * length phases
+
+-- the phases of all parts, and what bounds them
+abbrev pub phases_text : ProblemData → List ℕ → List ℕ
+phases_text P phases = codes "phases " ++ (decimal (sum_by (λ n. n) phases) ++ (codes " bound " ++ decimal (phases_bound P phases)))
