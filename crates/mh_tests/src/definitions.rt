@@ -48,7 +48,7 @@ fn two_points(alloc: Global) -> Result<Listing<Point>, Fail> {
 fn of_one_site(alloc: Global, site: Site) -> Result<Result<Definition, DefinitionFault>, Fail> {
     let mut sites = Vec::new(alloc);
     sites.push(site)?;
-    Ok(Definition::new(two_points(alloc)?, Listing::from_vec(sites)))
+    Ok(Definition::new(alloc, two_points(alloc)?, Listing::from_vec(sites)))
 }
 
 #[test]
@@ -68,6 +68,45 @@ fn needs_are_put_in_order(rt: HostRuntime) -> Result<(), Fail> {
     }
     assert_eq!(rt; definition.sites().len(), 1);
     assert_eq!(rt; definition.points().len(), 2);
+    Ok(())
+}
+
+/// The number of the first link of a site that is there.
+fn first_of(definition: &Definition, site: usize) -> Option<usize> {
+    if site < definition.sites().len() {
+        Some(definition.first_link(site))
+    } else {
+        None
+    }
+}
+
+/// The site of a link that is there.
+fn home_of(definition: &Definition, link: usize) -> Option<usize> {
+    if link < definition.link_count() {
+        Some(definition.site_of(link))
+    } else {
+        None
+    }
+}
+
+#[test]
+fn links_are_numbered_site_by_site(rt: HostRuntime) -> Result<(), Fail> {
+    let alloc = rt.alloc();
+    let mut links = Vec::new(alloc);
+    links.push(link_of(alloc, 1, 3, &[0])?)?;
+    links.push(link_of(alloc, 2, 1, &[1])?)?;
+    let mut sites = Vec::new(alloc);
+    sites.push(site_of(alloc, Some(0), links)?)?;
+    let mut links = Vec::new(alloc);
+    links.push(link_of(alloc, 1, 3, &[0])?)?;
+    let mut second = site_of(alloc, Some(0), links)?;
+    second.name = Name::new(alloc, "g")?;
+    sites.push(second)?;
+    let definition = Definition::new(alloc, two_points(alloc)?, Listing::from_vec(sites))?;
+    assert_eq!(rt; definition.link_count(), 3);
+    assert_eq!(rt; first_of(&definition, 1), Some(2));
+    assert_eq!(rt; home_of(&definition, 1), Some(0));
+    assert_eq!(rt; home_of(&definition, 2), Some(1));
     Ok(())
 }
 

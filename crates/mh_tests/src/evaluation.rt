@@ -2,9 +2,9 @@
 
 use crate::evaluate::evaluate;
 use crate::java_values::CASES;
-use crate::trees::example;
-use mh_eval::fits;
-use mh_tree::Handle;
+use crate::trees::{example, prepared_example};
+use mh_eval::{Stack, fits, run};
+use mh_tree::{Handle, Prepared};
 use mh_type::{Kind, MethodType, Op, Outcome, Text, Throw, Value};
 use std::alloc::{AllocError, Global};
 use std::process::Abort;
@@ -39,6 +39,43 @@ fn the_example_site_is_evaluated(rt: HostRuntime) -> Result<(), Fail> {
         let (outcome, taken) = evaluate(rt.alloc(), &[valid], &handle, &[Value::Int(argument)])?;
         assert_eq!(rt; int(&outcome), Some(result), "at {argument}");
         assert_eq!(rt; taken, steps, "at {argument}");
+    }
+    Ok(())
+}
+
+/// What a prepared handle of one int gives on it, and in how many steps, by one call more on a stack.
+fn ran(
+    stack: &mut Stack,
+    valid: &[bool],
+    handle: &Prepared,
+    argument: i32,
+) -> Result<(Option<i32>, u64), Fail> {
+    let arguments = [Value::Int(argument)];
+    if !fits(handle.handle().method_type(), &arguments) {
+        return Err("the argument does not fit".into());
+    }
+    if handle.handle().point_bound() > valid.len() {
+        return Err("a point is not there".into());
+    }
+    let (outcome, taken) = run(stack, valid, handle, &arguments)?;
+    Ok((int(&outcome), taken))
+}
+
+#[test]
+fn the_prepared_example_site_runs(rt: HostRuntime) -> Result<(), Fail> {
+    let whole = Prepared::new(&example(rt.alloc())?)?;
+    let of_parts = prepared_example(rt.alloc())?;
+    let mut stack = Stack::new(rt.alloc())?;
+    for (valid, argument, result, steps) in [
+        (true, 1, 100, 6),
+        (true, 2, 3, 6),
+        (false, 1, -1, 2),
+        (true, 2_147_483_647, -2_147_483_648, 6),
+    ] {
+        let gives = ran(&mut stack, &[valid], &whole, argument)?;
+        assert_eq!(rt; gives, (Some(result), steps), "at {argument}");
+        let gives = ran(&mut stack, &[valid], &of_parts, argument)?;
+        assert_eq!(rt; gives, (Some(result), steps), "at {argument}");
     }
     Ok(())
 }

@@ -9,7 +9,11 @@ mod evaluation;
 #[cfg(test)]
 mod java_values;
 #[cfg(test)]
+mod ledger;
+#[cfg(test)]
 mod machines;
+#[cfg(test)]
+mod pic;
 #[cfg(test)]
 mod planner;
 #[cfg(test)]

@@ -33,7 +33,7 @@ fn definition(alloc: Global) -> Result<Definition, Fail> {
     let mut sites = Vec::new(alloc);
     sites.push(site_of(alloc, "f", Kind::Int, Op::Ineg)?)?;
     sites.push(site_of(alloc, "g", Kind::Text, Op::Len)?)?;
-    let made = Definition::new(Listing::from_vec(points), Listing::from_vec(sites))?;
+    let made = Definition::new(alloc, Listing::from_vec(points), Listing::from_vec(sites))?;
     Ok(made)
 }
 

@@ -135,9 +135,9 @@ fn negation(alloc: Global) -> Result<Listing<Site>, Fail> {
 
 #[test]
 fn points_have_a_limit(rt: HostRuntime) -> Result<(), Fail> {
-    let most = Definition::new(points(rt.alloc(), 1024)?, negation(rt.alloc())?);
+    let most = Definition::new(rt.alloc(), points(rt.alloc(), 1024)?, negation(rt.alloc())?);
     assert!(rt; most.is_ok_and(|definition| definition.points().len() == 1024));
-    let more = Definition::new(points(rt.alloc(), 1025)?, negation(rt.alloc())?);
+    let more = Definition::new(rt.alloc(), points(rt.alloc(), 1025)?, negation(rt.alloc())?);
     assert_eq!(rt; more.err(), Some(DefinitionFault::TooManyPoints));
     assert_eq!(rt; DefinitionFault::TooManyPoints.number(), 2);
     Ok(())

@@ -157,7 +157,7 @@ fn a_failed_last_flush_is_told(rt: HostRuntime) -> Result<(), Fail> {
         let mut out = Watched::new(Unflushed);
         let mut err = Watched::new(Vec::new(rt.alloc()));
         let words = ["mhlink", word];
-        let status = command(rt.alloc(), &words, &mut reader, &mut out, &mut err);
+        let status = command(&rt, rt.alloc(), &words, &mut reader, &mut out, &mut err);
         assert_eq!(rt;
             err.inner.as_slice(),
             "fault 11 WriteFailed at 0\n".as_bytes()

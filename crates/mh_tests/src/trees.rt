@@ -1,6 +1,6 @@
 //! What a handle knows of its tree.
 
-use mh_tree::{Handle, TreeFault};
+use mh_tree::{Handle, Prepared, TreeFault};
 use mh_type::{Kind, Op, Value};
 use std::alloc::Global;
 use std::test::Fail;
@@ -14,6 +14,34 @@ pub(crate) fn example(alloc: Global) -> Result<Handle, TreeFault> {
     let next = Handle::insert(alloc, &Handle::op(alloc, Op::Iadd)?, 1, &[Value::Int(1)])?;
     let guard = Handle::guard(alloc, &test, &hundred, &next)?;
     Handle::point(alloc, 0, &guard, &Handle::op(alloc, Op::Ineg)?)
+}
+
+/// The same, where each part of a guard and of a point was prepared before.
+pub(crate) fn prepared_example(alloc: Global) -> Result<Prepared, TreeFault> {
+    let test = Handle::insert(alloc, &Handle::op(alloc, Op::Ieq)?, 1, &[Value::Int(1)])?;
+    let hundred = Handle::constant(alloc, &Value::Int(100))?;
+    let hundred = Handle::drop(alloc, &hundred, 0, &[Kind::Int])?;
+    let next = Handle::insert(alloc, &Handle::op(alloc, Op::Iadd)?, 1, &[Value::Int(1)])?;
+    let (test, hundred) = (Prepared::new(&test)?, Prepared::new(&hundred)?);
+    let guard = Prepared::guard(alloc, &test, &hundred, &Prepared::new(&next)?)?;
+    let negation = Prepared::new(&Handle::op(alloc, Op::Ineg)?)?;
+    Prepared::point(alloc, 0, &guard, &negation)
+}
+
+#[test]
+fn prepared_handles_keep_their_handle(rt: HostRuntime) -> Result<(), Fail> {
+    let prepared = Prepared::new(&example(rt.alloc())?)?;
+    let other = prepared.share()?;
+    drop(prepared);
+    let of_parts = prepared_example(rt.alloc())?;
+    assert_eq!(rt; other.handle().depth(), of_parts.handle().depth());
+    assert_eq!(rt; other.handle().size(), 9);
+    assert_eq!(rt; of_parts.handle().size(), 9);
+    assert_eq!(rt;
+        of_parts.handle().method_type().write(rt.alloc())?.as_str(),
+        "(int)int"
+    );
+    Ok(())
 }
 
 #[test]
