@@ -1,0 +1,51 @@
+// Times LEMON's Preflow on a problem of selection, for planner.py.
+//
+// Standard input has the numbers of links and points, the gains, the costs, and for each link the number of its needs and
+// the needs. Standard output has the value of the flow, and the least seconds of several runs: Preflow made, run, and the
+// source's side of a least cut read, over a network that was built before.
+#include <chrono>
+#include <cstdio>
+#include <lemon/preflow.h>
+#include <lemon/smart_graph.h>
+#include <vector>
+
+using namespace lemon;
+
+static long long number() {
+    long long read = 0;
+    if (std::scanf("%lld", &read) != 1) read = 0;
+    return read;
+}
+
+int main() {
+    const int links = static_cast<int>(number()), points = static_cast<int>(number());
+    SmartDigraph graph;
+    graph.reserveNode(links + points + 2);
+    std::vector<SmartDigraph::Node> nodes;
+    for (int node = 0; node < links + points + 2; ++node) nodes.push_back(graph.addNode());
+    const auto source = nodes[links + points], sink = nodes[links + points + 1];
+    SmartDigraph::ArcMap<long long> room(graph);
+    long long all = 0;
+    for (int link = 0; link < links; ++link) {
+        const long long gain = number();
+        all += gain;
+        room[graph.addArc(source, nodes[link])] = gain;
+    }
+    for (int point = 0; point < points; ++point) room[graph.addArc(nodes[links + point], sink)] = number();
+    for (int link = 0; link < links; ++link)
+        for (long long needs = number(); needs > 0; --needs)
+            room[graph.addArc(nodes[link], nodes[links + number()])] = all;
+    double least = 1e9;
+    long long value = 0;
+    for (int turn = 0; turn < 7; ++turn) {
+        const auto start = std::chrono::steady_clock::now();
+        Preflow<SmartDigraph, SmartDigraph::ArcMap<long long>> preflow(graph, room, source, sink);
+        preflow.run();
+        int chosen = 0;
+        for (int link = 0; link < links; ++link) chosen += preflow.minCut(nodes[link]);
+        const std::chrono::duration<double> taken = std::chrono::steady_clock::now() - start;
+        value = preflow.flowValue();
+        if (chosen >= 0 && taken.count() < least) least = taken.count();
+    }
+    std::printf("%lld %.9f\n", value, least);
+}
