@@ -99,19 +99,19 @@ module _ (needs : List ℕ) (kinds : List Kind) (key : Value) where
   specialised_depth (filter_return t f) = stripped_depth needs (filter_return t f)
   specialised_depth (fold t c) = stripped_depth needs (fold t c)
 
-test_size : (kinds : List Kind) (key : Value) → size (key_test kinds key) ≤ 3
+pub test_size : (kinds : List Kind) (key : Value) → size (key_test kinds key) ≤ 3
 test_size [] key = omega arith
 test_size (k ∷ kinds) key = omega arith
 
-test_depth : (kinds : List Kind) (key : Value) → depth (key_test kinds key) ≤ 3
+pub test_depth : (kinds : List Kind) (key : Value) → depth (key_test kinds key) ≤ 3
 test_depth [] key = omega arith
 test_depth (k ∷ kinds) key = omega arith
 
-points_size : (ps : List ℕ) (x base : Tree) (n : ℕ) → size x ≤ n → size base ≤ n → size (points ps x base) ≤ length ps * (1 + n) + n
+pub points_size : (ps : List ℕ) (x base : Tree) (n : ℕ) → size x ≤ n → size base ≤ n → size (points ps x base) ≤ length ps * (1 + n) + n
 points_size [] x base n hx hb = omega arith
 points_size (p ∷ rest) x base n hx hb = omega (arith, points_size rest x base n hx hb)
 
-points_depth : (ps : List ℕ) (x base : Tree) (n : ℕ) → depth x ≤ n → depth base ≤ n → depth (points ps x base) ≤ length ps + n
+pub points_depth : (ps : List ℕ) (x base : Tree) (n : ℕ) → depth x ≤ n → depth base ≤ n → depth (points ps x base) ≤ length ps + n
 points_depth [] x base n hx hb = omega arith
 points_depth (p ∷ rest) x base n hx hb = omega (arith, points_depth rest x base n hx hb)
 

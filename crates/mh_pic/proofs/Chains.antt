@@ -1,6 +1,6 @@
 -- A chain has the type of its base and does what it does, whichever points are valid.
 use Rattle.std.proofs.Common.{◌≡◌, ℕ, zero, suc, ◌<◌, ◌≤◌, refl, ap, sym, ◌∙◌, List, [], ◌∷◌, ◌++◌, map, take, length, arith, Bool, true, false, ◌||◌, length-append, length-take, if◌then◌else◌}
-use Rattle.std.specs.Prelude.{◌==◌}
+use Rattle.std.specs.Prelude.{◌==◌, slice_index_or}
 use Rattle.std.proofs.lemmas.Bool.Decides.{Decides-eqb, Decides-int_eq}
 use Rattle.std.proofs.lemmas.List.{length-map}
 use Rattle.std.proofs.lemmas.Slice.Eq.{bytes_eq-Decides}
@@ -14,7 +14,7 @@ use Rattle.mh_type.specs.Signature.{Signature}
 use Rattle.mh_tree.specs.Meaning.{mean, argument, is_valid}
 use Rattle.mh_tree.specs.Tree.{Tree}
 use Rattle.mh_tree.specs.Typing.{IsTyped, BeginsWith, kind_at}
-use Rattle.mh_pic.specs.Keys.{same_value, same_truth}
+use Rattle.mh_type.specs.Values.{same_value, same_truth}
 use Rattle.mh_pic.specs.Keys.{first_test, key_test}
 use Rattle.mh_pic.specs.Specialised.{AreValid, is_needed, specialised}
 use Rattle.mh_pic.specs.Chains.{PlainEntry, points, chain, IsFaithful, HaveKind}
@@ -69,6 +69,12 @@ kind_of_argument [] q h = absurd (omega arith)
 kind_of_argument (x ∷ rest) zero h = refl
 kind_of_argument (x ∷ rest) (suc q) h = kind_of_argument rest q (omega arith)
 
+-- a parameter that is there is the kind at its place
+pub kind_there : (ks : List Kind) (q : ℕ) (k : Kind) → q < length ks → k ≡ slice_index_or ks q k → k ≡ kind_at ks q
+kind_there [] q k below is = absurd (omega arith)
+kind_there (j ∷ ks) zero k below is = is
+kind_there (j ∷ ks) (suc q) k below is = kind_there ks q k (omega arith) is
+
 -- the kinds up to a place
 first_kinds : (ks : List Kind) (q : ℕ) → q < length ks → take q ks ++ (kind_at ks q ∷ []) ≡ take (suc q) ks
 first_kinds [] q h = absurd (omega arith)
@@ -89,13 +95,13 @@ key_test_typed (k ∷ kinds) key few =
     (record { ret = kind.Boolean; parameters = kind_of key ∷ [] }, first_typed key, record { inside = omega arith; few = omega arith; made = refl })
 
 module _ (m : Signature) (q : ℕ) (inside : q < length m.parameters) (few : length m.parameters ≤ 16) (base : Tree) (typed : IsTyped base m) where
-  abbrev before : List Kind
+  abbrev pub before : List Kind
   before = take q m.parameters
 
   place : length before ≡ q
   place = omega (arith, length-take q m.parameters)
 
-  begins : (key : Value) → kind_of key ≡ kind_at m.parameters q → BeginsWith m.parameters (before ++ (kind_of key ∷ []))
+  pub begins : (key : Value) → kind_of key ≡ kind_at m.parameters q → BeginsWith m.parameters (before ++ (kind_of key ∷ []))
   begins key same =
       let whole : before ++ (kind_of key ∷ []) ≡ take (suc q) m.parameters = (λ i. before ++ (same i ∷ [])) ∙ first_kinds m.parameters q inside in
       let count : length (before ++ (kind_of key ∷ [])) ≡ suc q = omega (arith, place, length-append before (kind_of key ∷ [])) in

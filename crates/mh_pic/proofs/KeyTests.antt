@@ -18,7 +18,7 @@ use Rattle.mh_type.specs.Operations.{int_eq as equal, truth_eq}
 use Rattle.mh_tree.specs.Arity.{arity}
 use Rattle.mh_tree.specs.Meaning.{mean, argument, taken_out}
 use Rattle.mh_tree.specs.Tree.{Tree, operation, insert, discard}
-use Rattle.mh_pic.specs.Keys.{same_value, same_truth}
+use Rattle.mh_type.specs.Values.{same_value, same_truth}
 use Rattle.mh_pic.specs.Keys.{equality, first_test, key_test, equality_kind, one_of_kind, first_key, key_in}
 
 by_answers : (b c : Bool) → (not b && not c) ≡ ordering.is_eq (cond b Less (cond c Greater Equal))

@@ -10,7 +10,7 @@ use Rattle.mh_type.specs.Kinds.{kind_of, kind_eq}
 use Rattle.mh_tree.specs.Arity.{arity}
 use Rattle.mh_tree.specs.Meaning.{◌>>=◌, mean, steps, argument, choose, choose_steps}
 use Rattle.mh_tree.specs.Tree.{Tree, constant, identity, operation, insert, discard, permute, filter, filter_return, fold, guard, point}
-use Rattle.mh_pic.specs.Keys.{same_value}
+use Rattle.mh_type.specs.Values.{same_value}
 use Rattle.mh_pic.specs.Keys.{key_test, key_in, decided}
 use Rattle.mh_pic.specs.Specialised.{AreValid, is_needed, stripped, branch, specialised}
 use Rattle.mh_pic.proofs.KeyTests.{key_test_mean, key_found}

@@ -9,7 +9,7 @@ use Rattle.mh_type.specs.Kinds.{kind_of}
 use Rattle.mh_type.specs.Signature.{Signature}
 use Rattle.mh_tree.specs.Meaning.{mean}
 use Rattle.mh_tree.specs.Tree.{Tree, guard, point}
-use Rattle.mh_tree.specs.Typing.{IsTyped}
+use Rattle.mh_tree.specs.Typing.{IsTyped, kind_at}
 use Rattle.mh_pic.specs.Keys.{key_test}
 use Rattle.mh_pic.specs.Specialised.{specialised}
 
@@ -45,3 +45,10 @@ HaveFewNeeds entries = All (λ (e : PlainEntry). length e.needs ≤ 8) entries
 -- each need is below n
 abbrev pub HaveNeedsBelow : ℕ → List PlainEntry → Type 0
 HaveNeedsBelow n entries = All (λ (e : PlainEntry). All (λ p. p < n) e.needs) entries
+
+-- entries that a base of type m may have for place q: at most 4, each with a key of the place's kind and at most 8 needs
+pub record MayChain (m : Signature) (q : ℕ) (entries : List PlainEntry) : Type 0 where
+  pub inside : q < length m.parameters
+  pub few : length entries ≤ 4
+  pub keys : HaveKind (kind_at m.parameters q) entries
+  pub few_needs : HaveFewNeeds entries

@@ -1,28 +1,14 @@
 -- Key tests: the trees that ask whether the argument at the key place is a key. The kinds are those of the parameters
 -- before the key place, so their number is the place.
-use Rattle.std.specs.Prelude.{Bool, true, false, not, ◌&&◌, Option, Some, None, List, [], ◌∷◌, nat_eq, if◌then◌else◌}
-use Rattle.std.specs.Ordering.{int_eq}
-use Rattle.std.specs.Str.{bytes_eq}
+use Rattle.std.specs.Prelude.{Bool, ◌&&◌, Option, Some, None, List, [], ◌∷◌, nat_eq, if◌then◌else◌}
 use Rattle.mh_type.specs.declared.kind.Kind.{Kind}
 use Rattle.mh_type.specs.declared.kind.Kind.TheVariants as kind
 use Rattle.mh_type.specs.declared.operation.Op.{Op}
 use Rattle.mh_type.specs.declared.operation.Op.TheVariants.{Ieq, Leq, Beq, Seq}
 use Rattle.mh_type.specs.declared.value.Value.{Value}
-use Rattle.mh_type.specs.declared.value.Value.TheVariants.{Int, Long, Boolean, Text}
 use Rattle.mh_type.specs.Kinds.{kind_of, kind_eq, kinds_eq}
+use Rattle.mh_type.specs.Values.{same_value}
 use Rattle.mh_tree.specs.Tree.{Tree, operation, insert, discard}
-
-abbrev pub same_truth : Bool → Bool → Bool
-same_truth true b = b
-same_truth false b = not b
-
--- whether two values are one: of one kind, and equal
-abbrev pub same_value : Value → Value → Bool
-same_value (Int x) (Int y) = int_eq x y
-same_value (Long x) (Long y) = int_eq x y
-same_value (Boolean x) (Boolean y) = same_truth x y
-same_value (Text x) (Text y) = bytes_eq x y
-same_value _ _ = false
 
 -- the equality of a kind
 abbrev pub equality : Kind → Op

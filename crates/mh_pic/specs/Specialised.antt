@@ -5,12 +5,15 @@
 --   3. a guard by a key test of the key's kind: its specialised target where the keys are equal, else its specialised fallback;
 --   4. any other guard: its test without needed points, and its specialised branches;
 --   5. any other node: the node over its parts without needed points.
-use Rattle.std.specs.Prelude.{◌≡◌, ℕ, Bool, true, false, Option, Some, None, List, ◌==◌, if◌then◌else◌}
+use Rattle.std.specs.Prelude.{◌≡◌, ◌≤◌, ℕ, Bool, true, false, Option, Some, None, List, ◌==◌, if◌then◌else◌}
 use Rattle.std.specs.List.{list_any}
 use Rattle.mh_type.specs.declared.kind.Kind.{Kind}
 use Rattle.mh_type.specs.declared.value.Value.{Value}
-use Rattle.mh_tree.specs.Meaning.{is_valid}
+use Rattle.mh_type.specs.Fits.{Fits}
+use Rattle.mh_type.specs.Signature.{Signature}
+use Rattle.mh_tree.specs.Meaning.{argument, is_valid, mean, steps}
 use Rattle.mh_tree.specs.Tree.{Tree, Filters, constant, identity, operation, insert, discard, permute, filter, filter_return, fold, guard, point, no_more, absent, present}
+use Rattle.mh_tree.specs.Typing.{IsTyped}
 use Rattle.mh_pic.specs.Keys.{key_in, decided}
 
 -- whether a point is among the needs
@@ -74,3 +77,10 @@ abbrev mutual
   NameNone needs no_more = Unit {0}
   NameNone needs (absent fs) = NameNone needs fs
   NameNone needs (present f fs) = NamesNone needs f × NameNone needs fs
+
+-- the tree serves for the base, of type m, where the needs are valid and the argument at place q is the key
+pub record Serves (needs : List ℕ) (q : ℕ) (key : Value) (tree base : Tree) (m : Signature) : Type 0 where
+  pub typed : IsTyped tree m
+  pub unnamed : NamesNone needs tree
+  pub same : (v : List Bool) → AreValid v needs → (a : List Value) → Fits m a → argument a q ≡ key → mean v tree a ≡ mean v base a
+  pub quick : (v : List Bool) → AreValid v needs → (a : List Value) → Fits m a → argument a q ≡ key → steps v tree a ≤ steps v base a

@@ -2,23 +2,10 @@
 
 ghost use Rattle.std.specs.Prelude.{◌≡◌, option_copied};
 ghost use Rattle.mh_tree.specs.TreeOf.{tree_of};
-ghost use Rattle.mh_pic.specs.Keys.{decided as key_decided, equality_kind as kind_of_equality, first_key as first_key_in, key_in as key_in_tree, one_of_kind as one_of, same_value as values_same};
+ghost use Rattle.mh_pic.specs.Keys.{decided as key_decided, equality_kind as kind_of_equality, first_key as first_key_in, key_in as key_in_tree, one_of_kind as one_of};
 
 use mh_tree::Node;
-use mh_type::{Kind, Op, Value, same_kinds};
-
-/// Whether both values are one: of one kind, and equal.
-fn same_value(one: &Value, other: &Value) -> bool
-    ensures value { result ≡ values_same one.now other.now }
-{
-    match (one, other) {
-        (Value::Int(x), Value::Int(y)) => *x == *y,
-        (Value::Long(x), Value::Long(y)) => *x == *y,
-        (Value::Boolean(x), Value::Boolean(y)) => *x == *y,
-        (Value::Text(x), Value::Text(y)) => x.as_str() == y.as_str(),
-        _ => false,
-    }
-}
+use mh_type::{Kind, Op, Value, same_kinds, same_value};
 
 // The kind whose equality an operation is.
 fn equality_kind(op: Op) -> Option<Kind>

@@ -12,7 +12,8 @@ ghost use Rattle.mh_tree.specs.Limits.{depth, size, point_bound};
 ghost use Rattle.mh_tree.specs.Meaning.{mean, steps, argument};
 ghost use Rattle.mh_tree.specs.Tree.{Tree};
 ghost use Rattle.mh_tree.specs.Typing.{IsTyped, kind_at};
-ghost use Rattle.mh_pic.specs.Keys.{key_test, key_in, same_value};
+ghost use Rattle.mh_type.specs.Values.{same_value};
+ghost use Rattle.mh_pic.specs.Keys.{key_test, key_in};
 ghost use Rattle.mh_pic.specs.Specialised.{AreValid, NamesNone, specialised};
 ghost use Rattle.mh_pic.specs.Chains.{PlainEntry, IsFaithful, HaveKind, HaveFewNeeds, HaveNeedsBelow, chain};
 

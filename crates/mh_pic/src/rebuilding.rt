@@ -7,7 +7,7 @@ ghost use Rattle.mh_tree.specs.TreeOf.{tree_of, filter_trees};
 ghost use Rattle.mh_pic.specs.Outcomes.{made_or};
 
 use mh_tree::{Node, TreeFault};
-use mh_type::{Kind, MethodType, Value};
+use mh_type::{Kind, MethodType, Value, copy_values};
 use std::alloc::Global;
 use std::sync::Arc;
 
@@ -31,19 +31,6 @@ pub(crate) fn root(alloc: Global, node: Node) -> Result<Option<Arc<Node>>, TreeF
     Ok(Some(node))
 }
 
-// Another owner of each value.
-fn copy_values(alloc: Global, values: &[Value]) -> Result<Vec<Value>, TreeFault>
-    ensures value { IfOk result (λ v. v.items ≡ values.now) }
-    ensures refused { IfErr result (λ e. e ≡ TreeFault.NoMemory) }
-{
-    let mut copied = Vec::new(alloc);
-    for value in values {
-        let value = value.share().map_err(|_| TreeFault::NoMemory)?;
-        copied.push(value).map_err(|_| TreeFault::NoMemory)?;
-    }
-    Ok(copied)
-}
-
 // `MethodHandles.insertArguments` over a target.
 pub(crate) fn insert(
     alloc: Global,
@@ -57,7 +44,7 @@ pub(crate) fn insert(
     let Some(target) = target else {
         return Ok(None);
     };
-    let values = copy_values(alloc, values)?;
+    let values = copy_values(alloc, values).map_err(|_| TreeFault::NoMemory)?;
     root(
         alloc,
         Node::Insert {

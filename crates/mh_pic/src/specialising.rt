@@ -1,22 +1,60 @@
 //! Trees specialised for needs and a key.
 
-ghost use Rattle.std.specs.Prelude.{◌≡◌, IfOk, IfErr};
+ghost use Rattle.std.specs.Prelude.{◌≡◌, ◌<◌, length, take, IfOk, IfErr};
+ghost use Rattle.std.specs.Arc.{arc_value};
+ghost use Rattle.mh_tree.specs.Handle.{IsSound};
+ghost use Rattle.mh_tree.specs.Tree.{guard as guard_tree};
 ghost use Rattle.mh_tree.specs.TreeOf.{tree_of};
-ghost use Rattle.mh_pic.specs.Specialised.{specialised};
+ghost use Rattle.mh_pic.specs.Specialised.{specialised, Serves};
 ghost use Rattle.mh_pic.specs.Outcomes.{made_or};
 
+use crate::fault::NoMemory;
 use crate::keys::{decided, key_in};
 use crate::rebuilding::{guard, owner, point};
 use crate::stripping::strip;
-use mh_tree::{Node, TreeFault};
+use mh_tree::{Handle, Node, TreeFault};
 use mh_type::{Kind, Value};
 use std::alloc::Global;
 use std::sync::Arc;
 
-/// The tree for needs that are valid and a key that the argument behind these kinds is; none where it is
-/// the same tree, so that a caller keeps the old one. What is made shares the parts that stay. Refused
-/// with `NoMemory` alone.
+/// The tree of a site's handle for needs, which are points that are valid, and for a key, which the
+/// argument at the key place is. It has the handle's type and names no need. Where all needs are valid
+/// and the argument at the key place is the key, it gives what the handle gives, in at most as many steps.
+/// Parts that stay are shared. It takes time linear in the size, times the number of needs at each point.
 pub fn specialise(
+    alloc: Global,
+    handle: &Handle,
+    needs: &[u32],
+    key_place: usize,
+    key: &Value,
+) -> Result<Handle, NoMemory>
+    requires inside { key_place < length handle.now.signature.parameters }
+    ensures value { IfOk result (λ h. h ≡ record { tree = specialised needs.now (take key_place handle.now.signature.parameters) key.now handle.now.tree; signature = handle.now.signature }) }
+    ensures serves { IfOk result (λ h. Serves needs.now key_place key.now h.tree handle.now.tree handle.now.signature) }
+{
+    let before = &handle.method_type().parameters()[..key_place];
+    let made = specialise_node(alloc, handle.root(), needs, before, key);
+    let made = made.map_err(|_| NoMemory)?;
+    let made = rebuilt(alloc, handle, made)?;
+    Ok(made)
+}
+
+// The tree that was made, as a handle of the old one's type; the old one where none was made.
+fn rebuilt(alloc: Global, old: &Handle, made: Option<Arc<Node>>) -> Result<Handle, NoMemory>
+    requires sound { IsSound (made_or made old.now.tree) old.now.signature }
+    ensures value { IfOk result (λ h. h ≡ record { tree = made_or made old.now.tree; signature = old.now.signature }) }
+{
+    let handle = match made {
+        Some(root) => Handle::from_root(alloc, root, old.method_type()),
+        None => old.share(),
+    };
+    handle.map_err(|_| NoMemory)
+}
+
+// The tree for needs that are valid and a key that the argument behind these kinds is; none where it is
+// the same tree, so that a caller keeps the old one. What is made shares the parts that stay.
+#[cycle(specialises)]
+fn specialise_node(
     alloc: Global,
     node: &Node,
     needs: &[u32],
@@ -31,32 +69,17 @@ pub fn specialise(
             test,
             target,
             fallback,
-        } => match decided(key, key_in(test, before)) {
-            Some(true) => {
-                let made = specialise(alloc, target, needs, before, key)?;
-                Ok(Some(owner(made, target)?))
-            }
-            Some(false) => {
-                let other = specialise(alloc, fallback, needs, before, key)?;
-                Ok(Some(owner(other, fallback)?))
-            }
-            None => {
-                let asked = strip(alloc, test, needs)?;
-                let made = specialise(alloc, target, needs, before, key)?;
-                let other = specialise(alloc, fallback, needs, before, key)?;
-                guard(alloc, asked, test, made, target, other, fallback)
-            }
-        },
+        } => specialise_guard(alloc, test, target, fallback, needs, before, key),
         Node::Point {
             point: place,
             target,
             fallback,
         } => {
-            let made = specialise(alloc, target, needs, before, key)?;
+            let made = specialise_node(alloc, target, needs, before, key)?;
             if needs.contains(place) {
                 return Ok(Some(owner(made, target)?));
             }
-            let other = specialise(alloc, fallback, needs, before, key)?;
+            let other = specialise_node(alloc, fallback, needs, before, key)?;
             point(alloc, *place, made, target, other, fallback)
         }
         Node::Constant(_)
@@ -68,5 +91,38 @@ pub fn specialise(
         | Node::Filter { .. }
         | Node::FilterReturn { .. }
         | Node::Fold { .. } => strip(alloc, node, needs),
+    }
+}
+
+// The guard of these parts, for the needs and the key.
+#[cycle(specialises)]
+fn specialise_guard(
+    alloc: Global,
+    test: &Arc<Node>,
+    target: &Arc<Node>,
+    fallback: &Arc<Node>,
+    needs: &[u32],
+    before: &[Kind],
+    key: &Value,
+) -> Result<Option<Arc<Node>>, TreeFault>
+    ensures value { IfOk result (λ o. made_or o (guard_tree (tree_of (arc_value test.now)) (tree_of (arc_value target.now)) (tree_of (arc_value fallback.now))) ≡
+        specialised needs.now before.now key.now (guard_tree (tree_of (arc_value test.now)) (tree_of (arc_value target.now)) (tree_of (arc_value fallback.now)))) }
+    ensures refused { IfErr result (λ e. e ≡ TreeFault.NoMemory) }
+{
+    match decided(key, key_in(test, before)) {
+        Some(true) => {
+            let made = specialise_node(alloc, target, needs, before, key)?;
+            Ok(Some(owner(made, target)?))
+        }
+        Some(false) => {
+            let other = specialise_node(alloc, fallback, needs, before, key)?;
+            Ok(Some(owner(other, fallback)?))
+        }
+        None => {
+            let asked = strip(alloc, test, needs)?;
+            let made = specialise_node(alloc, target, needs, before, key)?;
+            let other = specialise_node(alloc, fallback, needs, before, key)?;
+            guard(alloc, asked, test, made, target, other, fallback)
+        }
     }
 }

@@ -14,7 +14,7 @@ use Rattle.mh_site.specs.declared.fault.DefinitionFault.TheVariants.{NoMemory, T
 use Rattle.mh_site.specs.Defined.{DefinitionData}
 use Rattle.mh_site.specs.Ascending.{ascending}
 use Rattle.mh_site.specs.Names.{is_name}
-use Rattle.mh_site.specs.Values.{same_value}
+use Rattle.mh_type.specs.Values.{same_value}
 
 abbrev pub fault_number : DefinitionFault → ℕ
 fault_number NoMemory = 1

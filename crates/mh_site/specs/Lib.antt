@@ -1,5 +1,4 @@
 pub mod Names
-pub mod Values
 pub mod Ascending
 pub mod Definitions
 pub mod Defined

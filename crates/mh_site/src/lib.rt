@@ -16,7 +16,6 @@ mod point;
 mod point_tests;
 mod site;
 mod site_tests;
-mod values;
 mod world;
 
 pub use control::{Control, Points, Retargeting};
@@ -28,5 +27,4 @@ pub use listing::Listing;
 pub use name::Name;
 pub use point::Point;
 pub use site::Site;
-pub use values::same_value;
 pub use world::World;

@@ -3,15 +3,14 @@
 ghost use Rattle.std.specs.Prelude.{◌≡◌, ◌&&◌, ◌==◌, Some, None, MatchResult, [], nat_lt, nat_le, true, false};
 ghost use Rattle.std.specs.List.{list_any, list_all};
 ghost use Rattle.mh_site.specs.Definitions.{site_fault, sites_fault, names_site, all_differ, same_key, needs_few as few, weighs_little as little, needs_known as known, needs_differ as differing, has_place as places, fits_place as fitting};
-ghost use Rattle.mh_site.specs.Values.{same_value as values_same};
+ghost use Rattle.mh_type.specs.Values.{same_value as values_same};
 ghost use Rattle.mh_tree.specs.Limits.{point_bound};
 ghost use Rattle.mh_type.specs.Signature.{signature_eq};
 
 use crate::fault::DefinitionFault;
 use crate::link::Link;
 use crate::site::Site;
-use crate::values::same_value;
-use mh_type::Value;
+use mh_type::{Value, same_value};
 
 /// The most links of a site.
 pub const MOST_LINKS: usize = 4;

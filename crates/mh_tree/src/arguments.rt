@@ -6,12 +6,11 @@ ghost use Rattle.mh_tree.specs.Constructors.{Refuses, insert_made, drop_made};
 ghost use Rattle.mh_tree.specs.Handle.{IsSound};
 ghost use Rattle.mh_tree.specs.Tree.{insert as insert_tree, discard};
 
-use crate::copy::copy_values;
 use crate::fault::TreeFault;
 use crate::handle::Handle;
 use crate::limits::within_limits;
 use crate::node::Node;
-use mh_type::{Kind, MethodType, Value, have_kinds};
+use mh_type::{Kind, MethodType, Value, copy_values, have_kinds};
 use std::alloc::Global;
 
 impl Handle {
@@ -41,7 +40,7 @@ impl Handle {
         let root = Node::Insert {
             target: target.root_owner()?,
             position,
-            values: copy_values(alloc, values)?,
+            values: copy_values(alloc, values).map_err(|_| TreeFault::NoMemory)?,
         };
         let (depth, size) = (1 + target.depth(), 1 + target.size());
         Handle::of(alloc, root, method_type, depth, size, target.point_bound())

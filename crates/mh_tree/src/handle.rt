@@ -7,6 +7,7 @@ ghost use Rattle.mh_tree.specs.TreeOf.{tree_of};
 ghost use Rattle.mh_tree.specs.Limits.{depth as tree_depth, size as tree_size, point_bound as tree_point_bound};
 
 use crate::fault::TreeFault;
+use crate::measures::{Measures, measure};
 use crate::node::Node;
 use mh_type::MethodType;
 use std::alloc::Global;
@@ -65,19 +66,59 @@ impl Handle {
         ensures refused { IfErr result (λ e. e ≡ TreeFault.NoMemory) }
     {
         let root = Arc::new(alloc, root).map_err(|_| TreeFault::NoMemory)?;
-        let shared = Arc::new(
+        let measures = Measures {
+            depth,
+            size,
+            point_bound,
+        };
+        Handle::owning(alloc, root, method_type, measures)
+    }
+
+    // The tree of an owner, with what is kept beside it.
+    fn owning(
+        alloc: Global,
+        root: Arc<Node>,
+        method_type: MethodType,
+        measures: Measures,
+    ) -> Result<Handle, TreeFault>
+        requires sound { IsSound (tree_of (arc_value root)) method_type }
+        requires deep { measures.depth ≡ tree_depth (tree_of (arc_value root)) }
+        requires large { measures.size ≡ tree_size (tree_of (arc_value root)) }
+        requires bound { measures.point_bound ≡ tree_point_bound (tree_of (arc_value root)) }
+        ensures value { IfOk result (λ h. h ≡ record { tree = tree_of (arc_value root); signature = method_type }) }
+        ensures refused { IfErr result (λ e. e ≡ TreeFault.NoMemory) }
+    {
+        let Measures {
+            depth,
+            size,
+            point_bound,
+        } = measures;
+        let rooted = Rooted {
             alloc,
-            Rooted {
-                alloc,
-                root,
-                method_type,
-                depth,
-                size,
-                point_bound,
-            },
-        )
-        .map_err(|_| TreeFault::NoMemory)?;
+            root,
+            method_type,
+            depth,
+            size,
+            point_bound,
+        };
+        let shared = Arc::new(alloc, rooted).map_err(|_| TreeFault::NoMemory)?;
         Ok(Handle { shared })
+    }
+
+    /// A tree that was rebuilt of nodes, as a handle of its type: it has to be typed and within the
+    /// limits, as `root` says of the trees of handles. The tree is measured, in time linear in its size.
+    /// Refused with `NoMemory` alone.
+    pub fn from_root(
+        alloc: Global,
+        root: Arc<Node>,
+        method_type: &MethodType,
+    ) -> Result<Handle, TreeFault>
+        requires sound { IsSound (tree_of (arc_value root)) method_type.now }
+        ensures value { IfOk result (λ h. h ≡ record { tree = tree_of (arc_value root); signature = method_type.now }) }
+        ensures refused { IfErr result (λ e. e ≡ TreeFault.NoMemory) }
+    {
+        let measures = measure(&root);
+        Handle::owning(alloc, root, method_type.copy(), measures)
     }
 
     /// Another owner of the tree. Refused with `NoMemory` alone.

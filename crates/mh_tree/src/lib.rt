@@ -3,7 +3,6 @@
 
 mod arguments;
 mod branches;
-mod copy;
 mod declared;
 mod fault;
 mod filters;
@@ -11,6 +10,7 @@ mod folding;
 mod handle;
 mod leaf;
 mod limits;
+mod measures;
 mod node;
 mod operand;
 mod operands;

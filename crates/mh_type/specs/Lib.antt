@@ -4,4 +4,5 @@ pub mod Kinds
 pub mod Operations
 pub mod Printable
 pub mod Signature
+pub mod Values
 pub mod Written

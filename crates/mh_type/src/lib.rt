@@ -16,4 +16,4 @@ pub use method_type::{MethodType, begins_with, same_kinds};
 pub use operation::Op;
 pub use outcome::{Outcome, Throw};
 pub use text::Text;
-pub use value::{Value, have_kinds};
+pub use value::{Value, copy_values, have_kinds, same_value};

@@ -2,10 +2,12 @@
 
 ghost use Rattle.std.specs.Prelude.{◌≡◌, ◌↔◌, map, IfOk, IfErr, IsTrue};
 ghost use Rattle.mh_type.specs.Kinds.{kind_of};
+ghost use Rattle.mh_type.specs.Values.{same_value as values_same};
 
 use crate::fault::TypeFault;
 use crate::kind::Kind;
 use crate::text::Text;
+use std::alloc::Global;
 
 /// A value.
 #[derive(Drop)]
@@ -56,4 +58,31 @@ pub fn have_kinds(values: &[Value], kinds: &[Kind]) -> bool
         }
     }
     true
+}
+
+/// Whether both values are one: of one kind, and equal.
+pub fn same_value(one: &Value, other: &Value) -> bool
+    ensures value { result ≡ values_same one.now other.now }
+    ensures same { IsTrue result ↔ (one.now ≡ other.now) }
+{
+    match (one, other) {
+        (Value::Int(x), Value::Int(y)) => *x == *y,
+        (Value::Long(x), Value::Long(y)) => *x == *y,
+        (Value::Boolean(x), Value::Boolean(y)) => *x == *y,
+        (Value::Text(x), Value::Text(y)) => x.as_str() == y.as_str(),
+        _ => false,
+    }
+}
+
+/// The same values, of which a text gets another owner. Refused with `NoMemory` alone.
+pub fn copy_values(alloc: Global, values: &[Value]) -> Result<Vec<Value>, TypeFault>
+    ensures value { IfOk result (λ v. v.items ≡ values.now) }
+    ensures refused { IfErr result (λ e. e ≡ TypeFault.NoMemory) }
+{
+    let mut copied = Vec::new(alloc);
+    for value in values {
+        let value = value.share()?;
+        copied.push(value).map_err(|_| TypeFault::NoMemory)?;
+    }
+    Ok(copied)
 }

@@ -1,0 +1,14 @@
+use Rattle.std.proofs.Common.{rules, ◌≡◌, ap, sym, subst, ◌∙◌, take}
+use Rattle.mh_tree.specs.Handle.{TypedTree}
+use Rattle.mh_pic.specs.Chains.{chain, IsFaithful}
+use Rattle.mh_pic.proofs.Chains.{chain_faithful}
+use Rattle.mh_pic.proofs.chaining.chain.Goals as goal
+
+pub returns-clause-faithful : goal.returns-clause-faithful
+returns-clause-faithful c =
+    let m = c.args.base.now.signature in
+    let base = c.args.base.now.tree in
+    let tree : c.in_ok-cache.cache.tree ≡ chain (take c.args.key_place m.parameters) base c.args.entries.now =
+    ap (λ (h : TypedTree). h.tree) c.in_ok-cache.ensures.value
+    ∙ (λ i. chain (take c.args.key_place (c.handle-base.ensures.value i).signature.parameters) (c.handle-base.ensures.value i).tree c.args.entries.now) in
+    subst (λ t. IsFaithful t base m) (sym tree) (chain_faithful m c.args.key_place c.requires.may.inside (search rules) base (search rules) c.args.entries.now c.requires.may.keys)

@@ -1,0 +1,19 @@
+use Rattle.std.proofs.Common.{rules, ◌≡◌, ◌∙◌, ap, sym, subst, take}
+use Rattle.mh_tree.specs.Handle.{TypedTree, IsSound}
+use Rattle.mh_pic.specs.Outcomes.{made_or}
+use Rattle.mh_pic.specs.Specialised.{specialised, Serves}
+use Rattle.mh_pic.proofs.Serving.{specialised_sound, specialised_serves}
+use Rattle.mh_pic.proofs.specialising.specialise.Goals as goal
+
+pub rebuilt-requires : goal.rebuilt-requires
+rebuilt-requires c =
+    let m = c.args.handle.now.signature in
+    let made : made_or c.in_ok-made.made c.args.handle.now.tree ≡ specialised c.args.needs.now (take c.args.key_place m.parameters) c.args.key.now c.args.handle.now.tree = search rules in
+    record { sound = subst (λ t. IsSound t m) (sym made) (specialised_sound c.args.needs.now (take c.args.key_place m.parameters) c.args.key.now c.args.handle.now.tree m c.method_type.ensures.sound) }
+
+pub returns-clause-serves : goal.returns-clause-serves
+returns-clause-serves c =
+    let m = c.args.handle.now.signature in
+    let made : made_or c.in_ok-made.made c.args.handle.now.tree ≡ specialised c.args.needs.now (take c.args.key_place m.parameters) c.args.key.now c.args.handle.now.tree = search rules in
+    let tree = ap (λ (h : TypedTree). h.tree) c.in_ok-made-2.ensures.value ∙ made in
+    subst (λ t. Serves c.args.needs.now c.args.key_place c.args.key.now t c.args.handle.now.tree m) (sym tree) (specialised_serves c.args.needs.now c.args.key_place c.args.key.now c.args.handle.now.tree m c.requires.inside c.method_type.ensures.sound.typed)

@@ -1,0 +1,118 @@
+//! Chains: inline caches as handles.
+
+ghost use Rattle.std.specs.Prelude.{◌≡◌, ◌<◌, ◌≤◌, length, take, IfOk};
+ghost use Rattle.mh_type.specs.Kinds.{kind_of};
+ghost use Rattle.mh_tree.specs.Handle.{IsDeclared};
+ghost use Rattle.mh_tree.specs.Limits.{depth, size};
+ghost use Rattle.mh_tree.specs.Tree.{guard as guard_tree};
+ghost use Rattle.mh_tree.specs.Typing.{kind_at};
+ghost use Rattle.mh_pic.specs.Chains.{chain as chain_of, points as points_of, IsFaithful, MayChain};
+ghost use Rattle.mh_pic.specs.Keys.{key_test as key_test_of};
+ghost use Rattle.mh_pic.specs.Specialised.{specialised};
+
+use crate::entry::Entry;
+use crate::fault::{NoMemory, made};
+use crate::key_tests::key_test;
+use crate::specialising::specialise;
+use mh_tree::{Declared, Handle};
+use std::alloc::Global;
+
+/// The inline cache of a site with this base tree (Hölzle, Chambers and Ungar, Optimizing
+/// Dynamically-Typed Object-Oriented Languages With Polymorphic Inline Caches, 1991).
+///
+/// *Type*: the base's.
+///
+/// *Pseudo-code*: for the entries in order, `adapter(a..) = if a[key_place] == key { if valid[needs[0]]
+/// && .. { specialised(a..) } else { base(a..) } } else { the rest of the entries, and last base(a..) }`,
+/// where `specialised` is what `specialise` makes of the base.
+///
+/// *Example*: over a base of type `(int)int` with point 0, the one entry of key 1 and need 0 makes
+/// `guard(ieq behind 1, point(0, the base for 1 without point 0, base), base)`.
+///
+/// The handle gives what the base gives, whichever points are valid. It takes time linear in the size of
+/// the base, for each entry. `may_chain` tests what it asks for: there are at most 4 entries, each of at
+/// most 8 needs; the key place is a parameter, and each key is of its kind.
+pub fn chain(
+    alloc: Global,
+    base: &Declared,
+    key_place: usize,
+    entries: &[Entry],
+) -> Result<Handle, NoMemory>
+    requires may { MayChain base.now.signature key_place entries.now }
+    ensures value { IfOk result (λ h. h ≡ record { tree = chain_of (take key_place base.now.signature.parameters) base.now.tree entries.now; signature = base.now.signature }) }
+    ensures faithful { IfOk result (λ h. IsFaithful h.tree base.now.tree base.now.signature) }
+{
+    let base = base.handle();
+    // The type is the tree's, and has at most 16 parameters.
+    let _typed = base.method_type().parameters();
+    let cache = chained(alloc, base, key_place, entries)?;
+    Ok(cache)
+}
+
+// The cache over a base that is within the limits of declared trees.
+fn chained(
+    alloc: Global,
+    base: &Handle,
+    key_place: usize,
+    entries: &[Entry],
+) -> Result<Handle, NoMemory>
+    requires declared { IsDeclared base.now }
+    requires may { MayChain base.now.signature key_place entries.now }
+    ensures value { IfOk result (λ h. h ≡ record { tree = chain_of (take key_place base.now.signature.parameters) base.now.tree entries.now; signature = base.now.signature }) }
+{
+    let Some((entry, rest)) = entries.split_first() else {
+        let cache = base.share().map_err(|_| NoMemory)?;
+        return Ok(cache);
+    };
+    let others = chained(alloc, base, key_place, rest)?;
+    let cache = link(alloc, base, key_place, entry, &others)?;
+    Ok(cache)
+}
+
+// The guard of an entry over the cache of the others.
+fn link(
+    alloc: Global,
+    base: &Handle,
+    key_place: usize,
+    entry: &Entry,
+    others: &Handle,
+) -> Result<Handle, NoMemory>
+    requires declared { IsDeclared base.now }
+    requires inside { key_place < length base.now.signature.parameters }
+    requires key { kind_of entry.now.key ≡ kind_at base.now.signature.parameters key_place }
+    requires few_needs { length entry.now.needs ≤ 8 }
+    requires same { others.now.signature ≡ base.now.signature }
+    requires shallow { depth others.now.tree ≤ 76 }
+    requires small { size others.now.tree ≤ 151600 }
+    ensures value { IfOk result (λ h. h ≡ record {
+      tree = guard_tree (key_test_of (take key_place base.now.signature.parameters) entry.now.key)
+          (points_of entry.now.needs (specialised entry.now.needs (take key_place base.now.signature.parameters) entry.now.key base.now.tree) base.now.tree)
+          others.now.tree;
+      signature = base.now.signature;
+    }) }
+{
+    let before = &base.method_type().parameters()[..key_place];
+    let test = key_test(alloc, before, entry.key())?;
+    let target = specialise(alloc, base, entry.needs(), key_place, entry.key())?;
+    let target = points(alloc, entry.needs(), &target, base)?;
+    let cache = made(Handle::guard(alloc, &test, &target, others))?;
+    Ok(cache)
+}
+
+// The target while all these points are valid, and the base from when one is not.
+fn points(alloc: Global, needs: &[u32], target: &Handle, base: &Handle) -> Result<Handle, NoMemory>
+    requires first { IsDeclared target.now }
+    requires second { IsDeclared base.now }
+    requires same { target.now.signature ≡ base.now.signature }
+    requires parameters { length base.now.signature.parameters ≤ 16 }
+    requires few { length needs.now ≤ 8 }
+    ensures value { IfOk result (λ h. h ≡ record { tree = points_of needs.now target.now.tree base.now.tree; signature = base.now.signature }) }
+{
+    let Some((need, rest)) = needs.split_first() else {
+        let same = target.share().map_err(|_| NoMemory)?;
+        return Ok(same);
+    };
+    let inner = points(alloc, rest, target, base)?;
+    let switched = made(Handle::point(alloc, *need, &inner, base))?;
+    Ok(switched)
+}

@@ -1,0 +1,23 @@
+//! What the making of a cache is refused.
+
+ghost use Rattle.std.specs.Prelude.{◌≡◌, Ok, IfOk, IfErr};
+
+use mh_tree::TreeFault;
+use thiserror::Error;
+
+/// A growth was refused, or a further owner of a text or a tree.
+#[derive(Clone, Copy, Debug, PartialEq, Eq, Error)]
+#[error("1 NoMemory")]
+pub struct NoMemory;
+
+// What a constructor made whose tests all pass: it is refused memory alone.
+pub(crate) fn made<T>(built: Result<T, TreeFault>) -> Result<T, NoMemory>
+    requires passed { IfErr built (λ e. e ≡ TreeFault.NoMemory) }
+    ensures value { IfOk result (λ h. built ≡ Ok h) }
+{
+    match built {
+        Ok(handle) => Ok(handle),
+        Err(TreeFault::NoMemory) => Err(NoMemory),
+        Err(_) => unreachable!(),
+    }
+}

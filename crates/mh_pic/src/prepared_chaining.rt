@@ -1,0 +1,102 @@
+//! Chains with their code.
+
+ghost use Rattle.std.specs.Prelude.{◌≡◌, ◌<◌, ◌≤◌, length, take, IfOk};
+ghost use Rattle.mh_type.specs.Kinds.{kind_of};
+ghost use Rattle.mh_tree.specs.Handle.{IsDeclared};
+ghost use Rattle.mh_tree.specs.Limits.{depth, size};
+ghost use Rattle.mh_tree.specs.Tree.{guard as guard_tree};
+ghost use Rattle.mh_tree.specs.Typing.{kind_at};
+ghost use Rattle.mh_pic.specs.Chains.{chain as chain_of, points as points_of, MayChain};
+ghost use Rattle.mh_pic.specs.Keys.{key_test as key_test_of};
+ghost use Rattle.mh_pic.specs.Specialised.{specialised};
+
+use crate::entry::Entry;
+use crate::fault::{NoMemory, made};
+use crate::key_tests::key_test;
+use crate::specialising::specialise;
+use mh_tree::{Handle, Prepared};
+use std::alloc::Global;
+
+/// The inline cache of `chain` with its code, in which the base's code stands once: only key tests and
+/// specialised trees are prepared. The base is within the limits of declared trees; the rest is as at
+/// `chain`.
+pub fn prepared_chain(
+    alloc: Global,
+    base: &Prepared,
+    key_place: usize,
+    entries: &[Entry],
+) -> Result<Prepared, NoMemory>
+    requires declared { IsDeclared base.now }
+    requires may { MayChain base.now.signature key_place entries.now }
+    ensures value { IfOk result (λ p. p ≡ record { tree = chain_of (take key_place base.now.signature.parameters) base.now.tree entries.now; signature = base.now.signature }) }
+{
+    let Some((entry, rest)) = entries.split_first() else {
+        let cache = base.share().map_err(|_| NoMemory)?;
+        return Ok(cache);
+    };
+    let others = prepared_chain(alloc, base, key_place, rest)?;
+    let cache = link(alloc, base, key_place, entry, &others)?;
+    Ok(cache)
+}
+
+// The guard of an entry over the cache of the others.
+fn link(
+    alloc: Global,
+    base: &Prepared,
+    key_place: usize,
+    entry: &Entry,
+    others: &Prepared,
+) -> Result<Prepared, NoMemory>
+    requires declared { IsDeclared base.now }
+    requires inside { key_place < length base.now.signature.parameters }
+    requires key { kind_of entry.now.key ≡ kind_at base.now.signature.parameters key_place }
+    requires few_needs { length entry.now.needs ≤ 8 }
+    requires same { others.now.signature ≡ base.now.signature }
+    requires shallow { depth others.now.tree ≤ 76 }
+    requires small { size others.now.tree ≤ 151600 }
+    ensures value { IfOk result (λ p. p ≡ record {
+      tree = guard_tree (key_test_of (take key_place base.now.signature.parameters) entry.now.key)
+          (points_of entry.now.needs (specialised entry.now.needs (take key_place base.now.signature.parameters) entry.now.key base.now.tree) base.now.tree)
+          others.now.tree;
+      signature = base.now.signature;
+    }) }
+{
+    let handle = base.handle();
+    let before = &handle.method_type().parameters()[..key_place];
+    let test = prepared(key_test(alloc, before, entry.key())?)?;
+    let target = specialise(alloc, handle, entry.needs(), key_place, entry.key())?;
+    let target = prepared(target)?;
+    let target = points(alloc, entry.needs(), &target, base)?;
+    let cache = made(Prepared::guard(alloc, &test, &target, others))?;
+    Ok(cache)
+}
+
+// A handle with its code.
+fn prepared(handle: Handle) -> Result<Prepared, NoMemory>
+    ensures value { IfOk result (λ p. p ≡ handle) }
+{
+    Prepared::new(&handle).map_err(|_| NoMemory)
+}
+
+// The target while all these points are valid, and the base from when one is not.
+fn points(
+    alloc: Global,
+    needs: &[u32],
+    target: &Prepared,
+    base: &Prepared,
+) -> Result<Prepared, NoMemory>
+    requires first { IsDeclared target.now }
+    requires second { IsDeclared base.now }
+    requires same { target.now.signature ≡ base.now.signature }
+    requires parameters { length base.now.signature.parameters ≤ 16 }
+    requires few { length needs.now ≤ 8 }
+    ensures value { IfOk result (λ p. p ≡ record { tree = points_of needs.now target.now.tree base.now.tree; signature = base.now.signature }) }
+{
+    let Some((need, rest)) = needs.split_first() else {
+        let same = target.share().map_err(|_| NoMemory)?;
+        return Ok(same);
+    };
+    let inner = points(alloc, rest, target, base)?;
+    let switched = made(Prepared::point(alloc, *need, &inner, base))?;
+    Ok(switched)
+}
