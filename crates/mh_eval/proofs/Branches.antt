@@ -8,7 +8,7 @@ use Rattle.mh_tree.specs.Tree.{Tree, fold, guard}
 use Rattle.mh_tree.specs.Widths.{CanRun}
 use Rattle.mh_tree.proofs.LeadingArguments.{mean_leading, steps_leading}
 
-shorter : (ks kinds : List Kind) → ks ≡ take (length ks) kinds → length ks ≤ length kinds
+pub shorter : (ks kinds : List Kind) → ks ≡ take (length ks) kinds → length ks ≤ length kinds
 shorter ks kinds begins =
     let e = ap (λ (xs : List Kind). length xs) begins in omega (arith, e, length-take (length ks) kinds)
 

@@ -1,7 +1,9 @@
 pub mod AnswersGiven
 pub mod Branches
 pub mod EntersLeading
+pub mod Extending
 pub mod FilterRuns
+pub mod FilterWalks
 pub mod QuietCalls
 pub mod QuietTrees
-pub mod SameArguments
+pub mod Walks

@@ -28,14 +28,9 @@ use Rattle.mh_tree.specs.Code.{Code}
 use Rattle.mh_eval.proofs.EntersLeading.{chosen_along, one_along, enters_leading}
 use Rattle.mh_eval.specs.Entered.{WithValue, Chosen, OneOf, IsPlainKind, ArePlain, IsPlain, WithArguments, EntersPlain, FiltersPlain}
 use Rattle.mh_tree.specs.Prepared.{operand_at, prepared, prepared_filters}
-use Rattle.mh_eval.specs.Quiet.{IsQuiet, deep}
+use Rattle.mh_eval.specs.Quiet.{IsQuiet, NoTexts, deep}
 use Rattle.mh_tree.specs.declared.operand.Operand.{Operand}
 use Rattle.mh_tree.specs.declared.operand.Operand.TheVariants.{Local, Constant}
-
--- values that are no texts
-abbrev pub NoTexts : List Value → Type 0
-NoTexts [] = Unit {0}
-NoTexts (x ∷ xs) = IsPlainKind (kind_of x) × NoTexts xs
 
 abbrev NoText : Outcome → Type 0
 NoText o = WithValue o (λ x. IsPlainKind (kind_of x))
@@ -54,31 +49,31 @@ kinds_drop zero ks h = h
 kinds_drop (suc n) [] h = tt
 kinds_drop (suc n) (k ∷ ks) (p, ps) = kinds_drop n ks ps
 
-texts_append : (xs ys : List Value) → NoTexts xs → NoTexts ys → NoTexts (xs ++ ys)
+pub texts_append : (xs ys : List Value) → NoTexts xs → NoTexts ys → NoTexts (xs ++ ys)
 texts_append [] ys p q = q
 texts_append (x ∷ xs) ys (p, ps) q = (p, texts_append xs ys ps q)
 
-texts_take : (n : ℕ) (xs : List Value) → NoTexts xs → NoTexts (take n xs)
+pub texts_take : (n : ℕ) (xs : List Value) → NoTexts xs → NoTexts (take n xs)
 texts_take zero xs h = tt
 texts_take (suc n) [] h = tt
 texts_take (suc n) (x ∷ xs) (p, ps) = (p, texts_take n xs ps)
 
-texts_drop : (n : ℕ) (xs : List Value) → NoTexts xs → NoTexts (drop n xs)
+pub texts_drop : (n : ℕ) (xs : List Value) → NoTexts xs → NoTexts (drop n xs)
 texts_drop zero xs h = h
 texts_drop (suc n) [] h = tt
 texts_drop (suc n) (x ∷ xs) (p, ps) = texts_drop n xs ps
 
-texts_at : (i : ℕ) (xs : List Value) → NoTexts xs → IsPlainKind (kind_of (argument xs i))
+pub texts_at : (i : ℕ) (xs : List Value) → NoTexts xs → IsPlainKind (kind_of (argument xs i))
 texts_at i [] h = tt
 texts_at zero (x ∷ xs) (p, ps) = p
 texts_at (suc i) (x ∷ xs) (p, ps) = texts_at i xs ps
 
-texts_set : (i : ℕ) (xs : List Value) (y : Value) → IsPlainKind (kind_of y) → NoTexts xs → NoTexts (slice_set xs i y)
+pub texts_set : (i : ℕ) (xs : List Value) (y : Value) → IsPlainKind (kind_of y) → NoTexts xs → NoTexts (slice_set xs i y)
 texts_set i [] y q h = tt
 texts_set zero (x ∷ xs) y q (p, ps) = (q, ps)
 texts_set (suc i) (x ∷ xs) y q (p, ps) = (p, texts_set i xs y q ps)
 
-texts_reordered : (xs : List Value) (r : List ℕ) → NoTexts xs → NoTexts (map (argument xs) r)
+pub texts_reordered : (xs : List Value) (r : List ℕ) → NoTexts xs → NoTexts (map (argument xs) r)
 texts_reordered xs [] h = tt
 texts_reordered xs (i ∷ r) h = (texts_at i xs h, texts_reordered xs r h)
 
@@ -160,7 +155,7 @@ of_operation Concat b h = absurd h
 of_operation Seq b h = of_two_texts b _ (λ x y. tt)
 of_operation Len b h = of_one_text b _ (λ x. tt)
 
-not_text : (k : Kind) → IsPlainKind k → k ≡ kind.Text → ⊥
+pub not_text : (k : Kind) → IsPlainKind k → k ≡ kind.Text → ⊥
 not_text k h e = subst IsPlainKind e h
 
 root_plain : (v : List Bool) (t : Tree) (a : List Value) → EntersPlain v t a → IsPlain (type_of t)
@@ -182,7 +177,7 @@ plain_parameters v t m a typed e =
     let P : Signature → Type 0 = λ n. ArePlain n.parameters in
     subst P (type_computed t m typed) (root_plain v t a e).1
 
-inserted_plain : (v : List Bool) (t : Tree) (n : Signature) (p : ℕ) (xs b : List Value) → IsTyped t n → map kind_of xs ≡ take (length xs) (drop p n.parameters) → NoTexts b → EntersPlain v t (put_in b p xs) → NoTexts (put_in b p xs)
+pub inserted_plain : (v : List Bool) (t : Tree) (n : Signature) (p : ℕ) (xs b : List Value) → IsTyped t n → map kind_of xs ≡ take (length xs) (drop p n.parameters) → NoTexts b → EntersPlain v t (put_in b p xs) → NoTexts (put_in b p xs)
 inserted_plain v t n p xs b typed kinds h e =
     let plain = plain_parameters v t n _ typed e in
     let values = of_kinds xs (subst ArePlain (sym kinds) (kinds_take (length xs) (drop p n.parameters) (kinds_drop p n.parameters plain))) in
@@ -218,7 +213,7 @@ if_plain false X Y A B e f g = g e
 
 -- a tree that enters no node with String in its type gives no text
 mutual
-  plain_result : (v : List Bool) (t : Tree) (m : Signature) (b : List Value) → IsTyped t m → length m.parameters ≤ length b → NoTexts b → EntersPlain v t b → NoText (mean v t b)
+  pub plain_result : (v : List Bool) (t : Tree) (m : Signature) (b : List Value) → IsTyped t m → length m.parameters ≤ length b → NoTexts b → EntersPlain v t b → NoText (mean v t b)
   plain_result v (constant x) m b typed wide h e = e.0.0
   plain_result v (identity k) m b typed wide h e = texts_at 0 b h
   plain_result v (operation o) m b typed wide h e = of_operation o b e.0.0
@@ -262,7 +257,7 @@ mutual
   plain_result v (point p x y) m b (one, two) wide h e =
       if_plain (is_valid v p) _ _ _ _ e.1 (plain_result v x m b one wide h) (plain_result v y m b two wide h)
 
-  plain_filters : (v : List Bool) (fs : Filters) (old new : List Kind) (p : ℕ) (b : List Value) → AreTyped fs old new → NoTexts b → FiltersPlain v fs p b → WithArguments (filtered v fs p b) NoTexts
+  pub plain_filters : (v : List Bool) (fs : Filters) (old new : List Kind) (p : ℕ) (b : List Value) → AreTyped fs old new → NoTexts b → FiltersPlain v fs p b → WithArguments (filtered v fs p b) NoTexts
   plain_filters v no_more old new p b typed h e = h
   plain_filters v (absent fs) (z ∷ old) (j ∷ new) p b typed h e = plain_filters v fs old new (p + 1) b typed.1 h e
   plain_filters v (absent fs) [] new p b typed h e = absurd typed

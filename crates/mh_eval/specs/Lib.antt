@@ -1,5 +1,6 @@
 pub mod Answers
 pub mod Entered
+pub mod Frames
 pub mod Height
-pub mod Lent
 pub mod Quiet
+pub mod Walked

@@ -7,7 +7,7 @@ use Rattle.mh_type.specs.Kinds.{kind_of}
 use Rattle.mh_tree.specs.Meaning.{is_valid}
 use Rattle.mh_tree.specs.Code.{Code, leaf, apply, bind, branch, switch}
 use Rattle.mh_tree.specs.Running.{run_code, value_of}
-use Rattle.mh_eval.specs.Entered.{WithValue, Chosen, OneOf}
+use Rattle.mh_eval.specs.Entered.{WithValue, Chosen, OneOf, IsPlainKind}
 use Rattle.mh_eval.specs.declared.answer.Answer.{Answer}
 use Rattle.mh_eval.specs.declared.answer.Answer.TheVariants.{NoMemory}
 
@@ -31,3 +31,8 @@ deep (switch s p x y) = max (deep x) (deep y)
 abbrev pub IsAnswered : Answer → Type 0
 IsAnswered NoMemory = ⊥
 IsAnswered _ = Unit {0}
+
+-- values that are no texts
+abbrev pub NoTexts : List Value → Type 0
+NoTexts [] = Unit {0}
+NoTexts (x ∷ xs) = IsPlainKind (kind_of x) × NoTexts xs

@@ -2,10 +2,11 @@
 #![tactic(auto)]
 
 mod answer;
-mod arguments;
+mod evaluating;
 mod evaluator;
 mod fault;
 mod fitting;
+mod frames;
 mod operations;
 mod prepared;
 mod reading;
@@ -14,8 +15,9 @@ mod stack;
 mod walking;
 
 pub use answer::{Answer, Pushed};
+pub use evaluating::evaluate;
 pub use evaluator::eval;
-pub use fault::NoMemory;
+pub use fault::{NoMemory, Unevaluated};
 pub use fitting::fits;
 pub use prepared::run;
 pub use stack::Stack;
