@@ -1,3 +1,3 @@
-mod Matching
+pub mod Matching
 pub mod Within
 mod Orders

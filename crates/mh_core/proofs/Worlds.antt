@@ -12,20 +12,18 @@ use Rattle.mh_site.specs.Defined.{DefinitionData, site_at, no_site}
 use Rattle.mh_site.specs.Lawful.{IsDefinition}
 use Rattle.mh_site.specs.LookBack as look
 use Rattle.mh_site.specs.LookBack.{member}
-use Rattle.mh_site.specs.Worlds.{WorldState, SiteState, opened, replay, state_at}
+use Rattle.mh_site.specs.Worlds.{SiteState, opened, replay, state_at}
 use Rattle.mh_site.proofs.LookBack as sites
 use Rattle.mh_core.specs.declared.record.Record.{Record}
-use Rattle.mh_core.specs.declared.record.Record.TheVariants.{Targeted, Invalidated}
-use Rattle.mh_core.specs.Books.{BookState, IsBook, Legal, accepted}
+use Rattle.mh_core.specs.declared.record.Record.TheVariants.{Flushed, Targeted, Invalidated, Snapped, Published}
+use Rattle.mh_core.specs.Books.{Legal}
 use Rattle.mh_core.specs.Limits.{LimitsData}
 use Rattle.mh_core.specs.Records.{base, version, is_valid, valid_points, linked, kept, controls, world}
-use Rattle.mh_core.specs.Rows.{tests}
-use Rattle.mh_core.specs.Tests.{Passes}
 
 pub newest_push : {A : Type 0} (xs : List A) (x : A) → reverse (xs ++ x ∷ []) ≡ x ∷ reverse xs
 newest_push xs x = reverse-append xs (x ∷ [])
 
-oldest_push : {A : Type 0} (x : A) (xs : List A) → reverse (x ∷ xs) ≡ reverse xs ++ x ∷ []
+pub oldest_push : {A : Type 0} (x : A) (xs : List A) → reverse (x ∷ xs) ≡ reverse xs ++ x ∷ []
 oldest_push x xs = reverse-append (x ∷ []) xs
 
 -- a world that takes one control more is that of one record more
@@ -36,23 +34,35 @@ world_push d r older c e = ap (λ (cs : List Control). replay (opened d) (revers
 -- ---- what the controls of records say is what the records say
 base_same : (d : DefinitionData) (r : List Record) (s : ℕ) → look.base d (controls r) s ≡ base d r s
 base_same d [] s = refl
+base_same d (Flushed w hits ∷ r) s = base_same d r s
 base_same d (Targeted t tree ∷ r) s = ap (λ (u : TypedTree). cond (t == s) tree u) (base_same d r s)
 base_same d (Invalidated points ∷ r) s = base_same d r s
+base_same d (Snapped ∷ r) s = base_same d r s
+base_same d (Published n plan ∷ r) s = base_same d r s
 
 version_same : (r : List Record) (s : ℕ) → look.version (controls r) s ≡ version r s
 version_same [] s = refl
+version_same (Flushed w hits ∷ r) s = version_same r s
 version_same (Targeted t tree ∷ r) s = ap (λ (n : ℕ). cond (t == s) (n + 1) n) (version_same r s)
 version_same (Invalidated points ∷ r) s = version_same r s
+version_same (Snapped ∷ r) s = version_same r s
+version_same (Published n plan ∷ r) s = version_same r s
 
 valid_same : (r : List Record) (p : ℕ) → look.is_valid (controls r) p ≡ is_valid r p
 valid_same [] p = refl
+valid_same (Flushed w hits ∷ r) p = valid_same r p
 valid_same (Targeted t tree ∷ r) p = valid_same r p
 valid_same (Invalidated points ∷ r) p = ap (λ (b : Bool). not (member points p) && b) (valid_same r p)
+valid_same (Snapped ∷ r) p = valid_same r p
+valid_same (Published n plan ∷ r) p = valid_same r p
 
-controls_count : (r : List Record) → length (controls r) ≡ length r
-controls_count [] = refl
+controls_count : (r : List Record) → length (controls r) ≤ length r
+controls_count [] = omega arith
+controls_count (Flushed w hits ∷ r) = let h = controls_count r in omega arith
 controls_count (Targeted t tree ∷ r) = let h = controls_count r in omega arith
 controls_count (Invalidated points ∷ r) = let h = controls_count r in omega arith
+controls_count (Snapped ∷ r) = let h = controls_count r in omega arith
+controls_count (Published n plan ∷ r) = let h = controls_count r in omega arith
 
 abbrev numbers : ℕ → List ℕ
 numbers n = range_with_len 0 n
@@ -68,8 +78,8 @@ same_map f g n h =
 pub world_sites : (d : DefinitionData) (r : List Record) → length (world d r).sites ≡ length d.sites
 world_sites d r = sites.world_sites d (controls r)
 
-world_front : (d : DefinitionData) (r : List Record) → (world d r).front ≡ length r
-world_front d r = sites.world_front d (controls r) ∙ controls_count r
+pub world_front : (d : DefinitionData) (r : List Record) → (world d r).front ≤ length r
+world_front d r = omega (arith, sites.world_front d (controls r), controls_count r)
 
 -- what a site is after the records
 abbrev pub site_after : DefinitionData → List Record → ℕ → SiteState
@@ -97,33 +107,12 @@ suits_cond d s false t u h k = k
 
 pub base_suits : (d : DefinitionData) (l : LimitsData) (r : List Record) (s : ℕ) → IsDefinition d → s < length d.sites → Legal d l r → Suits d s (base d r s)
 base_suits d l [] s is h legal = let lawful = is.sites s no_site h in record { signature = lawful.typed; points = lawful.known }
+base_suits d l (Flushed w hits ∷ r) s is h legal = base_suits d l r s is h legal.1
 base_suits d l (Targeted t tree ∷ r) s is h legal =
     suits_cond d s (t == s) tree (base d r s)
     (λ e. let same : t ≡ s = grind (arith, nat_tests) in
     record { signature = legal.0.1.1.0 ∙ ap (λ (i : ℕ). (site_at d i).method_type) same; points = legal.0.1.1.1.0 })
     (base_suits d l r s is h legal.1)
 base_suits d l (Invalidated points ∷ r) s is h legal = base_suits d l r s is h legal.1
-
--- ---- a book with one record more
-pub book_room : (b : BookState) → IsBook b → b.world.front + 1 < 18446744073709551616
-book_room b is =
-    let front : b.world.front ≡ length b.records = ap (λ (w : WorldState). w.front) is.world ∙ world_front b.definition b.records in
-    omega (arith, is.few, is.limits.history)
-
-abbrev pub grown : BookState → Record → WorldState → BookState
-grown b e w = record { definition = b.definition; limits = b.limits; records = e ∷ b.records; world = w; calls = b.calls }
-
-fits_in : (b : BookState) (e : Record) → Passes (tests b.definition b.limits (accepted b) b.records e) → accepted b < b.limits.history
-fits_in b (Targeted s tree) passes = passes.1.1.1.0
-fits_in b (Invalidated points) passes = passes.1.0
-
-pub book_grows : (b : BookState) (e : Record) (w : WorldState) → IsBook b → Passes (tests b.definition b.limits (accepted b) b.records e) → w ≡ world b.definition (e ∷ b.records) → IsBook (grown b e w)
-book_grows b e w is passes same =
-    let few = fits_in b e passes in
-    record {
-      definition = is.definition;
-      limits = is.limits;
-      world = same;
-      legal = ((accepted b, passes), is.legal);
-      few = omega arith;
-    }
+base_suits d l (Snapped ∷ r) s is h legal = base_suits d l r s is h legal.1
+base_suits d l (Published n plan ∷ r) s is h legal = base_suits d l r s is h legal.1

@@ -1,60 +1,81 @@
 -- What contracts see of a book, and what books and machines keep.
-use Rattle.std.specs.Prelude.{◌≡◌, ℕ, ◌+◌, ◌≤◌, List, [], ◌∷◌, length}
+use Rattle.std.specs.Prelude.{◌≡◌, ℕ, ◌+◌, ◌<◌, ◌≤◌, List, [], ◌∷◌, length}
+use Rattle.mh_ledger.specs.Ledgers.{LedgerState, TotalsState, AreHeld, at, ledger_at, opened_totals}
 use Rattle.mh_site.specs.Defined.{DefinitionData}
 use Rattle.mh_site.specs.Lawful.{IsDefinition}
+use Rattle.mh_site.specs.Links.{links}
 use Rattle.mh_site.specs.Worlds.{WorldState, opened}
+use Rattle.mh_core.specs.declared.call.AcceptedCall.{AcceptedCall}
 use Rattle.mh_core.specs.declared.event.Event.{Event}
 use Rattle.mh_core.specs.declared.record.Record.{Record}
 use Rattle.mh_core.specs.declared.refusal.Refusal.{Refusal}
-use Rattle.mh_core.specs.Histories.{records}
+use Rattle.mh_core.specs.Histories.{records, ArePlaced}
+use Rattle.mh_core.specs.Hits.{unflushed_hits}
 use Rattle.mh_core.specs.Limits.{LimitsData, IsLimits}
-use Rattle.mh_core.specs.Records.{world}
+use Rattle.mh_core.specs.Records.{world, total, plans}
 use Rattle.mh_core.specs.Rows.{tests}
+use Rattle.mh_core.specs.Snapshots.{SnapshotState, snapshots_of}
 use Rattle.mh_core.specs.Tests.{Passes, Refuses}
 
--- its records, newest first, the world after them, and how many calls were accepted beside them
+-- its records, newest first, with what was made of them: the world, the totals, the snapshots, newest first, and the number of plans
 pub record BookState : Type 0 where
   pub definition : DefinitionData
   pub limits : LimitsData
   pub records : List Record
   pub world : WorldState
-  pub calls : ℕ
+  pub totals : TotalsState
+  pub snapshots : List SnapshotState
+  pub plans : ℕ
 
 -- a book without records
-abbrev pub opened_book : DefinitionData → LimitsData → BookState
-opened_book d l = record { definition = d; limits = l; records = []; world = opened d; calls = 0 }
-
--- how many events were accepted
-abbrev pub accepted : BookState → ℕ
-accepted b = length b.records + b.calls
+abbrev pub opened_book : DefinitionData → ℕ → LimitsData → BookState
+opened_book d workers l =
+    record { definition = d; limits = l; records = []; world = opened d; totals = opened_totals (length (links d)) workers l.total; snapshots = []; plans = 0 }
 
 -- each record passed its tests, where so many events had been accepted
 abbrev pub Legal : DefinitionData → LimitsData → List Record → Type 0
 Legal d l [] = Unit {0}
 Legal d l (e ∷ r) = ((accepted : ℕ) × Passes (tests d l accepted r e)) × Legal d l r
 
--- the world is the replay of the records, and these are legal and within the limit
+-- the totals are the sums that the records tell
+pub record AreTotals (d : DefinitionData) (l : LimitsData) (r : List Record) (t : TotalsState) : Type 0 where
+  pub count : length t.total ≡ length (links d)
+  pub sums : (j : ℕ) → j < length (links d) → at t.total j ≡ total r j
+  pub limit : t.limit ≡ l.total
+
+-- the records are legal and within the limit, and the rest is what they tell
 pub record IsBook (b : BookState) : Type 0 where
   pub definition : IsDefinition b.definition
   pub limits : IsLimits b.limits
-  pub world : b.world ≡ world b.definition b.records
   pub legal : Legal b.definition b.limits b.records
-  pub few : length b.records + b.calls ≤ b.limits.history
+  pub few : length b.records ≤ b.limits.history
+  pub world : b.world ≡ world b.definition b.records
+  pub totals : AreTotals b.definition b.limits b.records b.totals
+  pub snapshots : b.snapshots ≡ snapshots_of b.definition b.records
+  pub plans : b.plans ≡ plans b.records
 
--- exactly this record is appended, which passes its tests
-pub record Takes (b : BookState) (e : Record) (new : BookState) : Type 0 where
-  pub passes : Passes (tests b.definition b.limits (accepted b) b.records e)
+-- exactly this record is appended, which passes its tests, where so many calls were accepted beside the records
+pub record Takes (b : BookState) (calls : ℕ) (e : Record) (new : BookState) : Type 0 where
+  pub passes : Passes (tests b.definition b.limits (length b.records + calls) b.records e)
   pub records : new.records ≡ e ∷ b.records
   pub definition : new.definition ≡ b.definition
   pub limits : new.limits ≡ b.limits
-  pub calls : new.calls ≡ b.calls
 
 -- the first failing test is told, or want of memory where none fails, and nothing changes
-pub record Rejects (b : BookState) (e : Record) (told : Refusal) (new : BookState) : Type 0 where
-  pub refuses : Refuses (tests b.definition b.limits (accepted b) b.records e) told
+pub record Rejects (b : BookState) (calls : ℕ) (e : Record) (told : Refusal) (new : BookState) : Type 0 where
+  pub refuses : Refuses (tests b.definition b.limits (length b.records + calls) b.records e) told
   pub same : new ≡ b
 
--- a machine's book has the records of its history, and counts its calls
-pub record IsMachine (b : BookState) (h : List Event) : Type 0 where
+-- each worker's ledger has the hits of its calls since its last flush, and the totals hold it
+pub record AreLedgers (b : BookState) (workers : ℕ) (h : List Event) (ledgers : List LedgerState) : Type 0 where
+  pub count : length ledgers ≡ workers
+  pub held : AreHeld b.totals ledgers
+  pub unflushed : (w : ℕ) → w < workers → (ledger_at ledgers w).unflushed ≡ unflushed_hits b.definition h w
+  pub limit : (w : ℕ) → w < workers → (ledger_at ledgers w).limit ≡ b.limits.ledger
+
+-- a machine's book has the records of its history, which is within the limit
+pub record IsMachine (b : BookState) (calls : List AcceptedCall) (workers : ℕ) (ledgers : List LedgerState) (h : List Event) : Type 0 where
   pub records : b.records ≡ records b.definition h
-  pub accepted : length b.records + b.calls ≡ length h
+  pub placed : ArePlaced calls b.records
+  pub few : length h ≤ b.limits.history
+  pub counted : AreLedgers b workers h ledgers

@@ -3,6 +3,8 @@ use Rattle.std.specs.Prelude.{ℕ, List, refl}
 use Rattle.std.specs.Coded.{Coded, code_by, coded×, coded_ℕ, coded_list}
 use Rattle.mh_site.specs.Defined.{DefinitionData, coded_definition}
 use Rattle.mh_site.specs.Worlds.{WorldState, coded_world}
+use Rattle.mh_ledger.specs.Codes.{coded_totals}
+use Rattle.mh_ledger.specs.Ledgers.{TotalsState}
 use Rattle.mh_core.specs.contracts.event.Event as event
 use Rattle.mh_core.specs.contracts.record.Record as entry
 use Rattle.mh_core.specs.declared.event.Event.{Event}
@@ -10,15 +12,17 @@ use Rattle.mh_core.specs.declared.record.Record.{Record}
 use Rattle.mh_core.specs.Books.{BookState}
 use Rattle.mh_core.specs.Legal.{MachineState}
 use Rattle.mh_core.specs.Limits.{LimitsData}
+use Rattle.mh_core.specs.Snapshots.{SnapshotState, coded_snapshot}
 
 abbrev pub coded_limits : Coded LimitsData
 coded_limits = code_by (ℕ × (ℕ × ℕ)) (coded× coded_ℕ (coded× coded_ℕ coded_ℕ)) (λ l. (l.history, (l.ledger, l.total))) (λ p. record { history = p.0; ledger = p.1.0; total = p.1.1 }) (λ _. refl)
 
 abbrev pub coded_book : Coded BookState
 coded_book =
-    code_by ((DefinitionData × LimitsData) × (List Record × (WorldState × ℕ))) (coded× (coded× coded_definition coded_limits) (coded× (coded_list entry.the_row.coded) (coded× coded_world coded_ℕ)))
-    (λ b. ((b.definition, b.limits), (b.records, (b.world, b.calls))))
-    (λ p. record { definition = p.0.0; limits = p.0.1; records = p.1.0; world = p.1.1.0; calls = p.1.1.1 }) (λ _. refl)
+    code_by ((DefinitionData × LimitsData) × ((List Record × WorldState) × (TotalsState × (List SnapshotState × ℕ))))
+    (coded× (coded× coded_definition coded_limits) (coded× (coded× (coded_list entry.the_row.coded) coded_world) (coded× coded_totals (coded× (coded_list coded_snapshot) coded_ℕ))))
+    (λ b. ((b.definition, b.limits), ((b.records, b.world), (b.totals, (b.snapshots, b.plans)))))
+    (λ p. record { definition = p.0.0; limits = p.0.1; records = p.1.0.0; world = p.1.0.1; totals = p.1.1.0; snapshots = p.1.1.1.0; plans = p.1.1.1.1 }) (λ _. refl)
 
 abbrev pub coded_machine : Coded MachineState
 coded_machine =

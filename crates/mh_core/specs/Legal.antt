@@ -1,20 +1,22 @@
 -- Legal replies, one event after another.
-use Rattle.std.specs.Prelude.{◌≡◌, ◌⊎◌, ℕ, ◌<◌, List, [], ◌∷◌, length}
+use Rattle.std.specs.Prelude.{◌≡◌, ◌⊎◌, ℕ, ◌+◌, ◌<◌, true, List, [], ◌∷◌, length}
 use Rattle.mh_type.specs.Fits.{Fits}
 use Rattle.mh_type.specs.declared.value.Value.{Value}
 use Rattle.mh_tree.specs.Meaning.{mean, steps}
 use Rattle.mh_site.specs.Defined.{DefinitionData, site_at}
+use Rattle.mh_site.specs.Links.{links}
 use Rattle.mh_core.specs.declared.event.Event.{Event}
-use Rattle.mh_core.specs.declared.event.Event.TheVariants.{Call, Target, Invalidate}
+use Rattle.mh_core.specs.declared.event.Event.TheVariants.{Call, Flush, Target, Invalidate, Snapshot, Publish}
 use Rattle.mh_core.specs.declared.record.Record.{Record}
-use Rattle.mh_core.specs.declared.record.Record.TheVariants.{Targeted, Invalidated}
+use Rattle.mh_core.specs.declared.record.Record.TheVariants.{Flushed, Targeted, Invalidated, Snapped, Published}
 use Rattle.mh_core.specs.declared.refusal.Refusal.{Refusal}
-use Rattle.mh_core.specs.declared.refusal.Refusal.TheVariants.{NoWorker, NoSite, WrongType, HistoryFull}
+use Rattle.mh_core.specs.declared.refusal.Refusal.TheVariants.{NoWorker, NoSite, WrongType, HistoryFull, LedgerFull}
 use Rattle.mh_core.specs.declared.reply.Reply.{Reply}
-use Rattle.mh_core.specs.declared.reply.Reply.TheVariants.{Called, Done, Refused}
+use Rattle.mh_core.specs.declared.reply.Reply.TheVariants as answers
 use Rattle.mh_core.specs.Histories.{records}
+use Rattle.mh_core.specs.Hits.{hits, unflushed, moved}
 use Rattle.mh_core.specs.Limits.{LimitsData}
-use Rattle.mh_core.specs.Records.{base, linked, valid_points}
+use Rattle.mh_core.specs.Records.{base, linked, valid_points, snapshots, plans}
 use Rattle.mh_core.specs.Rows as rows
 use Rattle.mh_core.specs.Tests.{Tests, test, no_more, only, Refuses, Passes}
 
@@ -39,9 +41,13 @@ extended m e = record { setting = m.setting; history = e ∷ m.history }
 
 -- what the site's base tree means, in the steps of its linked tree, with the points that are valid
 abbrev pub answer_of_call : DefinitionData → List Record → ℕ → List Value → Reply
-answer_of_call d r s a = Called (mean (valid_points d r) (base d r s).tree a) (steps (valid_points d r) (linked d r s).tree a)
+answer_of_call d r s a = answers.Called (mean (valid_points d r) (base d r s).tree a) (steps (valid_points d r) (linked d r s).tree a)
 
 module _ (x : Setting) where
+  -- the worker may count the hit of a call, if it hits a link
+  abbrev pub HasRoom : List Event → ℕ → ℕ → List Value → Type 0
+  HasRoom h w s a = (j : ℕ) → j < length (links x.definition) → hits x.definition s a j ≡ true → unflushed x.definition h w j < x.limits.ledger
+
   -- the tests of a record behind those of a history
   abbrev pub record_tests : List Event → Record → Tests
   record_tests h e = rows.tests x.definition x.limits (length h) (records x.definition h) e
@@ -52,21 +58,28 @@ module _ (x : Setting) where
       test (w < x.workers) (only NoWorker)
       (test (s < length x.definition.sites) (only NoSite)
       (test (Fits (site_at x.definition s).method_type a) (only WrongType)
-      (test (length h < x.limits.history) (only HistoryFull) no_more)))
+      (test (length h < x.limits.history) (only HistoryFull)
+      (test (HasRoom h w s a) (only LedgerFull) no_more))))
+  tests h (Flush w) = test (w < x.workers) (only NoWorker) (record_tests h (Flushed w (moved x.definition h w)))
   tests h (Target s tree) = record_tests h (Targeted s tree)
   tests h (Invalidate points) = record_tests h (Invalidated points)
+  tests h Snapshot = record_tests h Snapped
+  tests h (Publish n plan) = record_tests h (Published n plan)
 
   -- what an accepted event is answered with
   abbrev pub answer : List Event → Event → Reply
   answer h (Call w s a) = answer_of_call x.definition (records x.definition h) s a
-  answer h (Target s tree) = Done
-  answer h (Invalidate points) = Done
+  answer h (Flush w) = answers.Done
+  answer h (Target s tree) = answers.Done
+  answer h (Invalidate points) = answers.Done
+  answer h Snapshot = answers.Taken (snapshots (records x.definition h) + 1)
+  answer h (Publish n plan) = answers.Published (plans (records x.definition h) + 1) plan
 
   -- the event passes its tests, is answered and is in the history; or it is refused, and is not
   abbrev pub Step : List Event → Event → Reply → List Event → Type 0
   Step h e reply new =
       (Passes (tests h e) × (reply ≡ answer h e) × (new ≡ e ∷ h))
-      ⊎ ((told : Refusal) × Refuses (tests h e) told × (reply ≡ Refused told) × (new ≡ h))
+      ⊎ ((told : Refusal) × Refuses (tests h e) told × (reply ≡ answers.Refused told) × (new ≡ h))
 
   -- one event after another
   abbrev pub Run : List Event → List Event → List Reply → List Event → Type 0

@@ -2,9 +2,13 @@ pub mod Refusals
 pub mod Tests
 pub mod Limits
 pub mod Records
+pub mod Problems
+pub mod Tables
 pub mod Rows
+pub mod Hits
 pub mod Histories
 pub mod Legal
+pub mod Snapshots
 pub mod Books
 pub mod Codes
 pub mod BookViews

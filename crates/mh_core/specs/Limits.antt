@@ -12,3 +12,14 @@ pub record IsLimits (l : LimitsData) : Type 0 where
   pub least : 1 ≤ l.ledger
   pub ledger : l.ledger ≤ 2 ^ 20
   pub total : l.total ≤ 2 ^ 40
+
+-- the most snapshots, and the most plans, of a history
+abbrev pub most_snapshots : ℕ
+most_snapshots = 1024
+
+abbrev pub most_plans : ℕ
+most_plans = 1024
+
+-- the greatest sum of the gains of a problem
+abbrev pub most_gains : ℕ
+most_gains = 2 ^ 62

@@ -1,36 +1,96 @@
 -- What is so after a list of records, newest first: by looking back for the last that tells.
-use Rattle.std.specs.Prelude.{ℕ, ◌+◌, ◌==◌, Bool, true, not, ◌&&◌, List, [], ◌∷◌, map, length, reverse, if◌then◌else◌}
+use Rattle.std.specs.Prelude.{ℕ, ◌+◌, ◌==◌, Bool, true, not, ◌&&◌, List, [], ◌∷◌, map, filter, length, reverse, if◌then◌else◌}
 use Rattle.std.specs.List.{range_with_len}
 use Rattle.mh_tree.specs.Handle.{TypedTree}
+use Rattle.mh_network.specs.Sums.{amount_at}
+use Rattle.mh_ledger.specs.Ledgers.{at}
 use Rattle.mh_site.specs.Defined.{DefinitionData, site_at}
+use Rattle.mh_site.specs.Links.{links}
 use Rattle.mh_site.specs.LookBack.{member}
 use Rattle.mh_site.specs.Worlds.{WorldState, opened, replay}
 use Rattle.mh_site.specs.declared.control.Control.{Control}
 use Rattle.mh_site.specs.declared.control.Control.TheVariants as control
 use Rattle.mh_core.specs.declared.record.Record.{Record}
-use Rattle.mh_core.specs.declared.record.Record.TheVariants.{Targeted, Invalidated}
+use Rattle.mh_core.specs.declared.record.Record.TheVariants.{Flushed, Targeted, Invalidated, Snapped, Published}
+
+-- the numbers below a bound
+abbrev pub numbers : ℕ → List ℕ
+numbers n = range_with_len 0 n
 
 -- the tree of the site's last retargeting, else the opening one (`MutableCallSite.getTarget`)
 abbrev pub base : DefinitionData → List Record → ℕ → TypedTree
 base d [] s = (site_at d s).target
+base d (Flushed w hits ∷ r) s = base d r s
 base d (Targeted t tree ∷ r) s = if t == s then tree else base d r s
 base d (Invalidated points ∷ r) s = base d r s
+base d (Snapped ∷ r) s = base d r s
+base d (Published n plan ∷ r) s = base d r s
 
 -- how often a site was retargeted
 abbrev pub version : List Record → ℕ → ℕ
 version [] s = 0
+version (Flushed w hits ∷ r) s = version r s
 version (Targeted t tree ∷ r) s = if t == s then version r s + 1 else version r s
 version (Invalidated points ∷ r) s = version r s
+version (Snapped ∷ r) s = version r s
+version (Published n plan ∷ r) s = version r s
 
 -- a point is valid until an invalidation names it (`SwitchPoint.hasBeenInvalidated`)
 abbrev pub is_valid : List Record → ℕ → Bool
 is_valid [] p = true
+is_valid (Flushed w hits ∷ r) p = is_valid r p
 is_valid (Targeted t tree ∷ r) p = is_valid r p
 is_valid (Invalidated points ∷ r) p = not (member points p) && is_valid r p
+is_valid (Snapped ∷ r) p = is_valid r p
+is_valid (Published n plan ∷ r) p = is_valid r p
 
 -- which points are valid, by number
 abbrev pub valid_points : DefinitionData → List Record → List Bool
-valid_points d r = map (is_valid r) (range_with_len 0 (length d.points))
+valid_points d r = map (is_valid r) (numbers (length d.points))
+
+-- the links that were hit, each with its number of hits, where each link has this number
+abbrev pub hits_in : List ℕ → List (ℕ × ℕ)
+hits_in counts = filter (λ p. not (p.1 == 0)) (map (λ j. (j, at counts j)) (numbers (length counts)))
+
+-- how often a link was hit
+abbrev pub hits_of : List (ℕ × ℕ) → ℕ → ℕ
+hits_of hits j = amount_at (λ p. p.0) (λ p. p.1) hits j
+
+-- the hits of a link that the workers have flushed
+abbrev pub total : List Record → ℕ → ℕ
+total [] j = 0
+total (Flushed w hits ∷ r) j = total r j + hits_of hits j
+total (Targeted t tree ∷ r) j = total r j
+total (Invalidated points ∷ r) j = total r j
+total (Snapped ∷ r) j = total r j
+total (Published n plan ∷ r) j = total r j
+
+-- how many snapshots were taken
+abbrev pub snapshots : List Record → ℕ
+snapshots [] = 0
+snapshots (Flushed w hits ∷ r) = snapshots r
+snapshots (Targeted t tree ∷ r) = snapshots r
+snapshots (Invalidated points ∷ r) = snapshots r
+snapshots (Snapped ∷ r) = snapshots r + 1
+snapshots (Published n plan ∷ r) = snapshots r
+
+-- how many plans were published
+abbrev pub plans : List Record → ℕ
+plans [] = 0
+plans (Flushed w hits ∷ r) = plans r
+plans (Targeted t tree ∷ r) = plans r
+plans (Invalidated points ∷ r) = plans r
+plans (Snapped ∷ r) = plans r
+plans (Published n plan ∷ r) = plans r + 1
+
+-- the records before the snapshot of this number, from 1
+abbrev pub past : List Record → ℕ → List Record
+past [] n = []
+past (Flushed w hits ∷ r) n = past r n
+past (Targeted t tree ∷ r) n = past r n
+past (Invalidated points ∷ r) n = past r n
+past (Snapped ∷ r) n = if snapshots r + 1 == n then r else past r n
+past (Published n′ plan ∷ r) n = past r n
 
 -- the links that a site's tree holds: no record installs any
 abbrev pub kept : DefinitionData → List Record → ℕ → List ℕ
@@ -43,8 +103,11 @@ linked d r s = base d r s
 -- what the records change in a world, newest first
 abbrev pub controls : List Record → List Control
 controls [] = []
+controls (Flushed w hits ∷ r) = controls r
 controls (Targeted s tree ∷ r) = control.Target record { site = s; tree = tree } ∷ controls r
 controls (Invalidated points ∷ r) = control.Invalidate points ∷ controls r
+controls (Snapped ∷ r) = controls r
+controls (Published n plan ∷ r) = controls r
 
 -- the world after the records
 abbrev pub world : DefinitionData → List Record → WorldState

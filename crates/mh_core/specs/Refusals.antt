@@ -1,7 +1,9 @@
 -- The numbers and the names of refusals.
-use Rattle.std.specs.Prelude.{ℕ, List, codes}
+use Rattle.std.specs.Prelude.{ℕ, List, codes, ◌++◌}
+use Rattle.std.specs.Fmt.{decimal}
+use Rattle.mh_cert.specs.Plans.{fault_number}
 use Rattle.mh_core.specs.declared.refusal.Refusal.{Refusal}
-use Rattle.mh_core.specs.declared.refusal.Refusal.TheVariants.{NoMemory, HistoryFull, NoSite, NoPoint, WrongType, NoWorker}
+use Rattle.mh_core.specs.declared.refusal.Refusal.TheVariants.{NoMemory, HistoryFull, NoSite, NoPoint, WrongType, NoSnapshot, PlanRefused, TotalTooLarge, LedgerFull, GainTooLarge, NoWorker}
 
 abbrev pub refusal_number : Refusal → ℕ
 refusal_number NoMemory = 1
@@ -9,6 +11,11 @@ refusal_number HistoryFull = 2
 refusal_number NoSite = 3
 refusal_number NoPoint = 4
 refusal_number WrongType = 5
+refusal_number NoSnapshot = 6
+refusal_number (PlanRefused fault) = 8
+refusal_number TotalTooLarge = 10
+refusal_number LedgerFull = 11
+refusal_number GainTooLarge = 12
 refusal_number NoWorker = 13
 
 -- the number and the name
@@ -18,4 +25,9 @@ refusal_text HistoryFull = codes "2 HistoryFull"
 refusal_text NoSite = codes "3 NoSite"
 refusal_text NoPoint = codes "4 NoPoint"
 refusal_text WrongType = codes "5 WrongType"
+refusal_text NoSnapshot = codes "6 NoSnapshot"
+refusal_text (PlanRefused fault) = codes "8 PlanRefused " ++ decimal (fault_number fault)
+refusal_text TotalTooLarge = codes "10 TotalTooLarge"
+refusal_text LedgerFull = codes "11 LedgerFull"
+refusal_text GainTooLarge = codes "12 GainTooLarge"
 refusal_text NoWorker = codes "13 NoWorker"

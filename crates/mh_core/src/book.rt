@@ -1,34 +1,44 @@
-//! Books: the records of accepted events, and the world after them.
+//! Books: the records of accepted events, and what was made of them.
 
-ghost use Rattle.std.specs.Prelude.{◌≡◌, ◌<◌, ◌≤◌, ◌+◌, length, reverse, true, false, [], OnOk, OnErr, IfOk, IfErr, IsTrue, ◌↔◌};
-ghost use Rattle.std.specs.List.{All};
-ghost use Rattle.mh_core.specs.declared.record.Record.TheVariants.{Targeted, Invalidated};
-ghost use Rattle.mh_core.specs.Books.{BookState, Takes, Rejects, IsBook, accepted, opened_book};
-ghost use Rattle.mh_core.specs.Rows.{tests};
-ghost use Rattle.mh_core.specs.Tests.{Passes, Refuses};
+ghost use Rattle.std.specs.Prelude.{◌≡◌, ◌⊎◌, ◌+◌, ℕ, List, length, map, reverse, slice_set, OnOk, OnErr, IfOk, IfErr, IsTrue, ◌↔◌};
+ghost use Rattle.std.specs.List.{range_with_len};
+ghost use Rattle.mh_ledger.specs.Ledgers.{AreHeld, Holds, LedgerState, opened_ledger, settled};
+ghost use Rattle.mh_site.specs.Links.{links as links_of};
+ghost use Rattle.mh_core.specs.declared.record.Record.TheVariants.{Flushed, Targeted, Invalidated, Snapped, Published};
+ghost use Rattle.mh_core.specs.Books.{BookState, Takes, Rejects, IsBook, opened_book};
+ghost use Rattle.mh_core.specs.Problems.{IsTaken, problem_at};
+ghost use Rattle.mh_core.specs.Records.{hits_in};
 
 use crate::fault::NoMemory;
 use crate::limits::Limits;
+use crate::plan::SharedPlan;
+use crate::problem::make_problem;
 use crate::record::Record;
 use crate::refusal::Refusal;
-use mh_site::{Control, Definition, Listing, Points, Retargeting, World};
+use crate::snapshot::Snapshot;
+use mh_ledger::{Ledger, Totals};
+use mh_network::Problem;
+use mh_site::{Definition, Listing, World};
 use mh_tree::Declared;
 use std::alloc::Global;
 use std::marker::Model;
 
-/// The records of accepted events other than calls, with the world after them.
+/// The records of accepted events other than calls, with what was made of them: the world, the totals of
+/// all workers' hits, and the snapshots.
 ///
 /// A contract sees the records newest first. The world is the replay of what the records change, so,
-/// as the law `records_look_back` says, it has what looking back through the records finds. Each record
-/// passed its tests.
+/// as the law `records_look_back` says, it has what looking back through the records finds; the totals
+/// are the sums of the flushes. Each record passed its tests.
 #[derive(Drop)]
 pub struct Book {
-    alloc: Global,
-    definition: Definition,
-    limits: Limits,
-    records: Vec<Record>,
-    world: World,
-    calls: u64,
+    pub(crate) alloc: Global,
+    pub(crate) definition: Definition,
+    pub(crate) limits: Limits,
+    pub(crate) records: Vec<Record>,
+    pub(crate) world: World,
+    pub(crate) totals: Totals,
+    pub(crate) snapshots: Vec<Snapshot>,
+    pub(crate) plans: usize,
 }
 
 impl Model for Book {
@@ -47,24 +57,40 @@ impl Model for Book {
 }
 
 impl Book {
-    /// The book of a definition, without records. Refused where a growth was refused, or a further
-    /// owner of a tree.
-    pub fn open(alloc: Global, definition: &Definition, limits: Limits) -> Result<Book, NoMemory>
-        ensures value { IfOk result (λ b. b ≡ opened_book definition.now limits) }
+    /// The book of a definition, without records, and a ledger without hits for each of so many workers,
+    /// all held. Refused where a growth was refused, or a further owner of a tree.
+    pub fn open(
+        alloc: Global,
+        definition: &Definition,
+        workers: u32,
+        limits: Limits,
+    ) -> Result<(Book, Vec<Ledger>), NoMemory>
+        ensures book { IfOk result (λ opened. opened.0 ≡ opened_book definition.now workers limits) }
+        ensures ledgers { IfOk result (λ opened. opened.1.items ≡ map (opened_ledger (length (links_of definition.now)) limits.ledger) (range_with_len 0 workers)) }
+        ensures held { IfOk result (λ opened. AreHeld opened.0.totals opened.1.items) }
     {
         let definition = definition.share(alloc)?;
-        // Read for what a definition and limits keep.
+        // Read for what a definition keeps.
         let _sites = definition.sites();
-        let _history = limits.history();
+        let (totals, ledgers) = Totals::open(
+            alloc,
+            definition.link_count(),
+            workers as usize,
+            limits.ledger(),
+            limits.total(),
+        )?;
         let world = World::open(alloc, &definition)?;
-        Ok(Book {
+        let book = Book {
             alloc,
             definition,
             limits,
             records: Vec::new(alloc),
             world,
-            calls: 0,
-        })
+            totals,
+            snapshots: Vec::new(alloc),
+            plans: 0,
+        };
+        Ok((book, ledgers))
     }
 
     /// What is declared.
@@ -85,6 +111,7 @@ impl Book {
     /// The records, oldest first.
     pub fn records(&self) -> &[Record]
         ensures value { reverse result.now ≡ self.now.records }
+        ensures book { IsBook self.now }
     {
         self.records.as_slice()
     }
@@ -97,11 +124,62 @@ impl Book {
         &self.world
     }
 
-    /// Whether as many events were accepted as may be, calls among them.
-    pub fn is_full(&self) -> bool
-        ensures decides { IsTrue result ↔ (self.now.limits.history ≤ accepted self.now) }
+    /// The hits of all workers, as far as they have flushed.
+    pub fn totals(&self) -> &Totals
+        ensures value { result.now ≡ self.now.totals }
+        ensures book { IsBook self.now }
     {
-        self.records.len() as u64 + self.calls >= self.limits.history()
+        &self.totals
+    }
+
+    /// Whether the totals hold a ledger: they keep for its worker just the hits that it has flushed.
+    pub fn holds(&self, ledger: &Ledger) -> bool
+        ensures decides { IsTrue result ↔ Holds self.now.totals ledger.now }
+    {
+        self.totals.holds(ledger)
+    }
+
+    /// The problem of the snapshot of this number, from 1. O(links + points).
+    ///
+    /// Refused with `NoSnapshot` where it was not taken, and then with `NoMemory`.
+    pub fn problem(&self, snapshot: usize) -> Result<Problem, Refusal>
+        ensures value { IfOk result (λ p. p ≡ problem_at self.now.definition self.now.records snapshot) }
+        ensures taken { OnOk result (IsTaken self.now.records snapshot) }
+        ensures refused { IfErr result (λ told. ((told ≡ Refusal.NoSnapshot) × (IsTaken self.now.records snapshot → ⊥)) ⊎ ((told ≡ Refusal.NoMemory) × IsTaken self.now.records snapshot)) }
+    {
+        if snapshot == 0 || snapshot > self.snapshots.len() {
+            return Err(Refusal::NoSnapshot);
+        }
+        self.problem_of_taken(snapshot)
+            .map_err(|_| Refusal::NoMemory)
+    }
+
+    // The problem of a snapshot that was taken.
+    fn problem_of_taken(&self, snapshot: usize) -> Result<Problem, NoMemory>
+        requires taken { IsTaken self.now.records snapshot }
+        ensures value { IfOk result (λ p. p ≡ problem_at self.now.definition self.now.records snapshot) }
+        ensures taken { IsTaken self.now.records snapshot }
+    {
+        let kept = &self.snapshots[snapshot - 1];
+        make_problem(self.alloc, &self.definition, kept.totals(), kept.valid())
+    }
+
+    /// Adds the hits that a ledger has not flushed to the totals. The ledger stays held, and so do those of
+    /// the other workers. O(links).
+    ///
+    /// Refused with `HistoryFull`, with `TotalTooLarge` where some total would pass its limit, and then with
+    /// `NoMemory`; nothing changes.
+    pub fn flush(&mut self, ledger: &mut Ledger) -> Result<(), Refusal>
+        requires held { Holds self.old.totals ledger.old }
+        ensures taken { OnOk result (Takes self.old 0 (Flushed ledger.old.worker (hits_in ledger.old.unflushed)) self.new) }
+        ensures ledger { OnOk result (ledger.new ≡ settled ledger.old) }
+        ensures held { Holds self.new.totals ledger.new }
+        ensures all { (ledgers : List LedgerState) → AreHeld self.old.totals ledgers → AreHeld self.new.totals (slice_set ledgers ledger.old.worker ledger.new) }
+        ensures refused { IfErr result (λ told. Rejects self.old 0 (Flushed ledger.old.worker (hits_in ledger.old.unflushed)) told self.new) }
+        ensures kept { OnErr result (ledger.new ≡ ledger.old) }
+    {
+        self.test_flush(0, ledger)?;
+        self.append_flush(0, ledger).map_err(|_| Refusal::NoMemory)
     }
 
     /// Gives a site another tree (`MutableCallSite.setTarget`).
@@ -110,11 +188,12 @@ impl Book {
     /// `NoPoint` where it names a point past the last, with `HistoryFull`, and then with `NoMemory`;
     /// nothing changes.
     pub fn target(&mut self, site: usize, tree: Declared) -> Result<(), Refusal>
-        ensures taken { OnOk result (Takes self.old (Targeted site tree) self.new) }
-        ensures refused { IfErr result (λ told. Rejects self.old (Targeted site tree) told self.new) }
+        ensures taken { OnOk result (Takes self.old 0 (Targeted site tree) self.new) }
+        ensures totals { self.new.totals ≡ self.old.totals }
+        ensures refused { IfErr result (λ told. Rejects self.old 0 (Targeted site tree) told self.new) }
     {
-        self.test_target(site, &tree)?;
-        self.append_target(site, tree)
+        self.test_target(0, site, &tree)?;
+        self.append_target(0, site, tree)
             .map_err(|_| Refusal::NoMemory)
     }
 
@@ -123,105 +202,43 @@ impl Book {
     /// Refused with `NoPoint` where a number is past the last point, with `HistoryFull`, and then with
     /// `NoMemory`; nothing changes.
     pub fn invalidate(&mut self, points: Listing<u32>) -> Result<(), Refusal>
-        ensures taken { OnOk result (Takes self.old (Invalidated points) self.new) }
-        ensures refused { IfErr result (λ told. Rejects self.old (Invalidated points) told self.new) }
+        ensures taken { OnOk result (Takes self.old 0 (Invalidated points) self.new) }
+        ensures totals { self.new.totals ≡ self.old.totals }
+        ensures refused { IfErr result (λ told. Rejects self.old 0 (Invalidated points) told self.new) }
     {
-        self.test_points(&points)?;
-        self.append_points(points).map_err(|_| Refusal::NoMemory)
+        self.test_points(0, &points)?;
+        self.append_points(0, points).map_err(|_| Refusal::NoMemory)
     }
 
-    // The tests of a retargeting, of which the first that fails is told.
-    pub(crate) fn test_target(&self, site: usize, tree: &Declared) -> Result<(), Refusal>
-        ensures passes { OnOk result (Passes (tests self.now.definition self.now.limits (accepted self.now) self.now.records (Targeted site tree.now))) }
-        ensures refuses { IfErr result (λ told. Refuses (tests self.now.definition self.now.limits (accepted self.now) self.now.records (Targeted site tree.now)) told) }
+    /// Takes a snapshot of the totals and of which points are valid, and gives its number, from 1.
+    /// O(links + points + sites).
+    ///
+    /// Refused with `HistoryFull` also where there are 1,024 snapshots, with `GainTooLarge` where the gains
+    /// of its problem would add up to more than 2^62, and then with `NoMemory`; nothing changes.
+    pub fn snapshot(&mut self) -> Result<usize, Refusal>
+        ensures taken { OnOk result (Takes self.old 0 Snapped self.new) }
+        ensures number { IfOk result (λ number. number ≡ length self.old.snapshots + 1) }
+        ensures totals { self.new.totals ≡ self.old.totals }
+        ensures refused { IfErr result (λ told. Rejects self.old 0 Snapped told self.new) }
     {
-        if site >= self.definition.sites().len() {
-            return Err(Refusal::NoSite);
-        }
-        let handle = tree.handle();
-        let declared = self.definition.method_type(site);
-        if !handle.method_type().equals(declared) {
-            return Err(Refusal::WrongType);
-        }
-        if handle.point_bound() > self.definition.points().len() {
-            return Err(Refusal::NoPoint);
-        }
-        if self.is_full() {
-            return Err(Refusal::HistoryFull);
-        }
-        Ok(())
+        self.test_snapshot(0)?;
+        self.append_snapshot(0).map_err(|_| Refusal::NoMemory)
     }
 
-    // The tests of an invalidation, of which the first that fails is told.
-    pub(crate) fn test_points(&self, points: &Listing<u32>) -> Result<(), Refusal>
-        ensures passes { OnOk result (Passes (tests self.now.definition self.now.limits (accepted self.now) self.now.records (Invalidated points.now))) }
-        ensures refuses { IfErr result (λ told. Refuses (tests self.now.definition self.now.limits (accepted self.now) self.now.records (Invalidated points.now)) told) }
+    /// Publishes a plan for the problem of a snapshot, and gives the plan's number, from 1.
+    /// O(links + points + rows).
+    ///
+    /// Refused with `NoSnapshot`, with `PlanRefused` where the checker refuses the plan, with `HistoryFull`
+    /// also where there are 1,024 plans, and then with `NoMemory`; where the checker finds no memory,
+    /// `NoMemory` stands in place of the last two. Nothing changes.
+    pub fn publish(&mut self, snapshot: usize, plan: SharedPlan) -> Result<usize, Refusal>
+        ensures taken { OnOk result (Takes self.old 0 (Published snapshot plan) self.new) }
+        ensures number { IfOk result (λ number. number ≡ self.old.plans + 1) }
+        ensures totals { self.new.totals ≡ self.old.totals }
+        ensures refused { IfErr result (λ told. Rejects self.old 0 (Published snapshot plan) told self.new) }
     {
-        if !all_below(points.as_slice(), self.definition.points().len()) {
-            return Err(Refusal::NoPoint);
-        }
-        if self.is_full() {
-            return Err(Refusal::HistoryFull);
-        }
-        Ok(())
+        self.test_publish(0, snapshot, &plan)?;
+        self.append_publish(0, snapshot, plan)
+            .map_err(|_| Refusal::NoMemory)
     }
-
-    // Takes a retargeting that passes its tests: all growths come first, and then nothing can fail.
-    pub(crate) fn append_target(&mut self, site: usize, tree: Declared) -> Result<(), NoMemory>
-        requires passes { Passes (tests self.old.definition self.old.limits (accepted self.old) self.old.records (Targeted site tree)) }
-        ensures taken { OnOk result (Takes self.old (Targeted site tree) self.new) }
-        ensures refused { OnErr result (self.new ≡ self.old) }
-    {
-        let base = another(&tree)?;
-        let retargeting = Retargeting::new(site, base)?;
-        self.records.reserve(1)?;
-        self.records.push_reserved(Record::Targeted { site, tree });
-        self.world.absorb(Control::Target(retargeting));
-        Ok(())
-    }
-
-    // Takes an invalidation that passes its tests: all growths come first.
-    pub(crate) fn append_points(&mut self, points: Listing<u32>) -> Result<(), NoMemory>
-        requires passes { Passes (tests self.old.definition self.old.limits (accepted self.old) self.old.records (Invalidated points)) }
-        ensures taken { OnOk result (Takes self.old (Invalidated points) self.new) }
-        ensures refused { OnErr result (self.new ≡ self.old) }
-    {
-        let recorded = copied(self.alloc, &points)?;
-        self.records.reserve(1)?;
-        let entry = Record::Invalidated { points: recorded };
-        self.records.push_reserved(entry);
-        let control = Points::new(points.into_vec());
-        self.world.absorb(Control::Invalidate(control));
-        Ok(())
-    }
-
-    // One more call was accepted beside the records.
-    pub(crate) fn note_call(&mut self)
-        requires room { accepted self.old < self.old.limits.history }
-        ensures noted { self.new ≡ record self.old { calls = self.old.calls + 1 } }
-    {
-        self.calls += 1;
-    }
-}
-
-// Whether each number is below the bound.
-fn all_below(numbers: &[u32], bound: usize) -> bool
-    ensures value { IsTrue result ↔ All (λ n. n < bound) numbers.now }
-{
-    numbers.iter().all(|number| (*number as usize) < bound)
-}
-
-// Another owner of a tree.
-pub(crate) fn another(tree: &Declared) -> Result<Declared, NoMemory>
-    ensures value { IfOk result (λ t. t ≡ tree.now) }
-{
-    tree.share().map_err(|_| NoMemory)
-}
-
-// The same numbers.
-pub(crate) fn copied(alloc: Global, numbers: &Listing<u32>) -> Result<Listing<u32>, NoMemory>
-    ensures value { IfOk result (λ copied. copied ≡ numbers.now) }
-{
-    let items = numbers.as_slice().to_vec(alloc)?;
-    Ok(Listing::from_vec(items))
 }

@@ -1,18 +1,24 @@
 //! What a machine is asked.
 
+use crate::plan::SharedPlan;
 use mh_site::Listing;
 use mh_tree::Declared;
 use mh_type::Value;
 
 /// One step of one actor. Workers, sites and points are given by number, from 0; a number past the
-/// last is one that is not there.
+/// last is one that is not there. Snapshots have the numbers from 1 in the order in which they are taken.
 #[derive(Drop)]
 pub enum Event {
-    /// A worker calls a site (`MutableCallSite.dynamicInvoker`).
+    /// A worker calls a site (`MutableCallSite.dynamicInvoker`). Where the argument at the site's key
+    /// place is the key of one of its links, the worker's ledger counts a hit of that link.
     Call {
         worker: u32,
         site: usize,
         arguments: Listing<Value>,
+    },
+    /// A worker's hits since its last flush are added to the totals.
+    Flush {
+        worker: u32,
     },
     /// A site gets another tree (`MutableCallSite.setTarget`).
     Target {
@@ -22,5 +28,12 @@ pub enum Event {
     /// Points become invalid, for good (`SwitchPoint.invalidateAll`).
     Invalidate {
         points: Listing<u32>,
+    },
+    /// The totals and which points are valid are kept, under the next number.
+    Snapshot,
+    /// A plan for the problem of a snapshot is offered, and published where it matches.
+    Publish {
+        snapshot: usize,
+        plan: SharedPlan,
     },
 }

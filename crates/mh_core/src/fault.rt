@@ -1,6 +1,6 @@
 //! Want of memory.
 
-use std::alloc::AllocError;
+use std::alloc::{AllocError, AllocFailed};
 use thiserror::Error;
 
 /// A growth was refused, or a further owner of a tree or a text.
@@ -22,6 +22,18 @@ impl From<mh_site::NoMemory> for NoMemory {
 
 impl From<mh_eval::NoMemory> for NoMemory {
     fn from(_refused: mh_eval::NoMemory) -> NoMemory {
+        NoMemory
+    }
+}
+
+impl From<mh_ledger::NoMemory> for NoMemory {
+    fn from(_refused: mh_ledger::NoMemory) -> NoMemory {
+        NoMemory
+    }
+}
+
+impl<T: Drop> From<AllocFailed<T>> for NoMemory {
+    fn from(_refused: AllocFailed<T>) -> NoMemory {
         NoMemory
     }
 }

@@ -1,10 +1,21 @@
 //! Laws of the definitions.
 
-ghost use Rattle.std.specs.Prelude.{◌≡◌, ◌<◌, ℕ, List, length};
+ghost use Rattle.std.specs.Prelude.{◌≡◌, ◌++◌, ◌∷◌, ◌<◌, ℕ, List, length};
+ghost use Rattle.mh_network.specs.Selection.{IsBest, member};
+ghost use Rattle.mh_cert.specs.Plans.{Matches};
+ghost use Rattle.mh_cert.specs.declared.plan.Plan.{Plan};
 ghost use Rattle.mh_site.specs.Defined.{DefinitionData};
 ghost use Rattle.mh_site.specs.Worlds.{state_at};
 ghost use Rattle.mh_core.specs.declared.record.Record.{Record};
-ghost use Rattle.mh_core.specs.Records.{base, linked, kept, version, valid_points, world};
+ghost use Rattle.mh_core.specs.declared.record.Record.TheVariants.{Published};
+ghost use Rattle.mh_core.specs.Problems.{problem_at};
+ghost use Rattle.mh_site.specs.Links.{links};
+ghost use Rattle.mh_core.specs.declared.event.Event.{Event};
+ghost use Rattle.mh_core.specs.Histories.{records};
+ghost use Rattle.mh_core.specs.Hits.{total_calls};
+ghost use Rattle.mh_core.specs.Records.{base, linked, kept, total, version, valid_points, world};
+
+use crate::book::Book;
 
 /// The world after any records has at each site, and of each point, what looking back through the
 /// records finds.
@@ -13,3 +24,19 @@ pub fn records_look_back()
         state_at (world d r) s ≡ record { base = base d r s; linked = linked d r s; kept = kept d r s; version = version r s } }
     ensures points { (d : DefinitionData) → (r : List Record) → (world d r).valid ≡ valid_points d r }
 {}
+
+/// The totals after the records of a history are its hits that a flush of the same worker follows.
+pub fn totals_are_sums()
+    ensures value { (d : DefinitionData) → (h : List Event) → (j : ℕ) → j < length (links d) → total_calls d h j ≡ total (records d h) j }
+{}
+
+/// Each plan that a book has published matches the problem of the snapshot that it names, and is best
+/// for it: no set of eligible links gains more, less the costs of the points that it needs (Rhys 1970,
+/// Picard 1976). The problem is that of the totals, and of the valid points, when the snapshot was taken.
+pub fn published_plans_are_best(book: &Book)
+    ensures matching { (newer older : List Record) → (n : ℕ) → (plan : Plan) → book.now.records ≡ newer ++ Published n plan ∷ older → Matches (problem_at book.now.definition older n) plan }
+    ensures best { (newer older : List Record) → (n : ℕ) → (plan : Plan) → book.now.records ≡ newer ++ Published n plan ∷ older → IsBest (problem_at book.now.definition older n) (member plan.links) }
+{
+    // Read for what a book keeps.
+    let _records = book.records();
+}

@@ -14,6 +14,12 @@ pub const LARGEST_LEDGER: u64 = 1 << 20;
 /// The most hits that the totals may hold for a link.
 pub const LARGEST_TOTAL: u64 = 1 << 40;
 
+/// The most snapshots of a history.
+pub const MOST_SNAPSHOTS: usize = 1024;
+
+/// The most plans of a history.
+pub const MOST_PLANS: usize = 1024;
+
 /// How many events may be accepted, how many hits of a link a worker may hold before it hands them
 /// on, and how many the totals may hold.
 #[derive(Drop)]

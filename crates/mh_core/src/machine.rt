@@ -1,41 +1,38 @@
-//! Machines: a book with the calls of its workers, and the history of both.
+//! Machines: a book with the calls of its workers and their ledgers, and the history of all.
 
-ghost use Rattle.std.specs.Prelude.{◌≡◌, ◌<◌, ◌∷◌, [], length, reverse, IfOk, IfErr, OnOk, OnErr};
-ghost use Rattle.mh_type.specs.Fits.{Fits};
-ghost use Rattle.mh_site.specs.Defined.{site_at};
-ghost use Rattle.mh_core.specs.declared.event.Event.TheVariants.{Call, Target, Invalidate};
-ghost use Rattle.mh_core.specs.declared.reply.Reply.TheVariants.{Called};
-ghost use Rattle.mh_core.specs.Books.{IsBook, accepted};
-ghost use Rattle.mh_core.specs.Histories.{records};
-ghost use Rattle.mh_core.specs.Legal.{MachineState, Step, Run, tests, answer, answer_of_call, opened_machine, extended};
-ghost use Rattle.mh_core.specs.Tests.{Passes, Refuses};
+ghost use Rattle.std.specs.Prelude.{◌≡◌, ◌+◌, length, reverse, IfOk, OnErr};
+ghost use Rattle.mh_core.specs.Histories.{joined, records};
+ghost use Rattle.mh_core.specs.Legal.{MachineState, Step, Run, opened_machine};
 
-use crate::book::{Book, another, copied};
+use crate::book::Book;
+use crate::call::AcceptedCall;
 use crate::event::Event;
 use crate::fault::NoMemory;
 use crate::limits::Limits;
 use crate::refusal::Refusal;
 use crate::reply::Reply;
-use mh_eval::{Stack, fits, run};
-use mh_site::{Definition, Listing};
-use mh_tree::Declared;
-use mh_type::{Outcome, Value};
+use mh_eval::Stack;
+use mh_ledger::Ledger;
+use mh_site::Definition;
 use std::alloc::Global;
 use std::marker::Model;
 
-/// A book, and the history of its accepted events with the calls of its workers.
+/// A book with the ledgers of its workers, and the history of its accepted events with the workers' calls.
 ///
-/// A contract sees what does not change, and the history, newest first.
+/// A contract sees what does not change, and the history, newest first. The history is kept once: as the
+/// book's records, and beside them the calls, each with the number of records before it.
 #[derive(Drop)]
 pub struct Machine {
-    alloc: Global,
-    book: Book,
-    workers: u32,
-    events: Vec<Event>,
-    stack: Stack,
+    pub(crate) alloc: Global,
+    pub(crate) book: Book,
+    pub(crate) workers: u32,
+    pub(crate) ledgers: Vec<Ledger>,
+    pub(crate) calls: Vec<AcceptedCall>,
+    pub(crate) stack: Stack,
 }
 
 impl Model for Machine {
+    ghost use Rattle.std.specs.Prelude.{reverse};
     ghost use Rattle.mh_core.specs.Books.{IsMachine};
     ghost use Rattle.mh_core.specs.Legal.{MachineState};
     ghost use Rattle.mh_core.specs.Codes.{coded_machine};
@@ -48,7 +45,7 @@ impl Model for Machine {
 
     ghost view = { machine_state };
 
-    ghost invariant = { λ m. IsMachine m.book (machine_state m).history };
+    ghost invariant = { λ m. IsMachine m.book (reverse m.calls.items) m.workers m.ledgers.items (machine_state m).history };
 }
 
 impl Machine {
@@ -63,12 +60,13 @@ impl Machine {
         ensures value { IfOk result (λ m. m ≡ opened_machine definition.now workers limits) }
     {
         let stack = Stack::new(alloc)?;
-        let book = Book::open(alloc, definition, limits)?;
+        let (book, ledgers) = Book::open(alloc, definition, workers, limits)?;
         Ok(Machine {
             alloc,
             book,
             workers,
-            events: Vec::new(alloc),
+            ledgers,
+            calls: Vec::new(alloc),
             stack,
         })
     }
@@ -78,16 +76,23 @@ impl Machine {
         ensures definition { result.now.definition ≡ self.now.setting.definition }
         ensures limits { result.now.limits ≡ self.now.setting.limits }
         ensures records { result.now.records ≡ records self.now.setting.definition self.now.history }
-        ensures accepted { accepted result.now ≡ length self.now.history }
     {
         &self.book
     }
 
-    /// The accepted events, oldest first.
-    pub fn history(&self) -> &[Event]
-        ensures value { reverse result.now ≡ self.now.history }
+    /// The accepted calls, oldest first, each with its place among the book's records: with these they are
+    /// the history.
+    pub fn calls(&self) -> &[AcceptedCall]
+        ensures value { joined (reverse result.now) (records self.now.setting.definition self.now.history) ≡ self.now.history }
     {
-        self.events.as_slice()
+        self.calls.as_slice()
+    }
+
+    /// The number of accepted events.
+    pub fn accepted(&self) -> usize
+        ensures count { result ≡ length self.now.history }
+    {
+        self.book.records().len() + self.calls.len()
     }
 
     /// The number of workers.
@@ -124,127 +129,5 @@ impl Machine {
             replies.push_reserved(reply);
         }
         Ok(replies)
-    }
-
-    // The tests of an event, of which the first that fails is told. They take no memory.
-    fn test(&self, event: &Event) -> Result<(), Refusal>
-        ensures passes { OnOk result (Passes (tests self.now.setting self.now.history event.now)) }
-        ensures refuses { IfErr result (λ told. Refuses (tests self.now.setting self.now.history event.now) told) }
-    {
-        match event {
-            Event::Call {
-                worker,
-                site,
-                arguments,
-            } => self.test_call(*worker, *site, arguments),
-            Event::Target { site, tree } => self.book.test_target(*site, tree),
-            Event::Invalidate { points } => self.book.test_points(points),
-        }
-    }
-
-    fn test_call(&self, worker: u32, site: usize, arguments: &Listing<Value>) -> Result<(), Refusal>
-        ensures passes { OnOk result (Passes (tests self.now.setting self.now.history (Call worker site arguments.now))) }
-        ensures refuses { IfErr result (λ told. Refuses (tests self.now.setting self.now.history (Call worker site arguments.now)) told) }
-    {
-        if worker >= self.workers {
-            return Err(Refusal::NoWorker);
-        }
-        let definition = self.book.definition();
-        if site >= definition.sites().len() {
-            return Err(Refusal::NoSite);
-        }
-        if !fits(definition.method_type(site), arguments.as_slice()) {
-            return Err(Refusal::WrongType);
-        }
-        if self.book.is_full() {
-            return Err(Refusal::HistoryFull);
-        }
-        Ok(())
-    }
-
-    // Takes an event that passes its tests: all growths come first, and then nothing can fail.
-    fn accept(&mut self, event: Event) -> Result<Reply, NoMemory>
-        requires passes { Passes (tests self.old.setting self.old.history event) }
-        ensures reply { IfOk result (λ reply. reply ≡ answer self.old.setting self.old.history event) }
-        ensures taken { OnOk result (self.new ≡ extended self.old event) }
-        ensures refused { OnErr result (self.new ≡ self.old) }
-    {
-        match event {
-            Event::Call {
-                worker,
-                site,
-                arguments,
-            } => self.accept_call(worker, site, arguments),
-            Event::Target { site, tree } => self.accept_target(site, tree),
-            Event::Invalidate { points } => self.accept_points(points),
-        }
-    }
-
-    fn accept_call(
-        &mut self,
-        worker: u32,
-        site: usize,
-        arguments: Listing<Value>,
-    ) -> Result<Reply, NoMemory>
-        requires passes { Passes (tests self.old.setting self.old.history (Call worker site arguments)) }
-        ensures reply { IfOk result (λ reply. reply ≡ answer self.old.setting self.old.history (Call worker site arguments)) }
-        ensures taken { OnOk result (self.new ≡ extended self.old (Call worker site arguments)) }
-        ensures refused { OnErr result (self.new ≡ self.old) }
-    {
-        self.events.reserve(1)?;
-        let (outcome, steps) = evaluated(&mut self.stack, &self.book, site, arguments.as_slice())?;
-        self.events.push_reserved(Event::Call {
-            worker,
-            site,
-            arguments,
-        });
-        self.book.note_call();
-        Ok(Reply::Called { outcome, steps })
-    }
-
-    fn accept_target(&mut self, site: usize, tree: Declared) -> Result<Reply, NoMemory>
-        requires passes { Passes (tests self.old.setting self.old.history (Target site tree)) }
-        ensures reply { IfOk result (λ reply. reply ≡ answer self.old.setting self.old.history (Target site tree)) }
-        ensures taken { OnOk result (self.new ≡ extended self.old (Target site tree)) }
-        ensures refused { OnErr result (self.new ≡ self.old) }
-    {
-        let recorded = another(&tree)?;
-        self.events.reserve(1)?;
-        self.book.append_target(site, recorded)?;
-        self.events.push_reserved(Event::Target { site, tree });
-        Ok(Reply::Done)
-    }
-
-    fn accept_points(&mut self, points: Listing<u32>) -> Result<Reply, NoMemory>
-        requires passes { Passes (tests self.old.setting self.old.history (Invalidate points)) }
-        ensures reply { IfOk result (λ reply. reply ≡ answer self.old.setting self.old.history (Invalidate points)) }
-        ensures taken { OnOk result (self.new ≡ extended self.old (Invalidate points)) }
-        ensures refused { OnErr result (self.new ≡ self.old) }
-    {
-        let recorded = copied(self.alloc, &points)?;
-        self.events.reserve(1)?;
-        self.book.append_points(recorded)?;
-        self.events.push_reserved(Event::Invalidate { points });
-        Ok(Reply::Done)
-    }
-}
-
-// What a site's linked tree gives on arguments that fit.
-fn evaluated(
-    stack: &mut Stack,
-    book: &Book,
-    site: usize,
-    arguments: &[Value],
-) -> Result<(Outcome, u64), NoMemory>
-    requires inside { site < length book.now.definition.sites }
-    requires fits { Fits (site_at book.now.definition site).method_type arguments.now }
-    ensures answer { IfOk result (λ p. Called p.0 p.1 ≡ answer_of_call book.now.definition book.now.records site arguments.now) }
-{
-    let world = book.world();
-    let linked = world.prepared(site);
-    let valid = world.valid();
-    match run(stack, valid, linked, arguments) {
-        Ok((outcome, steps)) => Ok((outcome, steps)),
-        Err(_) => Err(NoMemory),
     }
 }

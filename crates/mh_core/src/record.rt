@@ -1,13 +1,32 @@
 //! What a book records.
 
+use crate::plan::SharedPlan;
 use mh_site::Listing;
 use mh_tree::Declared;
 
 /// An accepted event that is no call.
 #[derive(Drop)]
 pub enum Record {
+    /// A worker's hits were added to the totals: the links that it had hit, ascending by number, each
+    /// with how often.
+    Flushed {
+        worker: usize,
+        hits: Listing<(usize, u64)>,
+    },
     /// A site got another tree.
-    Targeted { site: usize, tree: Declared },
+    Targeted {
+        site: usize,
+        tree: Declared,
+    },
     /// Points became invalid.
-    Invalidated { points: Listing<u32> },
+    Invalidated {
+        points: Listing<u32>,
+    },
+    /// A snapshot was taken: the next number, from 1.
+    Snapped,
+    /// A plan for the snapshot of this number was published.
+    Published {
+        snapshot: usize,
+        plan: SharedPlan,
+    },
 }

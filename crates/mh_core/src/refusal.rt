@@ -3,15 +3,17 @@
 ghost use Rattle.std.specs.Prelude.{◌≡◌};
 ghost use Rattle.mh_core.specs.Refusals.{refusal_number};
 
+use mh_cert::CheckFault;
 use std::error::Error;
 use std::fmt;
 
 /// Why an event was refused. A refused event changes nothing.
 #[derive(Clone, Copy, Debug, PartialEq, Eq)]
 pub enum Refusal {
-    /// A growth or a further owner was refused. It is told only where no test fails.
+    /// A growth or a further owner was refused. It is told only where no test fails, and where a plan
+    /// that is offered for a snapshot could not be tested.
     NoMemory,
-    /// As many events were accepted as may be.
+    /// As many events were accepted, snapshots taken or plans published as may be.
     HistoryFull,
     /// A site that is not there.
     NoSite,
@@ -19,6 +21,16 @@ pub enum Refusal {
     NoPoint,
     /// Arguments that do not fit the site's type, or a tree of another type.
     WrongType,
+    /// A snapshot that was not taken.
+    NoSnapshot,
+    /// A plan that does not match its problem, with what the checker tells of it.
+    PlanRefused(CheckFault),
+    /// Some total would pass its limit.
+    TotalTooLarge,
+    /// The worker holds as many hits of the link as it may.
+    LedgerFull,
+    /// The gains of the links would add up to more than 2^62.
+    GainTooLarge,
     /// A worker that is not there.
     NoWorker,
 }
@@ -34,6 +46,11 @@ impl Refusal {
             Refusal::NoSite => 3,
             Refusal::NoPoint => 4,
             Refusal::WrongType => 5,
+            Refusal::NoSnapshot => 6,
+            Refusal::PlanRefused(_) => 8,
+            Refusal::TotalTooLarge => 10,
+            Refusal::LedgerFull => 11,
+            Refusal::GainTooLarge => 12,
             Refusal::NoWorker => 13,
         }
     }
@@ -52,6 +69,11 @@ impl fmt::Display for Refusal {
             Refusal::NoSite => write!(f, "3 NoSite"),
             Refusal::NoPoint => write!(f, "4 NoPoint"),
             Refusal::WrongType => write!(f, "5 WrongType"),
+            Refusal::NoSnapshot => write!(f, "6 NoSnapshot"),
+            Refusal::PlanRefused(fault) => write!(f, "8 PlanRefused {}", fault.number()),
+            Refusal::TotalTooLarge => write!(f, "10 TotalTooLarge"),
+            Refusal::LedgerFull => write!(f, "11 LedgerFull"),
+            Refusal::GainTooLarge => write!(f, "12 GainTooLarge"),
             Refusal::NoWorker => write!(f, "13 NoWorker"),
         }
     }

@@ -1,5 +1,6 @@
 //! What a machine answers.
 
+use crate::plan::SharedPlan;
 use crate::refusal::Refusal;
 use mh_type::Outcome;
 
@@ -10,6 +11,10 @@ pub enum Reply {
     Called { outcome: Outcome, steps: u64 },
     /// The change was made.
     Done,
-    /// The first test that failed, or want of memory where none failed.
+    /// A snapshot was taken, and has this number, from 1.
+    Taken { snapshot: usize },
+    /// The plan was published, and has this number, from 1.
+    Published { number: usize, plan: SharedPlan },
+    /// The first test that failed, or want of memory.
     Refused(Refusal),
 }

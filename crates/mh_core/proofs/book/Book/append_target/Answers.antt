@@ -1,4 +1,4 @@
-use Rattle.std.proofs.Common.{◌≡◌, ◌++◌, ◌∷◌, [], List, refl, ap, sym, subst, ◌∙◌}
+use Rattle.std.proofs.Common.{◌≡◌, ◌+◌, ◌++◌, ◌∷◌, [], List, length, refl, ap, sym, subst, ◌∙◌}
 use Rattle.std.specs.Prelude.{reverse}
 use Rattle.mh_tree.specs.Handle.{TypedTree}
 use Rattle.mh_site.specs.Controls.{Retargeted}
@@ -6,12 +6,13 @@ use Rattle.mh_site.specs.declared.control.Control.TheVariants as control
 use Rattle.mh_site.specs.Worlds.{opened, replay}
 use Rattle.mh_core.specs.declared.record.Record.{Record}
 use Rattle.mh_core.specs.declared.record.Record.TheVariants.{Targeted}
-use Rattle.mh_core.specs.Books.{BookState, IsBook, accepted}
+use Rattle.mh_core.specs.Books.{BookState, IsBook}
 use Rattle.mh_core.specs.BookViews.{book_state}
 use Rattle.mh_core.specs.Records.{controls, world}
 use Rattle.mh_core.specs.Rows.{tests}
 use Rattle.mh_core.specs.Tests.{Passes}
-use Rattle.mh_core.proofs.Worlds.{book_room, book_grows, newest_push, world_push}
+use Rattle.mh_core.proofs.Growing.{book_grows, book_room, totals_stay}
+use Rattle.mh_core.proofs.Worlds.{world_push}
 use Rattle.mh_core.proofs.book.Book.append_target.Goals as goal
 
 pub absorb-requires : goal.absorb-requires
@@ -20,15 +21,14 @@ absorb-requires c = record { room = book_room (book_state c.self.inside) c.self.
 pub invariant_of-self-2 : goal.invariant_of-self-2
 invariant_of-self-2 c =
     let b = book_state c.self.inside in
+    let is : IsBook b = c.self.invariant in
     let e : Record = Targeted c.args.site c.args.tree in
-    let passes = subst (λ (x : BookState). Passes (tests x.definition x.limits (accepted x) x.records e)) (sym c.self.view_is) c.requires.passes in
-    let items : reverse c.push_reserved.new.self.items ≡ e ∷ b.records =
-    ap reverse (c.push_reserved.ensures.items ∙ ap (λ (l : List Record). l ++ e ∷ []) c.in_ok-reserve.ensures.items)
-    ∙ newest_push c.self.inside.records.items e in
+    let passes = subst (λ (x : BookState). Passes (tests x.definition x.limits (length x.records + c.args.calls) x.records e)) (sym c.self.view_is) c.requires.passes in
+    let items = c.push_reserved.ensures.items ∙ ap (λ (l : List Record). l ++ e ∷ []) c.in_ok-reserve.ensures.items in
     let after : c.absorb.new.self ≡ world b.definition (e ∷ b.records) =
-    c.absorb.ensures.replays (opened b.definition) (reverse (controls b.records)) c.self.invariant.world
+    c.absorb.ensures.replays (opened b.definition) (reverse (controls b.records)) is.world
     ∙ (ap (λ (r : Retargeted). replay (opened b.definition) (reverse (controls b.records) ++ control.Target r ∷ []))
     (c.in_ok-retargeting.ensures.value ∙ ap (λ (t : TypedTree). record { site = c.args.site; tree = t }) c.in_ok-base.ensures.value)
     ∙ sym (world_push b.definition (e ∷ b.records) b.records (control.Target record { site = c.args.site; tree = c.args.tree }) refl)) in
-    subst (λ (r : List Record). IsBook record { definition = b.definition; limits = b.limits; records = r; world = c.absorb.new.self; calls = b.calls }) (sym items)
-    (book_grows b e c.absorb.new.self c.self.invariant passes after)
+    book_grows b c.args.calls e c.self.inside.records.items c.push_reserved.new.self.items c.absorb.new.self b.totals b.snapshots b.plans is passes
+    record { world = after; totals = totals_stay b e is (λ j. refl); snapshots = is.snapshots; plans = is.plans } refl items

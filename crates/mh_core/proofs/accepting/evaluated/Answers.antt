@@ -3,7 +3,7 @@ use Rattle.mh_tree.specs.Handle.{TypedTree}
 use Rattle.mh_tree.specs.Limits.{point_bound}
 use Rattle.mh_site.specs.Worlds.{WorldState, state_at}
 use Rattle.mh_core.proofs.Calls.{reads, answered}
-use Rattle.mh_core.proofs.machine.evaluated.Goals as goal
+use Rattle.mh_core.proofs.accepting.evaluated.Goals as goal
 
 pub prepared-linked-requires : goal.prepared-linked-requires
 prepared-linked-requires c =

@@ -1,0 +1,129 @@
+//! How a book takes a record that passes its tests: all growths come first, and then nothing can fail.
+
+ghost use Rattle.std.specs.Prelude.{◌≡◌, ◌+◌, ℕ, List, length, slice_set, OnOk, OnErr, IfOk};
+ghost use Rattle.mh_ledger.specs.Ledgers.{AreHeld, Holds, LedgerState, settled};
+ghost use Rattle.mh_core.specs.declared.record.Record.TheVariants.{Flushed, Targeted, Invalidated, Snapped, Published};
+ghost use Rattle.mh_core.specs.Books.{Takes};
+ghost use Rattle.mh_core.specs.Records.{hits_in};
+ghost use Rattle.mh_core.specs.Rows.{tests};
+ghost use Rattle.mh_core.specs.Tests.{Passes};
+
+use crate::book::Book;
+use crate::fault::NoMemory;
+use crate::hits::counted;
+use crate::plan::SharedPlan;
+use crate::record::Record;
+use crate::snapshot::Snapshot;
+use mh_ledger::Ledger;
+use mh_site::{Control, Listing, Points, Retargeting};
+use mh_tree::Declared;
+use std::alloc::Global;
+
+impl Book {
+    pub(crate) fn append_flush(&mut self, calls: usize, ledger: &mut Ledger) -> Result<(), NoMemory>
+        requires held { Holds self.old.totals ledger.old }
+        requires passes { Passes (tests self.old.definition self.old.limits (length self.old.records + calls) self.old.records (Flushed ledger.old.worker (hits_in ledger.old.unflushed))) }
+        ensures taken { OnOk result (Takes self.old calls (Flushed ledger.old.worker (hits_in ledger.old.unflushed)) self.new) }
+        ensures ledger { OnOk result (ledger.new ≡ settled ledger.old) }
+        ensures held { Holds self.new.totals ledger.new }
+        ensures all { (ledgers : List LedgerState) → AreHeld self.old.totals ledgers → AreHeld self.new.totals (slice_set ledgers ledger.old.worker ledger.new) }
+        ensures refused { OnErr result (self.new ≡ self.old) }
+        ensures kept { OnErr result (ledger.new ≡ ledger.old) }
+    {
+        let worker = ledger.worker();
+        let hits = counted(self.alloc, ledger.unflushed_hits())?;
+        self.records.reserve(1)?;
+        // The tests saw that the totals have room.
+        let _room = self.totals.flush(ledger);
+        self.records.push_reserved(Record::Flushed { worker, hits });
+        Ok(())
+    }
+
+    pub(crate) fn append_target(
+        &mut self,
+        calls: usize,
+        site: usize,
+        tree: Declared,
+    ) -> Result<(), NoMemory>
+        requires passes { Passes (tests self.old.definition self.old.limits (length self.old.records + calls) self.old.records (Targeted site tree)) }
+        ensures taken { OnOk result (Takes self.old calls (Targeted site tree) self.new) }
+        ensures totals { self.new.totals ≡ self.old.totals }
+        ensures refused { OnErr result (self.new ≡ self.old) }
+    {
+        let base = another(&tree)?;
+        let retargeting = Retargeting::new(site, base)?;
+        self.records.reserve(1)?;
+        self.records.push_reserved(Record::Targeted { site, tree });
+        self.world.absorb(Control::Target(retargeting));
+        Ok(())
+    }
+
+    pub(crate) fn append_points(
+        &mut self,
+        calls: usize,
+        points: Listing<u32>,
+    ) -> Result<(), NoMemory>
+        requires passes { Passes (tests self.old.definition self.old.limits (length self.old.records + calls) self.old.records (Invalidated points)) }
+        ensures taken { OnOk result (Takes self.old calls (Invalidated points) self.new) }
+        ensures totals { self.new.totals ≡ self.old.totals }
+        ensures refused { OnErr result (self.new ≡ self.old) }
+    {
+        let recorded = copied(self.alloc, &points)?;
+        self.records.reserve(1)?;
+        let entry = Record::Invalidated { points: recorded };
+        self.records.push_reserved(entry);
+        let control = Points::new(points.into_vec());
+        self.world.absorb(Control::Invalidate(control));
+        Ok(())
+    }
+
+    pub(crate) fn append_snapshot(&mut self, calls: usize) -> Result<usize, NoMemory>
+        requires passes { Passes (tests self.old.definition self.old.limits (length self.old.records + calls) self.old.records Snapped) }
+        ensures taken { OnOk result (Takes self.old calls Snapped self.new) }
+        ensures number { IfOk result (λ number. number ≡ length self.old.snapshots + 1) }
+        ensures totals { self.new.totals ≡ self.old.totals }
+        ensures refused { OnErr result (self.new ≡ self.old) }
+    {
+        let sites = self.definition.sites().len();
+        let snapshot = Snapshot::take(self.alloc, &self.totals, &self.world, sites)?;
+        self.snapshots.reserve(1)?;
+        self.records.reserve(1)?;
+        self.snapshots.push_reserved(snapshot);
+        self.records.push_reserved(Record::Snapped);
+        Ok(self.snapshots.len())
+    }
+
+    pub(crate) fn append_publish(
+        &mut self,
+        calls: usize,
+        snapshot: usize,
+        plan: SharedPlan,
+    ) -> Result<usize, NoMemory>
+        requires passes { Passes (tests self.old.definition self.old.limits (length self.old.records + calls) self.old.records (Published snapshot plan)) }
+        ensures taken { OnOk result (Takes self.old calls (Published snapshot plan) self.new) }
+        ensures number { IfOk result (λ number. number ≡ self.old.plans + 1) }
+        ensures totals { self.new.totals ≡ self.old.totals }
+        ensures refused { OnErr result (self.new ≡ self.old) }
+    {
+        self.records.reserve(1)?;
+        self.records
+            .push_reserved(Record::Published { snapshot, plan });
+        self.plans += 1;
+        Ok(self.plans)
+    }
+}
+
+// Another owner of a tree.
+fn another(tree: &Declared) -> Result<Declared, NoMemory>
+    ensures value { IfOk result (λ t. t ≡ tree.now) }
+{
+    tree.share().map_err(|_| NoMemory)
+}
+
+// The same numbers.
+fn copied(alloc: Global, numbers: &Listing<u32>) -> Result<Listing<u32>, NoMemory>
+    ensures value { IfOk result (λ copied. copied ≡ numbers.now) }
+{
+    let items = numbers.as_slice().to_vec(alloc)?;
+    Ok(Listing::from_vec(items))
+}

@@ -1,0 +1,17 @@
+//! Calls that a machine accepted.
+
+use mh_site::Listing;
+use mh_type::Value;
+
+/// An accepted call, and its place among the records of the machine's book.
+#[derive(Drop)]
+pub struct AcceptedCall {
+    /// How many records were there when it was accepted.
+    pub place: usize,
+    /// The worker that called.
+    pub worker: u32,
+    /// The site that was called.
+    pub site: usize,
+    /// The arguments.
+    pub arguments: Listing<Value>,
+}

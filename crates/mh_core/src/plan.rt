@@ -1,0 +1,51 @@
+//! Plans with several owners.
+
+ghost use Rattle.std.specs.Prelude.{◌≡◌, IfOk};
+ghost use Rattle.std.specs.Arc.{arc_value};
+
+use crate::fault::NoMemory;
+use mh_cert::Plan;
+use std::alloc::Global;
+use std::marker::Model;
+use std::sync::Arc;
+
+/// A plan that an event, a record and a reply hold together: it is stored once. A clone of it is
+/// `share`.
+#[derive(Drop)]
+pub struct SharedPlan {
+    plan: Arc<Plan>,
+}
+
+impl Model for SharedPlan {
+    ghost use Rattle.std.specs.Arc.{arc_value};
+    ghost use Rattle.mh_cert.specs.declared.plan.Plan.{Plan};
+
+    ghost Value = { Plan };
+
+    ghost view = { λ p. arc_value p.plan };
+}
+
+impl SharedPlan {
+    /// The first owner of a plan. Refused where memory was.
+    pub fn new(alloc: Global, plan: Plan) -> Result<SharedPlan, NoMemory>
+        ensures value { IfOk result (λ p. p ≡ plan) }
+    {
+        let plan = Arc::new(alloc, plan).map_err(|_| NoMemory)?;
+        Ok(SharedPlan { plan })
+    }
+
+    /// Another owner of the plan. Refused where no more owners can be counted.
+    pub fn share(&self) -> Result<SharedPlan, NoMemory>
+        ensures value { IfOk result (λ p. p ≡ self.now) }
+    {
+        let plan = Arc::try_clone(&self.plan).map_err(|_| NoMemory)?;
+        Ok(SharedPlan { plan })
+    }
+
+    /// The plan.
+    pub fn plan(&self) -> &Plan
+        ensures value { result.now ≡ self.now }
+    {
+        &self.plan
+    }
+}

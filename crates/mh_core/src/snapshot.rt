@@ -1,0 +1,74 @@
+//! Snapshots: what a problem of selection is made of.
+
+ghost use Rattle.std.specs.Prelude.{◌≡◌, ◌<◌, ◌≤◌, length, map, IfOk};
+ghost use Rattle.mh_site.specs.Worlds.{state_at};
+ghost use Rattle.mh_core.specs.Records.{numbers};
+
+use crate::fault::NoMemory;
+use mh_ledger::Totals;
+use mh_site::World;
+use std::alloc::Global;
+use std::marker::Model;
+
+// The total of each link, which points are valid, and how often each site was retargeted.
+#[derive(Drop)]
+pub(crate) struct Snapshot {
+    totals: Vec<u64>,
+    valid: Vec<bool>,
+    versions: Vec<u64>,
+}
+
+impl Model for Snapshot {
+    ghost use Rattle.mh_core.specs.Snapshots.{SnapshotState, coded_snapshot};
+
+    ghost Value = { SnapshotState };
+
+    ghost coded = { coded_snapshot };
+
+    ghost view = { λ s. record { totals = s.totals.items; valid = s.valid.items; versions = s.versions.items } };
+}
+
+impl Snapshot {
+    // What stands now of a world with so many sites.
+    pub(crate) fn take(
+        alloc: Global,
+        totals: &Totals,
+        world: &World,
+        sites: usize,
+    ) -> Result<Snapshot, NoMemory>
+        requires sites { sites ≤ length world.now.sites }
+        ensures value { IfOk result (λ s. s ≡ record { totals = totals.now.total; valid = world.now.valid; versions = map (λ i. (state_at world.now i).version) (numbers sites) }) }
+    {
+        Ok(Snapshot {
+            totals: totals.as_slice().to_vec(alloc)?,
+            valid: world.valid().to_vec(alloc)?,
+            versions: versions(alloc, world, sites)?,
+        })
+    }
+
+    // The total of each link.
+    pub(crate) fn totals(&self) -> &[u64]
+        ensures value { result.now ≡ self.now.totals }
+    {
+        self.totals.as_slice()
+    }
+
+    // Which points were valid.
+    pub(crate) fn valid(&self) -> &[bool]
+        ensures value { result.now ≡ self.now.valid }
+    {
+        self.valid.as_slice()
+    }
+}
+
+// How often each site was retargeted.
+fn versions(alloc: Global, world: &World, sites: usize) -> Result<Vec<u64>, NoMemory>
+    requires sites { sites ≤ length world.now.sites }
+    ensures value { IfOk result (λ v. v.items ≡ map (λ i. (state_at world.now i).version) (numbers sites)) }
+{
+    let mut versions = Vec::new(alloc);
+    for site in 0..sites {
+        versions.push(world.version(site))?;
+    }
+    Ok(versions)
+}

@@ -1,0 +1,142 @@
+//! The tests of a book's records, where so many calls were accepted beside them.
+
+ghost use Rattle.std.specs.Prelude.{◌≡◌, ◌⊎◌, ◌<◌, ◌≤◌, ◌+◌, ◌↔◌, length, OnOk, IfErr, IsTrue};
+ghost use Rattle.std.specs.List.{All};
+ghost use Rattle.mh_ledger.specs.Ledgers.{Holds};
+ghost use Rattle.mh_cert.specs.Plans.{Matches, plan_tests};
+ghost use Rattle.mh_network.specs.Tests as first;
+ghost use Rattle.mh_core.specs.declared.record.Record.TheVariants.{Flushed, Targeted, Invalidated, Snapped, Published};
+ghost use Rattle.mh_core.specs.declared.refusal.Refusal.{Refusal};
+ghost use Rattle.mh_core.specs.Records.{hits_in};
+ghost use Rattle.mh_core.specs.Rows.{tests};
+ghost use Rattle.mh_core.specs.Tests.{Passes, Refuses};
+
+use crate::book::Book;
+use crate::limits::{MOST_PLANS, MOST_SNAPSHOTS};
+use crate::plan::SharedPlan;
+use crate::problem::gains_fit;
+use crate::refusal::Refusal;
+use mh_cert::{CheckFault, Plan, check};
+use mh_ledger::Ledger;
+use mh_network::Problem;
+use mh_site::Listing;
+use mh_tree::Declared;
+use std::alloc::Global;
+
+impl Book {
+    /// Whether as many events were accepted as may be, where so many calls were accepted beside the
+    /// records.
+    pub fn is_full(&self, calls: usize) -> bool
+        ensures decides { IsTrue result ↔ (self.now.limits.history ≤ length self.now.records + calls) }
+    {
+        self.records.len().saturating_add(calls) as u64 >= self.limits.history()
+    }
+
+    // The tests of a flush, of which the first that fails is told.
+    pub(crate) fn test_flush(&self, calls: usize, ledger: &Ledger) -> Result<(), Refusal>
+        requires held { Holds self.now.totals ledger.now }
+        ensures passes { OnOk result (Passes (tests self.now.definition self.now.limits (length self.now.records + calls) self.now.records (Flushed ledger.now.worker (hits_in ledger.now.unflushed)))) }
+        ensures refuses { IfErr result (λ told. Refuses (tests self.now.definition self.now.limits (length self.now.records + calls) self.now.records (Flushed ledger.now.worker (hits_in ledger.now.unflushed))) told) }
+    {
+        if self.is_full(calls) {
+            return Err(Refusal::HistoryFull);
+        }
+        if !self.totals.has_room(ledger) {
+            return Err(Refusal::TotalTooLarge);
+        }
+        Ok(())
+    }
+
+    // The tests of a retargeting, of which the first that fails is told.
+    pub(crate) fn test_target(
+        &self,
+        calls: usize,
+        site: usize,
+        tree: &Declared,
+    ) -> Result<(), Refusal>
+        ensures passes { OnOk result (Passes (tests self.now.definition self.now.limits (length self.now.records + calls) self.now.records (Targeted site tree.now))) }
+        ensures refuses { IfErr result (λ told. Refuses (tests self.now.definition self.now.limits (length self.now.records + calls) self.now.records (Targeted site tree.now)) told) }
+    {
+        if site >= self.definition.sites().len() {
+            return Err(Refusal::NoSite);
+        }
+        let handle = tree.handle();
+        let declared = self.definition.method_type(site);
+        if !handle.method_type().equals(declared) {
+            return Err(Refusal::WrongType);
+        }
+        if handle.point_bound() > self.definition.points().len() {
+            return Err(Refusal::NoPoint);
+        }
+        if self.is_full(calls) {
+            return Err(Refusal::HistoryFull);
+        }
+        Ok(())
+    }
+
+    // The tests of an invalidation, of which the first that fails is told.
+    pub(crate) fn test_points(&self, calls: usize, points: &Listing<u32>) -> Result<(), Refusal>
+        ensures passes { OnOk result (Passes (tests self.now.definition self.now.limits (length self.now.records + calls) self.now.records (Invalidated points.now))) }
+        ensures refuses { IfErr result (λ told. Refuses (tests self.now.definition self.now.limits (length self.now.records + calls) self.now.records (Invalidated points.now)) told) }
+    {
+        if !all_below(points.as_slice(), self.definition.points().len()) {
+            return Err(Refusal::NoPoint);
+        }
+        if self.is_full(calls) {
+            return Err(Refusal::HistoryFull);
+        }
+        Ok(())
+    }
+
+    // The tests of a snapshot, of which the first that fails is told.
+    pub(crate) fn test_snapshot(&self, calls: usize) -> Result<(), Refusal>
+        ensures passes { OnOk result (Passes (tests self.now.definition self.now.limits (length self.now.records + calls) self.now.records Snapped)) }
+        ensures refuses { IfErr result (λ told. Refuses (tests self.now.definition self.now.limits (length self.now.records + calls) self.now.records Snapped) told) }
+    {
+        if self.is_full(calls) || self.snapshots.len() >= MOST_SNAPSHOTS {
+            return Err(Refusal::HistoryFull);
+        }
+        let totals = self.totals.as_slice();
+        if !gains_fit(&self.definition, totals, self.world.valid()) {
+            return Err(Refusal::GainTooLarge);
+        }
+        Ok(())
+    }
+
+    // The tests of a plan that is offered, of which the first that fails is told.
+    pub(crate) fn test_publish(
+        &self,
+        calls: usize,
+        snapshot: usize,
+        plan: &SharedPlan,
+    ) -> Result<(), Refusal>
+        ensures passes { OnOk result (Passes (tests self.now.definition self.now.limits (length self.now.records + calls) self.now.records (Published snapshot plan.now))) }
+        ensures refuses { IfErr result (λ told. Refuses (tests self.now.definition self.now.limits (length self.now.records + calls) self.now.records (Published snapshot plan.now)) told) }
+    {
+        let problem = self.problem(snapshot)?;
+        test_plan(self.alloc, &problem, plan.plan())?;
+        if self.is_full(calls) || self.plans >= MOST_PLANS {
+            return Err(Refusal::HistoryFull);
+        }
+        Ok(())
+    }
+}
+
+// Whether each number is below the bound.
+fn all_below(numbers: &[u32], bound: usize) -> bool
+    ensures value { IsTrue result ↔ All (λ n. n < bound) numbers.now }
+{
+    numbers.iter().all(|number| (*number as usize) < bound)
+}
+
+// Whether a plan matches its problem, or its first part that is wrong.
+fn test_plan(alloc: Global, problem: &Problem, plan: &Plan) -> Result<(), Refusal>
+    ensures matching { OnOk result (Matches problem.now plan.now) }
+    ensures refused { IfErr result (λ told. (told ≡ Refusal.NoMemory) ⊎ ((Matches problem.now plan.now → ⊥) × ((fault : CheckFault) × (told ≡ Refusal.PlanRefused fault) × first.Refuses (plan_tests problem.now plan.now) fault))) }
+{
+    match check(alloc, problem, plan) {
+        Ok(()) => Ok(()),
+        Err(CheckFault::NoMemory) => Err(Refusal::NoMemory),
+        Err(fault) => Err(Refusal::PlanRefused(fault)),
+    }
+}
