@@ -3,7 +3,7 @@ use Rattle.std.proofs.Common.{◌≡◌, ◌≢◌, ◌⊎◌, ◌<◌, ◌≤�
 use Rattle.std.proofs.KnownBytes.{Appends-kept, Keeps-refl, Keeps-trans}
 use Rattle.std.specs.Io.KnownBytes.{Appends, Keeps}
 use Rattle.mh_core.specs.Legal.{MachineState}
-use Rattle.mh_core.specs.declared.event.Event.{Event}
+use Rattle.mh_text.specs.declared.step.Step.{Step}
 use Rattle.mh_text.specs.Bytes.{HasFailed, one_more}
 use Rattle.mh_text.specs.Checks.{FailsCheck}
 use Rattle.mh_text.specs.Planning.{FailsPlan}
@@ -68,9 +68,9 @@ stream_failed A B (BadType cause) three end = absurd (omega (arith, three))
 
 -- what was left written stands after a flush, which keeps it
 module _ (old mid new : Option (List ℕ)) (kept : Keeps mid new) where
-  ends_kept : (m : MachineState) (events : List Event) (n : ℕ) → output.EndsIn m events n old mid → output.EndsIn m events n old new
-  ends_kept m events n (replies, reply, last, front, rest, count, run, line, written) =
-      (replies, reply, last, front, rest, count, run, line, Appends-kept old mid new (lines_of replies ++ front) written kept)
+  ends_kept : (m : MachineState) (steps : List Step) (n : ℕ) → output.EndsIn m steps n old mid → output.EndsIn m steps n old new
+  ends_kept m steps n (replies, reply, last, front, rest, count, run, line, written) =
+      (replies, reply, last, front, rest, count, run, line, Appends-kept old mid new (lines_of m.setting.definition replies ++ front) written kept)
 
   early_kept : (script : Script) (B : Type 0) (e : Fault) → EndsEarly script old mid B e → EndsEarly script old new B e
   early_kept script B e (inl (same, memory)) = inl (Keeps-trans old mid new same kept, memory)

@@ -1,9 +1,7 @@
 -- What a request is answered with.
 use Rattle.std.specs.Prelude.{◌≡◌, ◌⊎◌, ℕ, List, [], Option, Ok, IfSome}
 use Rattle.std.specs.Io.KnownBytes.{Appends}
-use Rattle.mh_core.specs.Legal.{Run}
 use Rattle.mh_core.specs.declared.event.Event.{Event}
-use Rattle.mh_core.specs.declared.reply.Reply.{Reply}
 use Rattle.mh_text.specs.Checks.{IsClaimFault, IsVerdict, FailsCheck, verdict_line}
 use Rattle.mh_text.specs.Faults.{fault_line}
 use Rattle.mh_text.specs.Lines.{lines_of}
@@ -12,6 +10,7 @@ use Rattle.mh_text.specs.declared.fault.Fault.{Fault}
 use Rattle.mh_text.specs.Planning.{IsPlanned, IsProblemFault, FailsPlan}
 use Rattle.mh_text.specs.declared.planning.PlanOptions.{PlanOptions}
 use Rattle.mh_text.specs.declared.script.Script.{Script}
+use Rattle.mh_text.specs.Steps.{Told, Run}
 use Rattle.mh_text.specs.declared.verdict.Verdict.{Verdict}
 use Rattle.mh_text.specs.declared.fault.TextFault.TheVariants.{WriteFailed}
 use Rattle.mh_command.specs.Statuses.{status_found}
@@ -34,8 +33,8 @@ turned_down e = record { status = 1; output = []; errors = fault_line e }
 -- a script: the lines of a legal run of it; else its first fault
 abbrev pub IsRunAnswer : List ℕ → Answer → Type 0
 IsRunAnswer input answer =
-    ((script : Script) × (replies : List Reply) × (last : List Event) × (script_of_input input ≡ Ok script)
-    × Run (first script).setting (first script).history script.events replies last × (answer ≡ output_alone 0 (lines_of replies)))
+    ((script : Script) × (replies : List Told) × (last : List Event) × (script_of_input input ≡ Ok script)
+    × Run (first script).setting (first script).history script.steps replies last × (answer ≡ output_alone 0 (lines_of script.definition replies)))
     ⊎ ((e : Fault) × IsScriptFault input e × (answer ≡ turned_down e))
 
 -- a problem with a plan: the line of what is found of the plan; else the first fault

@@ -42,7 +42,7 @@ pub(crate) fn work<T: Threads + Sync, R: Read, W: Write>(
 {
     match request {
         Request::Run => {
-            run_bytes(alloc, reader, out)?;
+            run_bytes(rt, alloc, reader, out)?;
             Ok(DONE)
         }
         Request::Check => {

@@ -1,15 +1,15 @@
--- Reading a list of events, as far as it has come.
+-- Reading a list of steps, as far as it has come.
 use Rattle.std.proofs.Common.{◌≡◌, ℕ, ◌+◌, ◌-◌, ◌<◌, ◌≤◌, List, [], ◌∷◌, ◌++◌, length, take, drop, get_or, map, Result, Ok, Err, ◌⊎◌, inl, inr, refl, sym, subst, ap, ◌∙◌, arith}
 use Rattle.std.proofs.lemmas.List.{at_drop_more, length-map, length-take-le, map-append, take-append-drop, take-map, take_more}
 use Rattle.serde_json.specs.Data.{Data}
 use Rattle.serde_json.specs.View.{view}
 use Rattle.serde_json.specs.declared.value.Value.{Value}
-use Rattle.mh_core.specs.declared.event.Event.{Event}
 use Rattle.mh_text.specs.declared.declarations.Declarations.{Declarations}
 use Rattle.mh_text.specs.declared.fault.Fault.{Fault}
 use Rattle.mh_text.specs.declared.fault.TextFault.TheVariants as text
+use Rattle.mh_text.specs.declared.step.Step.{Step}
 use Rattle.mh_text.specs.Gives.{◌>>=◌, at_place, GivesUpTo}
-use Rattle.mh_text.specs.Script.{declarations_of, event_of, events_of, schedule_of, script_of, IsNext, IsReached, IsReachedBy}
+use Rattle.mh_text.specs.Script.{declarations_of, step_of, steps_of, schedule_of, script_of, IsNext, IsReached, IsReachedBy}
 use Rattle.mh_text.specs.Shape.{each_from}
 use Rattle.mh_text.proofs.Loop.{with_front}
 
@@ -50,11 +50,11 @@ module _ {A E : Type 0} (f : ℕ → Data → Result A E) where
       let now : f (n + length ds) d ≡ Err e = ap (λ i. f i d) (sym at) ∙ here in
       each_append n ds (d ∷ rest) ∙ rw (before, now) refl
 
--- The events of the first i values are read, and v is the next.
-module _ (declared : Declarations) (values : List Value) (i at : ℕ) (before : List Event) (v : Value)
-    (inside : i < length values) (is : v ≡ get_or values i v) (number : at ≡ i + 1) (so_far : events_of declared (map view (take i values)) ≡ Ok before) where
-  abbrev read_at : ℕ → Data → Result Event Fault
-  read_at n d = at_place n (event_of declared d)
+-- The steps of the first i values are read, and v is the next.
+module _ (declared : Declarations) (values : List Value) (i at : ℕ) (before : List Step) (v : Value)
+    (inside : i < length values) (is : v ≡ get_or values i v) (number : at ≡ i + 1) (so_far : steps_of declared (map view (take i values)) ≡ Ok before) where
+  abbrev read_at : ℕ → Data → Result Step Fault
+  read_at n d = at_place n (step_of declared d)
 
   abbrev front : List Data
   front = map view (take i values)
@@ -65,32 +65,32 @@ module _ (declared : Declarations) (values : List Value) (i at : ℕ) (before : 
   front_length : at ≡ 1 + length front
   front_length = let few : i ≤ length values = omega (arith, inside) in omega (arith, number, length-map (take i values) view, length-take-le i values few)
 
-  -- its event may be told by number
+  -- it may be told by number
   pub is_next : IsNext declared (map view values) at
   is_next =
       let place : at - 1 ≡ i = omega (arith, number) in
       (before, omega (arith, number), omega (arith, number, inside, length-map values view), rw (place, take-map view i values) so_far)
 
-  -- one event more
-  pub reads_more : (event : Event) → read_at at (view v) ≡ Ok event → events_of declared (map view (take (i + 1) values)) ≡ Ok (before ++ event ∷ [])
-  reads_more event here =
+  -- one step more
+  pub reads_more : (step : Step) → read_at at (view v) ≡ Ok step → steps_of declared (map view (take (i + 1) values)) ≡ Ok (before ++ step ∷ [])
+  reads_more step here =
       let split : map view (take (i + 1) values) ≡ front ++ view v ∷ [] =
       ap (map view) (take_more values i v inside ∙ ap (λ w. take i values ++ w ∷ []) (sym is)) ∙ map-append view (take i values) (v ∷ []) in
-      ap (events_of declared) split ∙ each_more read_at 1 at front (view v) before event so_far front_length here
+      ap (steps_of declared) split ∙ each_more read_at 1 at front (view v) before step so_far front_length here
 
   -- its fault is the first
-  pub fails_next : (e : Fault) → read_at at (view v) ≡ Err e → events_of declared (map view values) ≡ Err e
+  pub fails_next : (e : Fault) → read_at at (view v) ≡ Err e → steps_of declared (map view values) ≡ Err e
   fails_next e here =
       let split : map view values ≡ front ++ view v ∷ rest =
       ap (map view) (sym (take-append-drop i values) ∙ at_drop_more (λ xs. take i values ++ xs) values i v inside ∙ ap (λ w. take i values ++ w ∷ drop (i + 1) values) (sym is))
       ∙ map-append view (take i values) (v ∷ drop (i + 1) values) in
-      ap (events_of declared) split ∙ each_fails read_at 1 at front rest (view v) before e so_far front_length here
+      ap (steps_of declared) split ∙ each_fails read_at 1 at front rest (view v) before e so_far front_length here
 
   -- and is told, or memory ran out at its number
-  pub event_fails : (e : Fault) → (e ≡ record { kind = text.NoMemory; at = at }) ⊎ (read_at at (view v) ≡ Err e)
-      → GivesUpTo {X = List Event} (IsNext declared (map view values)) (Err e) (events_of declared (map view values))
-  event_fails e (inl memory) = inr (inl (ap (λ f. f.kind) memory, subst (IsNext declared (map view values)) (sym (ap (λ f. f.at) memory)) is_next))
-  event_fails e (inr here) = inr (inr (fails_next e here))
+  pub step_fails : (e : Fault) → (e ≡ record { kind = text.NoMemory; at = at }) ⊎ (read_at at (view v) ≡ Err e)
+      → GivesUpTo {X = List Step} (IsNext declared (map view values)) (Err e) (steps_of declared (map view values))
+  step_fails e (inl memory) = inr (inl (ap (λ f. f.kind) memory, subst (IsNext declared (map view values)) (sym (ap (λ f. f.at) memory)) is_next))
+  step_fails e (inr here) = inr (inr (fails_next e here))
 
 -- what fails behind the declarations fails in the script
 pub script_fails : (d : Data) (declared : Declarations) (e : Fault) → declarations_of d ≡ Ok declared

@@ -1,5 +1,5 @@
 -- Runs, and the bytes that they write.
-use Rattle.std.proofs.Common.{◌≡◌, ℕ, ◌+◌, ◌<◌, List, [], ◌∷◌, ◌++◌, length, take, get_or, Option, Some, None, Result, Ok, Err, Bool, true, false, refl, sym, ap, ◌∙◌, subst, inr, IfErr, rules}
+use Rattle.std.proofs.Common.{◌≡◌, ℕ, ◌+◌, ◌<◌, List, [], ◌∷◌, ◌++◌, length, take, get_or, Option, Some, None, Result, Ok, Err, Bool, true, false, refl, sym, ap, ◌∙◌, subst, inr, IfErr, MatchResult, rules}
 use Rattle.std.proofs.lemmas.List.{take_more, flat_map_more}
 use Rattle.std.proofs.Math.Seq.{take-length}
 use Rattle.std.proofs.lemmas.Str.{is_utf8-from_IsUtf8, IsUtf8-from_is_utf8}
@@ -10,36 +10,57 @@ use Rattle.serde_json.specs.Data.{Data}
 use Rattle.serde_json.specs.Read.{read}
 use Rattle.mh_text.specs.declared.fault.ReadFault.TheVariants as fault
 use Rattle.mh_core.specs.declared.event.Event.{Event}
-use Rattle.mh_core.specs.declared.reply.Reply.{Reply}
 use Rattle.mh_text.specs.Lines.{line_of, lines_of}
-use Rattle.mh_core.specs.Legal.{Setting, MachineState, Step, Run}
-use Rattle.mh_core.proofs.Runs.{run_more}
+use Rattle.mh_core.specs.Legal.{Setting, MachineState}
+use Rattle.mh_site.specs.Defined.{DefinitionData}
 use Rattle.mh_text.specs.declared.fault.Fault.{Fault}
 use Rattle.mh_text.specs.declared.script.Script.{Script}
-use Rattle.mh_text.specs.Output.{json_in, first, EndsIn, EndsEarly, IsEnd}
+use Rattle.mh_text.specs.declared.step.Step.{Step}
+use Rattle.mh_text.specs.Bytes.{AppendsFront}
+use Rattle.mh_text.specs.Inputs.{json_in}
+use Rattle.mh_text.specs.Steps.{Told, Takes, Run}
+use Rattle.mh_text.specs.Output.{first, EndsIn, EndsEarly, IsEnd}
 
--- a run of as many events as a loop has at number i, and a step for the next
-pub run_next : (x start : Setting) (h events : List Event) (i n : ℕ) (replies : List Reply) (mid : List Event) (event : Event) (reply : Reply) (new : List Event)
-    → i ≡ n → (n < length events) × (event ≡ get_or events n event) → Run start h (take i events) replies mid → x ≡ start → Step x mid event reply new
-    → Run start h (take (i + 1) events) (replies ++ reply ∷ []) new
-run_next x start h events i n replies mid event reply new at turn run same step =
-    let inside : i < length events = subst (λ k. k < length events) (sym at) turn.0 in
-    let next = subst (λ e. Step x mid e reply new) (turn.1 ∙ ap (λ k. get_or events k event) (sym at)) step in
-    subst (λ es. Run start h es (replies ++ reply ∷ []) new) (sym (take_more events i event inside))
-    (run_more x start h (take i events) replies (replies ++ reply ∷ []) mid (get_or events i event) reply new run same next refl)
+run_push : (x : Setting) (h : List Event) (steps : List Step) (replies : List Told) (mid : List Event) (step : Step) (told : Told) (new : List Event)
+    → Run x h steps replies mid → Takes x mid step told new → Run x h (steps ++ step ∷ []) (replies ++ told ∷ []) new
+run_push x h [] [] mid step told new same takes = (new, subst (λ (g : List Event). Takes x g step told new) same takes, refl)
+run_push x h (s ∷ steps) (t ∷ replies) mid step told new run takes = (run.0, run.1, run_push x run.0 steps replies mid step told new run.2 takes)
+run_push x h [] (t ∷ replies) mid step told new run takes = absurd run
+run_push x h (s ∷ steps) [] mid step told new run takes = absurd run
 
--- a run of as many events as there are
-pub run_whole : (x : Setting) (h events : List Event) (n : ℕ) (replies : List Reply) (new : List Event)
-    → n ≡ length events → Run x h (take n events) replies new → Run x h events replies new
-run_whole x h events n replies new same run =
-    subst (λ es. Run x h es replies new) (ap (λ k. take k events) same ∙ take-length events) run
+-- a run of as many steps as a loop has at number i, and one more for the next
+pub run_next : (x start : Setting) (h : List Event) (steps : List Step) (i n : ℕ) (replies : List Told) (mid : List Event) (step : Step) (told : Told) (new : List Event)
+    → i ≡ n → (n < length steps) × (step ≡ get_or steps n step) → Run start h (take i steps) replies mid → x ≡ start → Takes x mid step told new
+    → Run start h (take (i + 1) steps) (replies ++ told ∷ []) new
+run_next x start h steps i n replies mid step told new at turn run same takes =
+    let inside : i < length steps = subst (λ k. k < length steps) (sym at) turn.0 in
+    let next = subst (λ s. Takes x mid s told new) (turn.1 ∙ ap (λ k. get_or steps k step) (sym at)) takes in
+    let here = subst (λ (y : Setting). Takes y mid (get_or steps i step) told new) same next in
+    subst (λ ss. Run start h ss (replies ++ told ∷ []) new) (sym (take_more steps i step inside))
+    (run_push start h (take i steps) replies mid (get_or steps i step) told new run here)
 
-pub lines_more : (replies : List Reply) (reply : Reply) → lines_of replies ++ line_of reply ≡ lines_of (replies ++ reply ∷ [])
-lines_more replies reply = flat_map_more line_of [] replies reply
+-- a run of as many steps as there are
+pub run_whole : (x : Setting) (h : List Event) (steps : List Step) (n : ℕ) (replies : List Told) (new : List Event)
+    → n ≡ length steps → Run x h (take n steps) replies new → Run x h steps replies new
+run_whole x h steps n replies new same run =
+    subst (λ ss. Run x h ss replies new) (ap (λ k. take k steps) same ∙ take-length steps) run
+
+pub lines_more : (d : DefinitionData) (replies : List Told) (told : Told) → lines_of d replies ++ line_of d told ≡ lines_of d (replies ++ told ∷ [])
+lines_more d replies told = flat_map_more (line_of d) [] replies told
 
 -- the lines so far, and one more
-pub line_written : (a b c : Option (List ℕ)) (replies : List Reply) (reply : Reply) → Appends a b (lines_of replies) → Appends b c (line_of reply) → Appends a c (lines_of (replies ++ reply ∷ []))
-line_written a b c replies reply before now = subst (Appends a c) (lines_more replies reply) (Appends-trans a b c _ _ before now)
+pub line_written : (x start : Setting) (a b c : Option (List ℕ)) (replies : List Told) (told : Told) → x ≡ start
+    → Appends a b (lines_of start.definition replies) → Appends b c (line_of x.definition told) → Appends a c (lines_of start.definition (replies ++ told ∷ []))
+line_written x start a b c replies told same before now =
+    let here = subst (λ (y : Setting). Appends b c (line_of y.definition told)) same now in
+    subst (Appends a c) (lines_more start.definition replies told) (Appends-trans a b c _ _ before here)
+
+-- a line with the names of one definition is that of an equal one
+pub line_by : {X : Type 0} (r : Result X Fault) (old new : Option (List ℕ)) (at : ℕ) (d e : DefinitionData) (told : Told) → d ≡ e
+    → MatchResult r (λ _. Appends old new (line_of d told)) (λ f. (f.at ≡ at) × AppendsFront old new (line_of d told))
+    → MatchResult r (λ _. Appends old new (line_of e told)) (λ f. (f.at ≡ at) × AppendsFront old new (line_of e told))
+line_by r old new at d e told same =
+    subst (λ (b : DefinitionData). MatchResult r (λ _. Appends old new (line_of b told)) (λ f. (f.at ≡ at) × AppendsFront old new (line_of b told))) same
 
 pub json_found : (bytes : List ℕ) (d : Data) → IsUtf8 bytes → read bytes ≡ Some d → json_in bytes ≡ Ok d
 unfolding json_in
@@ -53,10 +74,10 @@ json_absent_at bytes false e none = rw e refl
 pub json_absent : (bytes : List ℕ) → (IsUtf8 bytes → read bytes ≡ None) → json_in bytes ≡ Err fault.NotJson
 json_absent bytes none = json_absent_at bytes (is_utf8 bytes) refl none
 
--- a run that ended in the line of an event ended early
-pub ends_early : {X : Type 0} (script : Script) (machine : MachineState) (events : List Event) (r : Result X Fault) (old new : Option (List ℕ)) (WriteHasFailed : Type 0)
-    → machine ≡ first script → events ≡ script.events → IfErr r (λ e. IsEnd WriteHasFailed e.kind) → IfErr r (λ e. EndsIn machine events e.at old new)
+-- a run that ended in the line of a step ended early
+pub ends_early : {X : Type 0} (script : Script) (machine : MachineState) (steps : List Step) (r : Result X Fault) (old new : Option (List ℕ)) (WriteHasFailed : Type 0)
+    → machine ≡ first script → steps ≡ script.steps → IfErr r (λ e. IsEnd WriteHasFailed e.kind) → IfErr r (λ e. EndsIn machine steps e.at old new)
     → IfErr r (EndsEarly script old new WriteHasFailed)
-ends_early script machine events (Ok x) old new WriteHasFailed opened same kind ends = search rules
-ends_early script machine events (Err e) old new WriteHasFailed opened same kind ends =
-    inr (kind, subst (λ m. EndsIn m script.events e.at old new) opened (subst (λ es. EndsIn machine es e.at old new) same ends))
+ends_early script machine steps (Ok x) old new WriteHasFailed opened same kind ends = search rules
+ends_early script machine steps (Err e) old new WriteHasFailed opened same kind ends =
+    inr (kind, subst (λ m. EndsIn m script.steps e.at old new) opened (subst (λ ss. EndsIn machine ss e.at old new) same ends))

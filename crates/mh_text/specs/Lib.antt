@@ -2,6 +2,7 @@ pub mod Bytes
 pub mod Checks
 pub mod Faults
 pub mod Gives
+pub mod Inputs
 pub mod Lines
 pub mod Names
 pub mod Output
@@ -12,5 +13,6 @@ pub mod Problems
 pub mod Script
 pub mod Shape
 pub mod Shared
+pub mod Steps
 pub mod Trees
 pub mod Values

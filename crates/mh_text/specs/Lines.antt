@@ -1,6 +1,6 @@
 -- The text of lines.
 use Rattle.std.specs.Prelude.{ℕ, true, false, List, [], ◌∷◌, ◌++◌, codes, if◌then◌else◌, ◌==◌, ◌||◌}
-use Rattle.std.specs.Fmt.{signed_decimal}
+use Rattle.std.specs.Fmt.{decimal, signed_decimal}
 use Rattle.std.specs.List.{flat_map}
 use Rattle.mh_type.specs.declared.value.Value as value
 use Rattle.mh_type.specs.declared.value.Value.TheVariants.{Int, Long, Boolean, Text}
@@ -8,8 +8,13 @@ use Rattle.mh_type.specs.declared.outcome.Outcome.{Outcome}
 use Rattle.mh_type.specs.declared.outcome.Outcome.TheVariants.{Value, Thrown}
 use Rattle.mh_type.specs.declared.outcome.Throw.TheVariants.{ArithmeticException, TextTooLong}
 use Rattle.mh_core.specs.declared.reply.Reply.{Reply}
-use Rattle.mh_core.specs.declared.reply.Reply.TheVariants.{Called, Done, Refused}
+use Rattle.mh_core.specs.declared.reply.Reply.TheVariants.{Called, Done, Taken, Published, Refused}
 use Rattle.mh_core.specs.Refusals.{refusal_text}
+use Rattle.mh_cert.specs.declared.plan.Plan.{Plan}
+use Rattle.mh_network.specs.Selection.{value_of}
+use Rattle.mh_site.specs.Defined.{DefinitionData, point_at}
+use Rattle.mh_text.specs.PlanLines.{numbers_text}
+use Rattle.mh_text.specs.Steps.{Told}
 
 -- a byte between quotes: 34 is a quote, 92 a backslash, and each has a backslash before it
 abbrev pub escaped : ℕ → List ℕ
@@ -33,15 +38,28 @@ outcome_text (Value value) = value_text value
 outcome_text (Thrown ArithmeticException) = codes "thrown ArithmeticException"
 outcome_text (Thrown TextTooLong) = codes "thrown TextTooLong"
 
--- a reply
-abbrev pub reply_text : Reply → List ℕ
-reply_text (Called outcome steps) = outcome_text outcome
-reply_text Done = codes "ok"
-reply_text (Refused refusal) = codes "refused " ++ refusal_text refusal
+-- the names of points with commas between them, and a dash where there is none
+abbrev pub names_text : DefinitionData → List ℕ → List ℕ
+names_text d [] = codes "-"
+names_text d (p ∷ ps) = (point_at d p).name ++ flat_map (λ q. codes "," ++ (point_at d q).name) ps
+
+-- a plan of this number, for this snapshot: links by number, points by name, and the sum of its flow's amounts
+abbrev pub published_text : DefinitionData → ℕ → ℕ → Plan → List ℕ
+published_text d n m plan =
+    codes "plan " ++ (decimal m ++ (codes " snapshot " ++ (decimal n ++ (codes " links " ++ (numbers_text plan.links
+    ++ (codes " points " ++ (names_text d plan.points ++ (codes " value " ++ (signed_decimal plan.value ++ (codes " flow " ++ decimal (value_of plan.flow)))))))))))
+
+-- a reply to a step that names this snapshot
+abbrev pub reply_text : DefinitionData → ℕ → Reply → List ℕ
+reply_text d n (Called outcome steps) = outcome_text outcome
+reply_text d n Done = codes "ok"
+reply_text d n (Taken m) = codes "snapshot " ++ decimal m
+reply_text d n (Published m plan) = published_text d n m plan
+reply_text d n (Refused refusal) = codes "refused " ++ refusal_text refusal
 
 -- a reply, and the byte 0x0A
-abbrev pub line_of : Reply → List ℕ
-line_of reply = reply_text reply ++ 10 ∷ []
+abbrev pub line_of : DefinitionData → Told → List ℕ
+line_of d told = reply_text d told.0 told.1 ++ 10 ∷ []
 
-abbrev pub lines_of : List Reply → List ℕ
-lines_of replies = flat_map line_of replies
+abbrev pub lines_of : DefinitionData → List Told → List ℕ
+lines_of d replies = flat_map (line_of d) replies

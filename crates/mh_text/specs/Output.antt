@@ -1,30 +1,19 @@
 -- What is written for an input.
-use Rattle.std.specs.Prelude.{◌≡◌, ◌⊎◌, ℕ, ◌+◌, List, [], ◌∷◌, ◌++◌, length, take, Option, Result, Ok, Err, nat_le, if◌then◌else◌, IfSome}
-use Rattle.std.specs.Str.{is_utf8}
+use Rattle.std.specs.Prelude.{◌≡◌, ◌⊎◌, ℕ, ◌+◌, List, [], ◌∷◌, ◌++◌, length, take, Option, Result, Ok, Err, IfSome}
 use Rattle.std.specs.Io.KnownBytes.{Appends, Keeps}
 use Rattle.serde_json.specs.Data.{Data}
-use Rattle.serde_json.specs.Read.{read}
 use Rattle.mh_text.specs.declared.fault.Fault.{Fault}
-use Rattle.mh_text.specs.declared.fault.ReadFault.{ReadFault}
-use Rattle.mh_text.specs.declared.fault.ReadFault.TheVariants as read_fault
 use Rattle.mh_text.specs.declared.fault.TextFault.{TextFault}
 use Rattle.mh_text.specs.declared.fault.TextFault.TheVariants as fault
 use Rattle.mh_core.specs.declared.event.Event.{Event}
-use Rattle.mh_core.specs.declared.reply.Reply.{Reply}
 use Rattle.mh_text.specs.declared.script.Script.{Script}
-use Rattle.mh_text.specs.Bytes.{most_bytes}
-use Rattle.mh_text.specs.Gives.{◌>>=◌, or_fault, at_place}
+use Rattle.mh_text.specs.declared.step.Step.{Step}
+use Rattle.mh_text.specs.Steps.{Told, Run}
+use Rattle.mh_text.specs.Gives.{◌>>=◌}
+use Rattle.mh_text.specs.Inputs.{json_of_input}
 use Rattle.mh_text.specs.Lines.{line_of, lines_of}
-use Rattle.mh_core.specs.Legal.{MachineState, Run, opened_machine}
+use Rattle.mh_core.specs.Legal.{MachineState, opened_machine}
 use Rattle.mh_text.specs.Script.{script_of, IsReached}
-
--- the JSON value of an input
-unfoldable pub json_in : List ℕ → Result Data ReadFault
-json_in input = if is_utf8 input then or_fault read_fault.NotJson (read input) else Err read_fault.NotJson
-
--- the JSON value of an input within the limit
-abbrev pub json_of_input : List ℕ → Result Data Fault
-json_of_input input = if nat_le (length input) most_bytes then at_place 0 (json_in input) else Err (record { kind = fault.TooLong; at = 0 })
 
 -- the script of an input
 abbrev pub script_of_input : List ℕ → Result Script Fault
@@ -32,19 +21,19 @@ script_of_input input = do
   value ← json_of_input input
   script_of value
 
--- the lines of a whole run of these events were appended
-abbrev pub AppendsRun : MachineState → List Event → Option (List ℕ) → Option (List ℕ) → Type 0
-AppendsRun first events old new =
-    (replies : List Reply) × (last : List Event) × Run first.setting first.history events replies last × Appends old new (lines_of replies)
+-- the lines of a whole run of these steps were appended
+abbrev pub AppendsRun : MachineState → List Step → Option (List ℕ) → Option (List ℕ) → Type 0
+AppendsRun first steps old new =
+    (replies : List Told) × (last : List Event) × Run first.setting first.history steps replies last × Appends old new (lines_of first.setting.definition replies)
 
--- The run ended in event n: the lines of the events before it were appended, and a beginning of its own line.
-abbrev pub EndsIn : MachineState → List Event → ℕ → Option (List ℕ) → Option (List ℕ) → Type 0
-EndsIn first events n old new =
-    (replies : List Reply) × (reply : Reply) × (last : List Event) × (front : List ℕ) × (rest : List ℕ)
+-- The run ended in step n: the lines of the steps before it were appended, and a beginning of its own line.
+abbrev pub EndsIn : MachineState → List Step → ℕ → Option (List ℕ) → Option (List ℕ) → Type 0
+EndsIn first steps n old new =
+    (replies : List Told) × (reply : Told) × (last : List Event) × (front : List ℕ) × (rest : List ℕ)
     × (n ≡ length replies + 1)
-    × Run first.setting first.history (take n events) (replies ++ reply ∷ []) last
-    × (line_of reply ≡ front ++ rest)
-    × Appends old new (lines_of replies ++ front)
+    × Run first.setting first.history (take n steps) (replies ++ reply ∷ []) last
+    × (line_of first.setting.definition reply ≡ front ++ rest)
+    × Appends old new (lines_of first.setting.definition replies ++ front)
 
 -- a machine before its first event, for a script
 abbrev pub first : Script → MachineState
@@ -78,7 +67,7 @@ IsUnread IsFault input ReadHasFailed e =
 -- a fault of a run: memory before its first event, and else one that ends it in the line of an event
 abbrev pub EndsEarly : Script → Option (List ℕ) → Option (List ℕ) → Type 0 → Fault → Type 0
 EndsEarly script old new WriteHasFailed e =
-    (Keeps old new × (e ≡ outside fault.NoMemory)) ⊎ (IsEnd WriteHasFailed e.kind × EndsIn (first script) script.events e.at old new)
+    (Keeps old new × (e ≡ outside fault.NoMemory)) ⊎ (IsEnd WriteHasFailed e.kind × EndsIn (first script) script.steps e.at old new)
 
 -- Where a fault leaves the writer: as it was, where the script was not read, and else where its run ended.
 abbrev pub Failed : Option (List ℕ) → Option (List ℕ) → Option (List ℕ) → Type 0 → Type 0 → Fault → Type 0

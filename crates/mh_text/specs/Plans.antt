@@ -8,7 +8,7 @@ use Rattle.mh_text.specs.declared.fault.Fault.{Fault}
 use Rattle.mh_text.specs.declared.fault.ReadFault.{ReadFault}
 use Rattle.mh_text.specs.declared.fault.ReadFault.TheVariants.{BadShape}
 use Rattle.mh_text.specs.Gives.{◌>>=◌, or_fault, at_place}
-use Rattle.mh_text.specs.Output.{json_of_input}
+use Rattle.mh_text.specs.Inputs.{json_of_input}
 use Rattle.mh_text.specs.Shape.{list_of, member_of, count_of, each_of, counts_of, part_of}
 
 -- a whole number of 64 bits with a sign

@@ -12,7 +12,8 @@ use Rattle.mh_text.specs.declared.fault.ReadFault.TheVariants.{BadShape}
 use Rattle.mh_text.specs.declared.fault.TextFault.TheVariants.{NoMemory, Problem}
 use Rattle.mh_text.specs.declared.problem.ProblemRows.{ProblemRows}
 use Rattle.mh_text.specs.Gives.{◌>>=◌, or_fault, at_place}
-use Rattle.mh_text.specs.Output.{json_of_input, outside}
+use Rattle.mh_text.specs.Inputs.{json_of_input}
+use Rattle.mh_text.specs.Output.{outside}
 use Rattle.mh_text.specs.Shape.{list_of, member_of, count_of, version_of, each_of, counts_of, part_of}
 
 -- whether a link may be chosen, which it may where nothing is said

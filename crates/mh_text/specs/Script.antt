@@ -12,7 +12,7 @@ use Rattle.mh_site.specs.declared.site.Site.{Site}
 use Rattle.mh_site.specs.Defined.{DefinitionData, site_at}
 use Rattle.mh_site.specs.Definitions.{definition_made}
 use Rattle.mh_core.specs.declared.event.Event.{Event}
-use Rattle.mh_core.specs.declared.event.Event.TheVariants.{Call, Target, Invalidate}
+use Rattle.mh_core.specs.declared.event.Event.TheVariants.{Call, Flush, Target, Invalidate, Snapshot, Publish}
 use Rattle.mh_core.specs.Limits.{LimitsData}
 use Rattle.mh_text.specs.declared.fault.Fault.{Fault}
 use Rattle.mh_text.specs.declared.fault.ReadFault.{ReadFault}
@@ -21,8 +21,11 @@ use Rattle.mh_text.specs.declared.declarations.Declarations.{Declarations}
 use Rattle.mh_text.specs.declared.scope.Scope.{Scope}
 use Rattle.mh_text.specs.declared.script.Schedule.{Schedule}
 use Rattle.mh_text.specs.declared.script.Script.{Script}
+use Rattle.mh_text.specs.declared.step.Step.{Step}
+use Rattle.mh_text.specs.declared.step.Step.TheVariants.{Ask, Plan as ask_plan}
 use Rattle.mh_text.specs.Gives.{◌>>=◌, at_place, caused, of_definition}
 use Rattle.mh_text.specs.Names.{with_name, place_of}
+use Rattle.mh_text.specs.Plans.{plan_of}
 use Rattle.mh_text.specs.Shape.{list_of, text_of, member_of, count_of, version_of, each_from, each_of}
 use Rattle.mh_text.specs.Shared.{scope_of}
 use Rattle.mh_text.specs.Trees.{declared_of, point_place}
@@ -181,6 +184,13 @@ call_from declared (worker ∷ name ∷ values ∷ []) = do
   Ok (Call worker (place_of declared.sites name) values)
 call_from declared _ = Err BadShape
 
+-- w
+abbrev pub flush_from : List Data → Result Event ReadFault
+flush_from (worker ∷ []) = do
+  worker ← count_of (2 ^ 32 - 1) worker
+  Ok (Flush worker)
+flush_from _ = Err BadShape
+
 -- SITE, TREE
 abbrev pub target_from : Declarations → List Data → Result Event ReadFault
 target_from declared (name ∷ tree ∷ []) = do
@@ -196,51 +206,82 @@ invalidate_from points (names ∷ []) = do
   Ok (Invalidate places)
 invalidate_from points _ = Err BadShape
 
--- what a word heads
+-- nothing
+abbrev pub snapshot_from : List Data → Result Event ReadFault
+snapshot_from [] = Ok Snapshot
+snapshot_from _ = Err BadShape
+
+-- n, PLAN
+abbrev pub offer_from : List Data → Result Event ReadFault
+offer_from (snapshot ∷ plan ∷ []) = do
+  snapshot ← count_of (2 ^ 32 - 1) snapshot
+  plan ← plan_of plan
+  Ok (Publish snapshot plan)
+offer_from _ = Err BadShape
+
+-- n
+abbrev pub plan_from : List Data → Result Step ReadFault
+plan_from (snapshot ∷ []) = do
+  snapshot ← count_of (2 ^ 32 - 1) snapshot
+  Ok (ask_plan snapshot)
+plan_from _ = Err BadShape
+
+-- the event that a word heads
 abbrev pub event_named : Declarations → List ℕ → List Data → Result Event ReadFault
-event_named declared word args = if bytes_eq word (codes "call") then call_from declared args else (if bytes_eq word (codes "target") then target_from declared args else (if bytes_eq word (codes "invalidate") then invalidate_from declared.scope.points args else Err BadShape))
+event_named declared word args =
+    if bytes_eq word (codes "call") then call_from declared args else (
+    if bytes_eq word (codes "flush") then flush_from args else (
+    if bytes_eq word (codes "target") then target_from declared args else (
+    if bytes_eq word (codes "invalidate") then invalidate_from declared.scope.points args else (
+    if bytes_eq word (codes "snapshot") then snapshot_from args else (
+    if bytes_eq word (codes "offer") then offer_from args else Err BadShape)))))
+
+-- the step that a word heads: the asking for a plan, or an event
+abbrev pub step_named : Declarations → List ℕ → List Data → Result Step ReadFault
+step_named declared word args =
+    if bytes_eq word (codes "plan") then plan_from args else (event_named declared word args >>= λ event. Ok (Ask event))
 
 -- a word, and what it heads
-abbrev pub event_from : Declarations → List Data → Result Event ReadFault
-event_from declared [] = Err BadShape
-event_from declared (head ∷ args) = do
+abbrev pub step_from : Declarations → List Data → Result Step ReadFault
+step_from declared [] = Err BadShape
+step_from declared (head ∷ args) = do
   word ← text_of head
-  event_named declared word args
+  step_named declared word args
 
-abbrev pub event_of : Declarations → Data → Result Event ReadFault
-event_of declared d = do
+abbrev pub step_of : Declarations → Data → Result Step ReadFault
+step_of declared d = do
   parts ← list_of d
-  event_from declared parts
+  step_from declared parts
 
--- the events, of which the first has the number 1
-abbrev pub events_of : Declarations → List Data → Result (List Event) Fault
-events_of declared ds = each_from (λ n d. at_place n (event_of declared d)) 1 ds
+-- the steps, of which the first has the number 1
+abbrev pub steps_of : Declarations → List Data → Result (List Step) Fault
+steps_of declared ds = each_from (λ n d. at_place n (step_of declared d)) 1 ds
 
--- the events of a script that declares this
-abbrev pub event_list_of : Declarations → Data → Result (List Event) Fault
-event_list_of declared d = do
+-- the steps of a script that declares this
+abbrev pub step_list_of : Declarations → Data → Result (List Step) Fault
+step_list_of declared d = do
   events ← at_place 0 (member_of (codes "events") d)
   events ← at_place 0 (list_of events)
-  events_of declared events
+  steps_of declared events
 
--- the workers, the limits, the events
+-- the workers, the limits, the steps
 abbrev pub schedule_of : Declarations → Data → Result Schedule Fault
 schedule_of declared d = do
   workers ← at_place 0 (workers_of d)
   limits ← at_place 0 (limits_of d)
-  events ← event_list_of declared d
-  Ok (record { workers = workers; limits = limits; events = events })
+  steps ← step_list_of declared d
+  Ok (record { workers = workers; limits = limits; steps = steps })
 
 -- what is declared, and what is asked
 abbrev pub script_of : Data → Result Script Fault
 script_of d = do
   declared ← at_place 0 (declarations_of d)
   schedule ← schedule_of declared d
-  Ok (record { definition = declared.definition; workers = schedule.workers; limits = schedule.limits; events = schedule.events })
+  Ok (record { definition = declared.definition; workers = schedule.workers; limits = schedule.limits; steps = schedule.steps })
 
 -- event n of these stands there, and those before it are read
 abbrev pub IsNext : Declarations → List Data → ℕ → Type 0
-IsNext declared ds n = (before : List Event) × (0 < n) × (n ≤ length ds) × (events_of declared (take (n - 1) ds) ≡ Ok before)
+IsNext declared ds n = (before : List Step) × (0 < n) × (n ≤ length ds) × (steps_of declared (take (n - 1) ds) ≡ Ok before)
 
 -- event n of a script that declares this stands there, and those before it are read
 abbrev pub IsNextOf : Declarations → Data → ℕ → Type 0

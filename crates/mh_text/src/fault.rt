@@ -59,6 +59,17 @@ impl<T: Drop> From<AllocFailed<T>> for ReadFault {
     }
 }
 
+impl From<NoMemory> for ReadFault {
+    ghost use Rattle.std.specs.Prelude.{◌≡◌};
+    ghost use Rattle.mh_text.specs.declared.fault.ReadFault.TheVariants.{NoMemory};
+
+    ghost from_gives = { λ _ e. e ≡ NoMemory };
+
+    fn from(_e: NoMemory) -> ReadFault {
+        ReadFault::NoMemory
+    }
+}
+
 impl From<TreeFault> for ReadFault {
     ghost from_gives = { λ cause e. e ≡ of_tree cause };
 

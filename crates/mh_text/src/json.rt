@@ -2,7 +2,7 @@
 ghost use Rattle.std.specs.Prelude.{IfErr};
 ghost use Rattle.serde_json.specs.View.{view};
 ghost use Rattle.mh_text.specs.Gives.{Gives, GivesAt, IsOfInput};
-ghost use Rattle.mh_text.specs.Output.{json_in, json_of_input};
+ghost use Rattle.mh_text.specs.Inputs.{json_in, json_of_input};
 
 use crate::fault::{Fault, ReadFault, TextFault};
 use crate::input::LIMIT;

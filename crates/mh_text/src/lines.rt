@@ -1,9 +1,17 @@
 //! Lines of text: one for each reply.
-ghost use Rattle.std.specs.Prelude.{◌≡◌, ◌++◌, string_bytes, IfOk, OnOk, All, ◌<◌};
+ghost use Rattle.std.specs.Prelude.{◌≡◌, ◌++◌, string_bytes, codes, IfOk, OnOk, All, ◌<◌, ◌≤◌, length};
+ghost use Rattle.std.specs.List.{flat_map, slice_index_or};
+ghost use Rattle.mh_site.specs.Defined.{point_at};
+ghost use Rattle.mh_text.specs.declared.step.Step.TheVariants.{Plan as no_step};
+ghost use Rattle.mh_text.specs.Steps.{snapshot_named};
 ghost use Rattle.mh_type.specs.declared.value.Value.TheVariants as variant;
-ghost use Rattle.mh_text.specs.Lines.{quoted, value_text, outcome_text, reply_text, line_of};
+ghost use Rattle.mh_text.specs.Lines.{quoted, value_text, outcome_text, names_text, published_text, reply_text, line_of};
 
+use crate::plan_lines::{flow_value, numbers_line};
+use crate::script::Script;
+use mh_cert::Plan;
 use mh_core::Reply;
+use mh_site::Definition;
 use mh_type::{Outcome, Text, Throw, Value};
 use std::alloc::{AllocError, Global};
 
@@ -43,27 +51,116 @@ fn value_line(alloc: Global, value: &Value) -> Result<String, AllocError>
     }
 }
 
-fn reply_line(alloc: Global, reply: &Reply) -> Result<String, AllocError>
-    ensures value { IfOk result (λ s. string_bytes s ≡ reply_text reply.now) }
+fn outcome_line(alloc: Global, outcome: &Outcome) -> Result<String, AllocError>
+    ensures value { IfOk result (λ s. string_bytes s ≡ outcome_text outcome.now) }
+{
+    match outcome {
+        Outcome::Value(value) => value_line(alloc, value),
+        Outcome::Thrown(Throw::ArithmeticException) => {
+            format!(in alloc; "thrown ArithmeticException")
+        }
+        Outcome::Thrown(Throw::TextTooLong) => format!(in alloc; "thrown TextTooLong"),
+    }
+}
+
+/// The name of a point; none past the last.
+fn point_name(definition: &Definition, point: u32) -> &str
+    ensures value { result.now ≡ (point_at definition.now point).name }
+{
+    let point = point as usize;
+    if point < definition.points().len() {
+        definition.point_name(point)
+    } else {
+        ""
+    }
+}
+
+/// Appends a comma and a name for each point.
+fn push_names(out: &mut String, definition: &Definition, points: &[u32]) -> Result<(), AllocError>
+    ensures value { OnOk result (string_bytes out.new ≡ string_bytes out.old ++ flat_map (λ q. codes "," ++ (point_at definition.now q).name) points.now) }
+{
+    for point in points {
+        out.push(',')?;
+        out.push_str(point_name(definition, *point))?;
+    }
+    Ok(())
+}
+
+/// The names of points with commas between them, and a dash where there is none.
+fn names_line(alloc: Global, definition: &Definition, points: &[u32]) -> Result<String, AllocError>
+    ensures value { IfOk result (λ s. string_bytes s ≡ names_text definition.now points.now) }
+{
+    let [first, rest @ ..] = points else {
+        return String::from_str(alloc, "-");
+    };
+    let mut line = String::from_str(alloc, point_name(definition, *first))?;
+    push_names(&mut line, definition, rest)?;
+    Ok(line)
+}
+
+/// A plan of this number, for this snapshot.
+fn published_line(
+    alloc: Global,
+    definition: &Definition,
+    snapshot: usize,
+    number: usize,
+    plan: &Plan,
+) -> Result<String, AllocError>
+    ensures value { IfOk result (λ s. string_bytes s ≡ published_text definition.now snapshot number plan.now) }
+{
+    let links = numbers_line(alloc, plan.links.as_slice())?;
+    let points = names_line(alloc, definition, plan.points.as_slice())?;
+    let flow = flow_value(plan.flow.as_slice());
+    format!(in alloc;
+        "plan {number} snapshot {snapshot} links {links} points {points} value {} flow {flow}",
+        plan.value
+    )
+}
+
+fn reply_line(
+    alloc: Global,
+    definition: &Definition,
+    snapshot: usize,
+    reply: &Reply,
+) -> Result<String, AllocError>
+    ensures value { IfOk result (λ s. string_bytes s ≡ reply_text definition.now snapshot reply.now) }
 {
     match reply {
-        Reply::Called { outcome, .. } => match outcome {
-            Outcome::Value(value) => value_line(alloc, value),
-            Outcome::Thrown(Throw::ArithmeticException) => {
-                format!(in alloc; "thrown ArithmeticException")
-            }
-            Outcome::Thrown(Throw::TextTooLong) => format!(in alloc; "thrown TextTooLong"),
-        },
+        Reply::Called { outcome, .. } => outcome_line(alloc, outcome),
         Reply::Done => format!(in alloc; "ok"),
+        Reply::Taken { snapshot } => format!(in alloc; "snapshot {snapshot}"),
+        Reply::Published { number, plan } => {
+            published_line(alloc, definition, snapshot, *number, plan.plan())
+        }
         Reply::Refused(refusal) => format!(in alloc; "refused {refusal}"),
     }
 }
 
-/// The line of a reply.
-pub fn line(alloc: Global, reply: &Reply) -> Result<String, AllocError>
-    ensures value { IfOk result (λ s. string_bytes s ≡ line_of reply.now) }
+/// The line of a reply to a step that names this snapshot.
+pub(crate) fn line(
+    alloc: Global,
+    definition: &Definition,
+    snapshot: usize,
+    reply: &Reply,
+) -> Result<String, AllocError>
+    ensures value { IfOk result (λ s. string_bytes s ≡ line_of definition.now (snapshot, reply.now)) }
 {
-    let mut line = reply_line(alloc, reply)?;
+    let mut line = reply_line(alloc, definition, snapshot, reply)?;
     line.push('\n')?;
     Ok(line)
+}
+
+/// The line of a reply to a step of a script, by the step's number from 0: the script gives the names of
+/// points, and the snapshot that an offered plan is for. Refused where memory was.
+pub fn render(
+    alloc: Global,
+    script: &Script,
+    step: usize,
+    reply: &Reply,
+) -> Result<String, AllocError>
+    requires inside { step < length script.now.steps }
+    ensures value { IfOk result (λ s. string_bytes s ≡ line_of script.now.definition (snapshot_named (slice_index_or script.now.steps step (no_step 0)), reply.now)) }
+{
+    let snapshot = script.steps.as_slice()[step].snapshot();
+    line(alloc, &script.definition, snapshot, reply)
 }

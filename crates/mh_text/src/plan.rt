@@ -48,7 +48,8 @@ fn read_flow(alloc: Global, value: &Value) -> Result<Listing<(u32, u32, u64)>, R
     Ok(listed(each(alloc, list(value)?, |row| read_flow_row(row))?))
 }
 
-fn read_value(alloc: Global, value: &Value) -> Result<Plan, ReadFault>
+/// The plan that a value is.
+pub(crate) fn read_plan_value(alloc: Global, value: &Value) -> Result<Plan, ReadFault>
     ensures value { Gives (λ x. x) result (plan_of (view value.now)) }
 {
     let links = read_numbers(alloc, member(value, "links")?)?;
@@ -69,7 +70,7 @@ pub(crate) fn read_plan_at(alloc: Global, value: &Value, key: Option<&str>) -> R
     ensures value { GivesAt (λ x. x) result (at_place 0 (plan_at (option_map (λ k. k.now) key.entry) (view value.now))) }
     ensures kind { IfErr result (λ e. IsOfInput e.kind) }
 {
-    Ok(read_value(alloc, part(value, key)?)?)
+    Ok(read_plan_value(alloc, part(value, key)?)?)
 }
 
 /// The plan that an input is, or that its JSON object has at the key `member`.

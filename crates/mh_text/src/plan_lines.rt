@@ -20,7 +20,7 @@ fn push_numbers(alloc: Global, out: &mut String, numbers: &[u32]) -> Result<(), 
 }
 
 /// Numbers with commas between them, and a dash where there is none.
-fn numbers_line(alloc: Global, numbers: &[u32]) -> Result<String, AllocError>
+pub(crate) fn numbers_line(alloc: Global, numbers: &[u32]) -> Result<String, AllocError>
     ensures value { IfOk result (λ s. string_bytes s ≡ numbers_text numbers.now) }
 {
     let [first, rest @ ..] = numbers else {
@@ -32,7 +32,7 @@ fn numbers_line(alloc: Global, numbers: &[u32]) -> Result<String, AllocError>
 }
 
 /// The sum of the amounts of a flow.
-fn flow_value(flow: &[(u32, u32, u64)]) -> u128
+pub(crate) fn flow_value(flow: &[(u32, u32, u64)]) -> u128
     ensures value { result ≡ value_of flow.now }
 {
     let mut sum: u128 = 0;

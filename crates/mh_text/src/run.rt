@@ -2,36 +2,41 @@
 ghost use Rattle.std.specs.Prelude.{◌≡◌, Ok, IfOk, IfErr, OnOk, IfSome, MatchResult};
 ghost use Rattle.std.specs.Io.KnownBytes.{Appends};
 ghost use Rattle.mh_text.specs.declared.script.Script.{Script};
-ghost use Rattle.mh_core.specs.declared.reply.Reply.{Reply};
 ghost use Rattle.mh_text.specs.Bytes.{AppendsFront, HasFailed};
 ghost use Rattle.mh_text.specs.Gives.{IsEndOf};
 ghost use Rattle.mh_text.specs.Lines.{line_of};
-ghost use Rattle.mh_core.specs.Legal.{Step};
+ghost use Rattle.mh_text.specs.Steps.{Told, Takes};
 ghost use Rattle.mh_text.specs.Output.{script_of_input, first, AppendsRun, EndsIn, EndsEarly, EndsReading, IsUnread, Failed, IsEnd};
 
 use crate::fault::{Fault, TextFault};
 use crate::input::read_input;
 use crate::lines::line;
 use crate::script::{Script, read_script};
+use crate::step::Step;
+use crate::stepping::answer;
 use crate::watched::Watched;
-use mh_core::{Event, Machine, Reply};
+use mh_core::{Machine, Reply};
+use mh_site::Definition;
 use std::alloc::Global;
 use std::io::{Read, Write};
+use std::thread::Threads;
 
-/// The line of a reply to the event of this number.
+/// The line of a reply to the step of this number, which names this snapshot.
 fn write_line<W: Write>(
     alloc: Global,
+    definition: &Definition,
+    snapshot: usize,
     reply: &Reply,
     at: u64,
     writer: &mut Watched<W>,
 ) -> Result<(), Fault>
     ensures line { MatchResult result
-        (λ _. Appends (W.contents writer.old.inner) (W.contents writer.new.inner) (line_of reply.now))
-        (λ e. (e.at ≡ at) × AppendsFront (W.contents writer.old.inner) (W.contents writer.new.inner) (line_of reply.now)) }
+        (λ _. Appends (W.contents writer.old.inner) (W.contents writer.new.inner) (line_of definition.now (snapshot, reply.now)))
+        (λ e. (e.at ≡ at) × AppendsFront (W.contents writer.old.inner) (W.contents writer.new.inner) (line_of definition.now (snapshot, reply.now))) }
     ensures kind { IfErr result (λ e. IsEnd (HasFailed writer.old.failures writer.new.failures) e.kind) }
     ensures kept { OnOk result (writer.new.failures ≡ writer.old.failures) }
 {
-    let Ok(text) = line(alloc, reply) else {
+    let Ok(text) = line(alloc, definition, snapshot, reply) else {
         return Err(Fault {
             kind: TextFault::NoMemory,
             at,
@@ -43,43 +48,47 @@ fn write_line<W: Write>(
     }
 }
 
-/// One event, and its line.
-fn write_event<W: Write>(
+/// One step, and its line.
+fn write_step<T: Threads + Sync, W: Write>(
+    rt: &T,
     alloc: Global,
     machine: &mut Machine,
-    event: Event,
+    step: Step,
     at: u64,
     writer: &mut Watched<W>,
 ) -> Result<(), Fault>
-    ensures step { (reply : Reply) × Step machine.old.setting machine.old.history event reply machine.new.history
+    ensures step { (told : Told) × Takes machine.old.setting machine.old.history step told machine.new.history
         × MatchResult result
-        (λ _. Appends (W.contents writer.old.inner) (W.contents writer.new.inner) (line_of reply))
-        (λ e. (e.at ≡ at) × AppendsFront (W.contents writer.old.inner) (W.contents writer.new.inner) (line_of reply)) }
+        (λ _. Appends (W.contents writer.old.inner) (W.contents writer.new.inner) (line_of machine.old.setting.definition told))
+        (λ e. (e.at ≡ at) × AppendsFront (W.contents writer.old.inner) (W.contents writer.new.inner) (line_of machine.old.setting.definition told)) }
     ensures setting { machine.new.setting ≡ machine.old.setting }
     ensures kind { IfErr result (λ e. IsEnd (HasFailed writer.old.failures writer.new.failures) e.kind) }
     ensures kept { OnOk result (writer.new.failures ≡ writer.old.failures) }
 {
-    let reply = machine.step(event);
-    write_line(alloc, &reply, at, writer)
+    let snapshot = step.snapshot();
+    let reply = answer(rt, alloc, machine, step);
+    let definition = machine.book().definition();
+    write_line(alloc, definition, snapshot, &reply, at, writer)
 }
 
-/// Runs the events, and writes the line of each.
-fn run_events<W: Write>(
+/// Runs the steps, and writes the line of each.
+fn run_steps<T: Threads + Sync, W: Write>(
+    rt: &T,
     alloc: Global,
     machine: Machine,
-    events: Vec<Event>,
+    steps: Vec<Step>,
     writer: &mut Watched<W>,
 ) -> Result<(), Fault>
-    ensures ok { OnOk result (AppendsRun machine events.items (W.contents writer.old.inner) (W.contents writer.new.inner)) }
+    ensures ok { OnOk result (AppendsRun machine steps.items (W.contents writer.old.inner) (W.contents writer.new.inner)) }
     ensures kind { IfErr result (λ e. IsEnd (HasFailed writer.old.failures writer.new.failures) e.kind) }
     ensures kept { OnOk result (writer.new.failures ≡ writer.old.failures) }
-    ensures ends { IfErr result (λ e. EndsIn machine events.items e.at (W.contents writer.old.inner) (W.contents writer.new.inner)) }
+    ensures ends { IfErr result (λ e. EndsIn machine steps.items e.at (W.contents writer.old.inner) (W.contents writer.new.inner)) }
 {
     let mut machine = machine;
     let mut at = 0;
-    for event in events {
+    for step in steps {
         at += 1;
-        write_event(alloc, &mut machine, event, at, writer)?;
+        write_step(rt, alloc, &mut machine, step, at, writer)?;
     }
     Ok(())
 }
@@ -97,8 +106,13 @@ fn read_whole<R: Read>(alloc: Global, reader: &mut Watched<R>) -> Result<Script,
 }
 
 /// Runs a script, and writes the line of each reply.
-fn run_script<W: Write>(alloc: Global, script: Script, writer: &mut Watched<W>) -> Result<(), Fault>
-    ensures ok { OnOk result (AppendsRun (first script) script.events (W.contents writer.old.inner) (W.contents writer.new.inner)) }
+fn run_script<T: Threads + Sync, W: Write>(
+    rt: &T,
+    alloc: Global,
+    script: Script,
+    writer: &mut Watched<W>,
+) -> Result<(), Fault>
+    ensures ok { OnOk result (AppendsRun (first script) script.steps (W.contents writer.old.inner) (W.contents writer.new.inner)) }
     ensures kept { OnOk result (writer.new.failures ≡ writer.old.failures) }
     ensures failed { IfErr result (EndsEarly script (W.contents writer.old.inner) (W.contents writer.new.inner)
         (HasFailed writer.old.failures writer.new.failures)) }
@@ -107,25 +121,27 @@ fn run_script<W: Write>(alloc: Global, script: Script, writer: &mut Watched<W>) 
         definition,
         workers,
         limits,
-        events,
+        steps,
     } = script;
     let machine = Machine::open(alloc, &definition, workers, limits)?;
-    run_events(alloc, machine, events.into_vec(), writer)
+    run_steps(rt, alloc, machine, steps.into_vec(), writer)
 }
 
 /// Runs the script that the reader gives, and writes the line of each reply.
 ///
 /// The input is read to its end, or to the first byte past 1,048,576, before the first event. A
 /// fault in it writes nothing. A run that memory or a failing write ends leaves the lines of the
-/// events before that one whole, and a beginning of its own.
-pub fn run_bytes<R: Read, W: Write>(
+/// events before that one whole, and a beginning of its own. A plan that is asked for is made with
+/// as many workers as the script has.
+pub fn run_bytes<T: Threads + Sync, R: Read, W: Write>(
+    rt: &T,
     alloc: Global,
     reader: &mut Watched<R>,
     writer: &mut Watched<W>,
 ) -> Result<(), Fault>
     ensures ok { OnOk result (IfSome (R.remaining reader.old.inner) (λ input. (script : Script)
         × (script_of_input input ≡ Ok script)
-        × AppendsRun (first script) script.events (W.contents writer.old.inner) (W.contents writer.new.inner))) }
+        × AppendsRun (first script) script.steps (W.contents writer.old.inner) (W.contents writer.new.inner))) }
     ensures failed { IfErr result (λ e. Failed (R.remaining reader.old.inner)
         (W.contents writer.old.inner) (W.contents writer.new.inner)
         (HasFailed reader.old.failures reader.new.failures) (HasFailed writer.old.failures writer.new.failures) e) }
@@ -135,5 +151,5 @@ pub fn run_bytes<R: Read, W: Write>(
     ensures writes { OnOk result (writer.new.failures ≡ writer.old.failures) }
 {
     let script = read_whole(alloc, reader)?;
-    run_script(alloc, script, writer)
+    run_script(rt, alloc, script, writer)
 }

@@ -1,12 +1,12 @@
-//! Scripts: a definition, a number of workers, and events.
+//! Scripts: a definition, a number of workers, and steps.
 ghost use Rattle.std.specs.Prelude.{IfErr};
 ghost use Rattle.serde_json.specs.View.{view};
 ghost use Rattle.mh_text.specs.Gives.{Gives, GivesUpTo, IsOfInput};
-ghost use Rattle.mh_text.specs.Script.{declarations_of, workers_of, event_list_of, schedule_of, script_of, IsNextOf, IsReachedBy, IsReached};
+ghost use Rattle.mh_text.specs.Script.{declarations_of, workers_of, step_list_of, schedule_of, script_of, IsNextOf, IsReachedBy, IsReached};
 ghost use Rattle.mh_text.specs.Output.{script_of_input, IsReachedIn};
 
 use crate::declarations::Declarations;
-use crate::events::read_events;
+use crate::events::read_steps;
 use crate::fault::{Fault, ReadFault};
 use crate::json::read_json;
 use crate::limits::read_limits;
@@ -14,13 +14,14 @@ use crate::points::{point_names, read_points};
 use crate::shape::{count, list, member, version};
 use crate::shared::read_scope;
 use crate::sites::{read_sites, site_names};
-use mh_core::{Event, Limits};
+use crate::step::Step;
+use mh_core::Limits;
 use mh_site::{Definition, Listing};
 use serde_json::Value;
 use std::alloc::Global;
 
 /// The most workers of a script.
-const MOST_WORKERS: u64 = 64;
+pub(crate) const MOST_WORKERS: usize = 64;
 
 /// What a run needs.
 #[derive(Drop)]
@@ -28,15 +29,15 @@ pub struct Script {
     pub definition: Definition,
     pub workers: u32,
     pub limits: Limits,
-    pub events: Listing<Event>,
+    pub steps: Listing<Step>,
 }
 
-/// How many workers a script has, its limits and its events.
+/// How many workers a script has, its limits and its steps.
 #[derive(Drop)]
 pub struct Schedule {
     pub workers: u32,
     pub limits: Limits,
-    pub events: Listing<Event>,
+    pub steps: Listing<Step>,
 }
 
 /// What a script declares.
@@ -61,7 +62,7 @@ fn read_declarations(alloc: Global, value: &Value) -> Result<Declarations, ReadF
 fn read_workers(value: &Value) -> Result<u32, ReadFault>
     ensures value { Gives (λ x. x) result (workers_of (view value.now)) }
 {
-    let workers = count(member(value, "workers")?, MOST_WORKERS)?;
+    let workers = count(member(value, "workers")?, MOST_WORKERS as u64)?;
     if workers == 0 {
         return Err(ReadFault::BadShape);
     }
@@ -69,17 +70,17 @@ fn read_workers(value: &Value) -> Result<u32, ReadFault>
 }
 
 #[tactic(auto, using(crate::proofs::OfInput::told_of_input))]
-fn read_event_list(
+fn read_step_list(
     alloc: Global,
     declared: &Declarations,
     value: &Value,
-) -> Result<Listing<Event>, Fault>
+) -> Result<Listing<Step>, Fault>
     ensures value { GivesUpTo (IsNextOf declared.now (view value.now)) result
-        (event_list_of declared.now (view value.now)) }
+        (step_list_of declared.now (view value.now)) }
     ensures kind { IfErr result (λ e. IsOfInput e.kind) }
 {
     let events = list(member(value, "events")?)?;
-    read_events(alloc, declared, events)
+    read_steps(alloc, declared, events)
 }
 
 /// What is asked of the sites that are declared.
@@ -91,17 +92,17 @@ fn read_schedule(alloc: Global, declared: &Declarations, value: &Value) -> Resul
 {
     let workers = read_workers(value)?;
     let limits = read_limits(value)?;
-    let events = read_event_list(alloc, declared, value)?;
+    let steps = read_step_list(alloc, declared, value)?;
     Ok(Schedule {
         workers,
         limits,
-        events,
+        steps,
     })
 }
 
 /// The script that a JSON value holds, or its first fault in the order of reading.
 #[tactic(auto, using(crate::proofs::OfInput::told_of_input))]
-fn read_value(alloc: Global, value: &Value) -> Result<Script, Fault>
+fn read_script_value(alloc: Global, value: &Value) -> Result<Script, Fault>
     ensures value { GivesUpTo (IsReached (view value.now)) result (script_of (view value.now)) }
     ensures kind { IfErr result (λ e. IsOfInput e.kind) }
 {
@@ -111,13 +112,13 @@ fn read_value(alloc: Global, value: &Value) -> Result<Script, Fault>
     let Schedule {
         workers,
         limits,
-        events,
+        steps,
     } = schedule;
     Ok(Script {
         definition,
         workers,
         limits,
-        events,
+        steps,
     })
 }
 
@@ -127,5 +128,5 @@ pub fn read_script(alloc: Global, input: &[u8]) -> Result<Script, Fault>
     ensures value { GivesUpTo (IsReachedIn input.now) result (script_of_input input.now) }
     ensures kind { IfErr result (λ e. IsOfInput e.kind) }
 {
-    read_value(alloc, &read_json(alloc, input)?)
+    read_script_value(alloc, &read_json(alloc, input)?)
 }

@@ -1,7 +1,7 @@
 use Rattle.std.proofs.lemmas.Result.{err_from_is_err_and}
 use Rattle.serde_json.specs.View.{view}
 use Rattle.mh_text.proofs.Reached.{script_fails}
-use Rattle.mh_text.proofs.script.read_value.Goals as goal
+use Rattle.mh_text.proofs.script.read_script_value.Goals as goal
 
 pub returns-in_err-schedule-clause-value : goal.returns-in_err-schedule-clause-value
 returns-in_err-schedule-clause-value c =
