@@ -1,7 +1,7 @@
 //! Scripts and definitions as values.
-use mh_core::Event;
+use mh_core::{Event, Reply};
 use mh_site::{Definition, DefinitionFault, Listing, Name, Point, Site};
-use mh_text::{Fault, Script, TextFault, read_script};
+use mh_text::{Fault, Script, Step, TextFault, read_script, render};
 use mh_tree::{Declared, Handle};
 use mh_type::{Kind, MethodType, Op, Value};
 use std::alloc::Global;
@@ -9,7 +9,7 @@ use std::test::Fail;
 
 /// Two points, a shared tree, a site that uses it with a link, and limits.
 const SCRIPT: &str =
-    "{\"definition\":{\"version\":1,\"points\":[{\"name\":\"a\",\"cost\":5},{\"name\":\"b\",\"cost\":7}],\"shared\":[[\"g\",[\"op\",\"ineg\"]]],\"sites\":[{\"name\":\"f\",\"type\":\"(int)int\",\"key\":0,\"target\":[\"point\",\"b\",[\"ref\",\"g\"],[\"ref\",\"g\"]],\"links\":[{\"when\":3,\"weight\":4,\"needs\":[\"b\",\"a\"]}]}]},\"workers\":2,\"limits\":{\"ledger\":9},\"events\":[[\"call\",1,\"f\",[7]],[\"target\",\"h\",[\"ref\",\"g\"]],[\"invalidate\",[\"b\",\"c\"]]]}";
+    "{\"definition\":{\"version\":1,\"points\":[{\"name\":\"a\",\"cost\":5},{\"name\":\"b\",\"cost\":7}],\"shared\":[[\"g\",[\"op\",\"ineg\"]]],\"sites\":[{\"name\":\"f\",\"type\":\"(int)int\",\"key\":0,\"target\":[\"point\",\"b\",[\"ref\",\"g\"],[\"ref\",\"g\"]],\"links\":[{\"when\":3,\"weight\":4,\"needs\":[\"b\",\"a\"]}]}]},\"workers\":2,\"limits\":{\"ledger\":9},\"events\":[[\"call\",1,\"f\",[7]],[\"target\",\"h\",[\"ref\",\"g\"]],[\"invalidate\",[\"b\",\"c\"]],[\"plan\",7]]}";
 
 /// A script that is read.
 fn read(alloc: Global, input: &str) -> Result<Script, Fail> {
@@ -66,20 +66,23 @@ fn links_and_limits_are_read(rt: HostRuntime) -> Result<(), Fail> {
 }
 
 #[test]
-fn events_are_read(rt: HostRuntime) -> Result<(), Fail> {
+fn steps_are_read(rt: HostRuntime) -> Result<(), Fail> {
     let script = read(rt.alloc(), SCRIPT)?;
-    assert_eq!(rt; script.events.len(), 3);
+    assert_eq!(rt; script.steps.len(), 4);
     let [
-        Event::Call {
-            worker,
-            site,
-            arguments,
-        },
-        Event::Target { site: other, tree },
-        Event::Invalidate { points },
-    ] = script.events.as_slice()
+        Step::Ask(
+            Event::Call {
+                worker,
+                site,
+                arguments,
+            },
+        ),
+        Step::Ask(Event::Target { site: other, tree }),
+        Step::Ask(Event::Invalidate { points }),
+        planned,
+    ] = script.steps.as_slice()
     else {
-        return Err(Fail::from("there are other events"));
+        return Err(Fail::from("there are other steps"));
     };
     assert_eq!(rt; *worker, 1);
     assert_eq!(rt; *site, 0);
@@ -87,6 +90,19 @@ fn events_are_read(rt: HostRuntime) -> Result<(), Fail> {
     assert_eq!(rt; *other, 1);
     assert_eq!(rt; tree.handle().size(), 1);
     assert_eq!(rt; points.as_slice(), [1, 2].as_slice());
+    assert_eq!(rt; planned.snapshot(), 7);
+    Ok(())
+}
+
+#[test]
+fn a_reply_is_rendered(rt: HostRuntime) -> Result<(), Fail> {
+    let alloc = rt.alloc();
+    let script = read(alloc, SCRIPT)?;
+    if script.steps.len() == 0 {
+        return Err(Fail::from("there are no steps"));
+    }
+    let line = render(alloc, &script, 0, &Reply::Taken { snapshot: 3 })?;
+    assert_eq!(rt; line.as_str(), "snapshot 3\n");
     Ok(())
 }
 

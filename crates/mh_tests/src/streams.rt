@@ -4,6 +4,7 @@ use mh_text::{Fault, TextFault, Watched, run_bytes};
 use std::alloc::Global;
 use std::io::{self, ErrorKind, Read, Write};
 use std::test::Fail;
+use std::thread::Threads;
 
 /// A reader that gives at most seven bytes at a time, and fails after so many reads.
 #[derive(Drop)]
@@ -62,7 +63,10 @@ fn short_reads_give_the_whole_input(rt: HostRuntime) -> Result<(), Fail> {
         reads_left: SCRIPT.len(),
     });
     let mut writer = Watched::new(Vec::new(rt.alloc()));
-    assert_eq!(rt; run_bytes(rt.alloc(), &mut reader, &mut writer), Ok(()));
+    assert_eq!(rt;
+        run_bytes(&rt, rt.alloc(), &mut reader, &mut writer),
+        Ok(())
+    );
     assert_eq!(rt; writer.inner.as_slice(), LINES.as_bytes());
     assert!(rt; reader.failures() == 0 && writer.failures() == 0);
     Ok(())
@@ -76,7 +80,7 @@ fn a_failed_read_is_told_and_writes_nothing(rt: HostRuntime) -> Result<(), Fail>
             reads_left,
         });
         let mut writer = Watched::new(Vec::new(rt.alloc()));
-        let answer = run_bytes(rt.alloc(), &mut reader, &mut writer);
+        let answer = run_bytes(&rt, rt.alloc(), &mut reader, &mut writer);
         let fault = Fault {
             kind: TextFault::ReadFailed,
             at: 0,
@@ -97,7 +101,8 @@ fn event_of(place: usize) -> u64 {
 }
 
 /// What a run answers whose writer has this room, and how much of its lines it wrote.
-fn run_into(
+fn run_into<T: Threads + Sync>(
+    rt: &T,
     alloc: Global,
     room: usize,
     takes_none: bool,
@@ -109,7 +114,7 @@ fn run_into(
         room,
         takes_none,
     });
-    let answer = run_bytes(alloc, &mut reader, &mut writer);
+    let answer = run_bytes(rt, alloc, &mut reader, &mut writer);
     drop(writer);
     if LINES.as_bytes().starts_with(held.as_slice()) {
         Ok((answer, held.len()))
@@ -122,7 +127,7 @@ fn run_into(
 fn a_failed_write_is_told_at_its_event(rt: HostRuntime) -> Result<(), Fail> {
     for place in 0..LINES.len() * 2 {
         let room = place / 2;
-        let (answer, written) = run_into(rt.alloc(), room, place % 2 == 0)?;
+        let (answer, written) = run_into(&rt, rt.alloc(), room, place % 2 == 0)?;
         let fault = Fault {
             kind: TextFault::WriteFailed,
             at: event_of(room),

@@ -1,7 +1,7 @@
 use Rattle.std.proofs.Common.{◌≡◌, ◌<◌, length, slice_set, subst, ap, ◌∙◌, arith}
 use Rattle.std.proofs.lemmas.List.{get_or_default, length-set}
 use Rattle.mh_ledger.specs.Ledgers.{AreHeld, no_ledger}
-use Rattle.mh_tests.proofs.ledger.flush_each.Goals as goal
+use Rattle.tests_machine.proofs.ledger.flush_each.Goals as goal
 
 pub loop-worker-preserved : goal.loop-worker-preserved
 loop-worker-preserved c =

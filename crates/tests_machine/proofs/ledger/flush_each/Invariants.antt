@@ -1,6 +1,6 @@
 use Rattle.std.proofs.Common.{◌≡◌, length}
 use Rattle.mh_ledger.specs.Ledgers.{AreHeld}
-use Rattle.mh_tests.proofs.ledger.flush_each.Given as goal
+use Rattle.tests_machine.proofs.ledger.flush_each.Given as goal
 
 abbrev pub invariant-loop-worker : goal.invariant-loop-worker
 invariant-loop-worker l = record {

@@ -89,7 +89,8 @@ fn each_site_answers_by_its_tree(rt: HostRuntime) -> Result<(), Fail> {
     let text = Value::Text(Text::new(alloc, "ab")?);
     let counted = machine.step(call(alloc, 1, 1, text)?);
     assert_eq!(rt; int(&counted), Some(2));
-    assert_eq!(rt; machine.history().len(), 2);
+    assert_eq!(rt; machine.calls().len(), 2);
+    assert_eq!(rt; machine.accepted(), 2);
     assert_eq!(rt; machine.book().records().len(), 0);
     assert_eq!(rt; machine.workers(), 2);
     Ok(())
@@ -112,14 +113,14 @@ fn a_full_history_is_tested_last(rt: HostRuntime) -> Result<(), Fail> {
     assert_eq!(rt; int(second), Some(-1));
     assert_eq!(rt; refusal(third), Some(Refusal::HistoryFull));
     assert_eq!(rt; refusal(fourth), Some(Refusal::WrongType));
-    assert!(rt; machine.book().is_full());
+    assert!(rt; machine.book().is_full(machine.calls().len()));
     Ok(())
 }
 
 #[test]
 fn a_book_records_what_it_accepts(rt: HostRuntime) -> Result<(), Fail> {
     let alloc = rt.alloc();
-    let mut book = Book::open(alloc, &definition(alloc)?, limits(3)?)?;
+    let (mut book, _) = Book::open(alloc, &definition(alloc)?, 1, limits(3)?)?;
     assert_eq!(rt;
         book.target(2, tree_of(alloc, Op::Ineg)?),
         Err(Refusal::NoSite)
@@ -128,7 +129,8 @@ fn a_book_records_what_it_accepts(rt: HostRuntime) -> Result<(), Fail> {
     let points = Listing::from_vec(Vec::from_slice(alloc, &[0])?);
     assert_eq!(rt; book.invalidate(points), Ok(()));
     assert_eq!(rt; book.records().len(), 2);
-    assert!(rt; !book.is_full());
+    assert!(rt; !book.is_full(0));
+    assert!(rt; book.is_full(1));
     assert_eq!(rt; book.definition().sites().len(), 2);
     assert_eq!(rt; book.limits().history(), 3);
     assert!(rt; matches!(book.world().valid(), [false]));

@@ -6,7 +6,6 @@ use mh_cert::check;
 use mh_flow::{LayerRun, max_flow};
 use mh_network::{LinkRow, Listing, Problem};
 use mh_plan::{Gate, OpenGate, plan, plan_counted};
-use mh_text::{PlanOptions, Watched, plan_bytes, plan_json, plan_line, read_plan};
 use std::alloc::Global;
 use std::process::Abort;
 use std::sync::atomic::{AtomicU64, Ordering};
@@ -163,35 +162,5 @@ fn parts_are_told_apart(rt: HostRuntime) -> Result<(), Fail> {
     let problem = links_to_a_point(alloc, 2, 1, &[1, 1, 1])?;
     let parts = problem.parts(alloc)?;
     assert_eq!(rt; parts.len(), 3);
-    Ok(())
-}
-
-#[test]
-fn a_plan_is_written_as_a_line_and_as_json(rt: HostRuntime) -> Result<(), Fail> {
-    let alloc = rt.alloc();
-    let problem = links_to_a_point(alloc, 2, 2, &[5])?;
-    let plan = plan(&rt, alloc, &problem, 1, &OpenGate)?;
-    let line = plan_line(alloc, &plan)?;
-    assert_eq!(rt; line.as_str(), "links 0,1 points 0 value 1 flow 5");
-    let json = plan_json(alloc, &plan)?;
-    let json = json.as_bytes();
-    let read = read_plan(alloc, json, None)?;
-    assert!(rt; check(alloc, &problem, &read).is_ok());
-    Ok(())
-}
-
-#[test]
-fn a_problem_is_planned_from_its_bytes(rt: HostRuntime) -> Result<(), Fail> {
-    let input = "{\"version\":1,\"costs\":[5],\"links\":[{\"gain\":5,\"needs\":[0]}]}";
-    let mut reader = Watched::new(input.as_bytes());
-    let mut writer = Watched::new(Vec::new(rt.alloc()));
-    let options = PlanOptions {
-        workers: 2,
-        certificate: false,
-        phases: true,
-    };
-    plan_bytes(&rt, rt.alloc(), options, &mut reader, &mut writer)?;
-    let lines = "links - points - value 0 flow 5\nphases 2 bound 4\n";
-    assert_eq!(rt; writer.inner.as_slice(), lines.as_bytes());
     Ok(())
 }
