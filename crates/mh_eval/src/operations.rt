@@ -11,11 +11,8 @@ ghost use Rattle.mh_eval.specs.Answers.{Gives};
 ghost use Rattle.mh_eval.specs.Quiet.{IsAnswered};
 
 use crate::answer::Answer;
-use mh_type::{Kind, Op, Text, Throw, Value};
+use mh_type::{Kind, Op, Text, Throw, TypeFault, Value};
 use std::alloc::Global;
-
-// The bytes of the longest text.
-const LONGEST_TEXT: usize = 65536;
 
 const TWO_TO_THE_32: i64 = 0x1_0000_0000;
 
@@ -233,21 +230,9 @@ fn length(text: &Text) -> Answer
 fn concat(alloc: Global, some: &Text, more: &Text) -> Answer
     ensures value { Gives result (joined some.now more.now) }
 {
-    let (some, more) = (some.as_str(), more.as_str());
-    if some.len() + more.len() > LONGEST_TEXT {
-        return Answer::Thrown(Throw::TextTooLong);
-    }
-    let Ok(mut whole) = String::with_capacity(alloc, some.len() + more.len()) else {
-        return Answer::NoMemory;
-    };
-    let Ok(()) = whole.push_str(some) else {
-        return Answer::NoMemory;
-    };
-    let Ok(()) = whole.push_str(more) else {
-        return Answer::NoMemory;
-    };
-    match Text::new(alloc, whole.as_str()) {
+    match Text::concat(alloc, some, more) {
         Ok(text) => Answer::Text(text),
+        Err(TypeFault::BadText) => Answer::Thrown(Throw::TextTooLong),
         Err(_) => Answer::NoMemory,
     }
 }

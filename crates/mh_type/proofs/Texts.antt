@@ -1,7 +1,9 @@
 -- The test of texts decides what a text is.
-use Rattle.std.proofs.Common.{◌≡◌, ℕ, ◌&&◌, Bool, true, false, List, length, refl, leb}
+use Rattle.std.proofs.Common.{◌≡◌, ℕ, ◌+◌, ◌≤◌, ◌++◌, ◌&&◌, Bool, true, false, List, length, refl, leb}
 use Rattle.std.proofs.lemmas.Bool.{leb-true, le-leb}
 use Rattle.std.proofs.lemmas.List.Sums.{AllPass-from_list_all, list_all-from_AllPass}
+use Rattle.std.proofs.lemmas.List.{length-append}
+use Rattle.std.proofs.lemmas.List.Elements.{All-append}
 use Rattle.std.specs.List.{list_all}
 use Rattle.mh_type.specs.Printable.{IsPrintable, IsText, is_printable, is_text}
 
@@ -34,3 +36,11 @@ is_text_not bytes never = by (is_text bytes) refl
     by : (b : Bool) → is_text bytes ≡ b → is_text bytes ≡ false
     by true e = absurd (never (text_is bytes e))
     by false e = e
+
+-- one text and then another is a text where it is short
+pub concat_is_text : (s t : List ℕ) → IsText s → IsText t → length s + length t ≤ 65536 → IsText (s ++ t)
+concat_is_text s t first second short =
+    record {
+      short = rw (length-append s t) short;
+      printable = All-append IsPrintable s t first.printable second.printable;
+    }

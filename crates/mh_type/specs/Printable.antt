@@ -1,5 +1,5 @@
 -- Texts: at most 65,536 bytes, each from 0x20 to 0x7E.
-use Rattle.std.specs.Prelude.{◌≡◌, ◌⊎◌, ℕ, ◌≤◌, Bool, true, false, ◌&&◌, List, length, nat_le}
+use Rattle.std.specs.Prelude.{◌≡◌, ◌⊎◌, ℕ, ◌+◌, ◌<◌, ◌≤◌, Bool, true, false, ◌&&◌, List, length, nat_le}
 use Rattle.std.specs.List.{All, list_all}
 use Rattle.mh_type.specs.declared.fault.TypeFault.{TypeFault}
 use Rattle.mh_type.specs.declared.fault.TypeFault.TheVariants.{NoMemory, BadText}
@@ -21,3 +21,8 @@ is_text bytes = nat_le (length bytes) 65536 && list_all is_printable bytes
 -- what a text of these bytes may be refused with: memory comes last
 abbrev pub RefusesText : List ℕ → TypeFault → Type 0
 RefusesText bytes e = ((e ≡ BadText) × (is_text bytes ≡ false)) ⊎ ((e ≡ NoMemory) × (is_text bytes ≡ true))
+
+-- what the text of one and then another may be refused with: memory comes last
+abbrev pub RefusesConcat : List ℕ → List ℕ → TypeFault → Type 0
+RefusesConcat s t e =
+    ((e ≡ BadText) × (65536 < length s + length t)) ⊎ ((e ≡ NoMemory) × (length s + length t ≤ 65536))

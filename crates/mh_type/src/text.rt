@@ -1,7 +1,7 @@
 //! Shared texts.
 
-ghost use Rattle.std.specs.Prelude.{◌≡◌, ◌↔◌, true, IsTrue, IfOk, IfErr};
-ghost use Rattle.mh_type.specs.Printable.{IsText, RefusesText, is_text as is_text_bytes};
+ghost use Rattle.std.specs.Prelude.{◌≡◌, ◌≤◌, ◌+◌, ◌++◌, ◌↔◌, length, true, IsTrue, IfOk, IfErr, OnOk};
+ghost use Rattle.mh_type.specs.Printable.{IsText, RefusesText, RefusesConcat, is_text as is_text_bytes};
 
 use crate::fault::TypeFault;
 use std::alloc::Global;
@@ -43,6 +43,28 @@ impl Text {
             return Err(TypeFault::BadText);
         }
         let owned = String::from_str(alloc, text).map_err(|_| TypeFault::NoMemory)?;
+        let shared = Arc::new(alloc, owned).map_err(|_| TypeFault::NoMemory)?;
+        Ok(Text { shared })
+    }
+
+    /// One text and then another, whose bytes are written once, into room for just so many.
+    ///
+    /// Refused with `BadText` exactly where they are more than 65,536 together, and else with `NoMemory`
+    /// alone, where a growth was refused.
+    #[tactic(auto, using(crate::proofs::Texts::concat_is_text))]
+    pub fn concat(alloc: Global, some: &Text, more: &Text) -> Result<Text, TypeFault>
+        ensures value { IfOk result (λ t. t ≡ some.now ++ more.now) }
+        ensures short { OnOk result (length some.now + length more.now ≤ 65536) }
+        ensures refused { IfErr result (λ e. RefusesConcat some.now more.now e) }
+    {
+        let (some, more) = (some.as_str(), more.as_str());
+        let length = some.len() + more.len();
+        if length > LONGEST_TEXT {
+            return Err(TypeFault::BadText);
+        }
+        let mut owned = String::with_capacity(alloc, length).map_err(|_| TypeFault::NoMemory)?;
+        owned.push_str(some).map_err(|_| TypeFault::NoMemory)?;
+        owned.push_str(more).map_err(|_| TypeFault::NoMemory)?;
         let shared = Arc::new(alloc, owned).map_err(|_| TypeFault::NoMemory)?;
         Ok(Text { shared })
     }
