@@ -6,7 +6,7 @@ ghost use Rattle.mh_cert.specs.Plans.{IsUnion};
 ghost use Rattle.mh_network.specs.Problems.{IsProblem, link_at, gain_of, cost_of, needs_point, sum_of_gains};
 ghost use Rattle.mh_network.specs.Selection.{cost_sum, from_link, gain_sum, member, union_of_needs, value_of, worth};
 
-use mh_network::{Problem, all_gains, carried};
+use mh_network::{Problem, all_gains, amounts_are_within_gains, carried, lists_add_up};
 
 // Whether the value is what the links are worth.
 pub(crate) fn is_worth(value: i64, problem: &Problem, links: &[u32], points: &[u32]) -> bool
@@ -30,6 +30,7 @@ fn gain_and_cost(problem: &Problem, links: &[u32], points: &[u32]) -> (u64, u64)
     ensures cost { result.1 ≡ cost_sum problem.now (union_of_needs problem.now (member links.now)) }
     ensures small { (result.0 ≤ 2 ^ 62) × (result.1 ≤ 2 ^ 62) }
 {
+    lists_add_up();
     (
         gain_of_links(problem, links),
         cost_of_points(problem, points),
@@ -43,7 +44,8 @@ pub(crate) fn balances(value: i64, problem: &Problem, flow: &[(u32, u32, u64)]) 
     requires gains { (j : ℕ) → from_link flow.now j ≤ gain_of problem.now j }
     ensures value { IsTrue result ↔ (value ≡ pos (sum_of_gains problem.now) -ℤ pos (value_of flow.now)) }
 {
-    is_difference(value, all_gains(problem), carried(flow))
+    amounts_are_within_gains();
+    is_difference(value, all_gains(problem), carried(flow) as u64)
 }
 
 fn is_difference(value: i64, one: u64, other: u64) -> bool
@@ -61,6 +63,7 @@ fn gain_of_links(problem: &Problem, links: &[u32]) -> u64
     ensures value { result ≡ gain_sum problem.now (member links.now) }
     ensures small { result ≤ 2 ^ 62 }
 {
+    lists_add_up();
     let mut sum: u64 = 0;
     for link in links {
         sum += problem.gain(*link as usize);
@@ -75,6 +78,7 @@ fn cost_of_points(problem: &Problem, points: &[u32]) -> u64
     ensures value { result ≡ cost_sum problem.now (member points.now) }
     ensures small { result ≤ 2 ^ 62 }
 {
+    lists_add_up();
     let mut sum: u64 = 0;
     for point in points {
         sum += problem.cost(*point as usize);

@@ -7,7 +7,7 @@ ghost use Rattle.mh_network.specs.Selection.{member, union_of_needs};
 
 use crate::fault::CheckFault;
 use crate::marks::{are_below, mark, mark_the_same};
-use mh_network::{Problem, is_ascending};
+use mh_network::{Problem, is_ascending, lists_add_up};
 use std::alloc::Global;
 
 // Whether the points are the ascending union of the links' needs.
@@ -49,6 +49,7 @@ fn needed_points(alloc: Global, problem: &Problem, links: &[u32]) -> Result<Vec<
     ensures value { IfOk result (λ marks. (p : ℕ) → slice_index_or marks.items p false ≡ union_of_needs problem.now (member links.now) p) }
     ensures refused { IfErr result (λ e. e ≡ CheckFault.NoMemory) }
 {
+    lists_add_up();
     let mut needed = no_marks(alloc, problem.points())?;
     for link in links {
         mark(&mut needed, problem.needs(*link as usize));

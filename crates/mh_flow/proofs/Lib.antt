@@ -6,6 +6,7 @@ pub mod Searching
 pub mod Starts
 pub mod Runs
 pub mod Answered
+pub mod Ended
 pub mod Phases
 pub mod Running
 pub mod Blocked

@@ -4,7 +4,9 @@ use Rattle.std.specs.Prelude.{All, AllPairs, nat_lt, pos, ◌+ℤ◌}
 use Rattle.std.proofs.lemmas.Bool.{cases_lt}
 use Rattle.std.proofs.lemmas.List.{get_or_past}
 use Rattle.std.proofs.lemmas.List.Sums.{count_by-le-length}
-use Rattle.mh_network.specs.Problems.{ProblemData, sum_of_gains}
+use Rattle.mh_network.specs.Cuts.{CutsAreLeast}
+use Rattle.mh_network.specs.Needs.{AreNeeds}
+use Rattle.mh_network.specs.Problems.{ProblemData, IsProblem, sum_of_gains}
 use Rattle.mh_network.specs.Selection.{IsBefore, Row, IsFlow, IsLeast, worth, member, value_of}
 use Rattle.mh_flow.specs.declared.need_row.NeedRow.{NeedRow}
 use Rattle.mh_flow.specs.Carried.{row_at, no_row, number_at}
@@ -16,7 +18,7 @@ use Rattle.mh_flow.specs.Spent.{IsPhase}
 use Rattle.mh_flow.proofs.Answered.{positive_flow, positive_some, positive_ordered, answered_equal, answered_least}
 use Rattle.mh_flow.proofs.Blocked.{over_blocked, open_link, open_point}
 use Rattle.mh_flow.proofs.Phases.{sink_rises}
-use Rattle.mh_flow.proofs.Runs.{run_end}
+use Rattle.mh_flow.proofs.Ended.{run_end}
 
 -- a level of a link is at least 1
 link_low : (rows : List NeedRow) (left links points : List ℕ) → IsLayered rows left links points → (j : ℕ) → j < length links → number_at links j < far → 1 ≤ number_at links j
@@ -88,15 +90,15 @@ pub record IsAnswer (P : ProblemData) (rows : List Row) (reached : List ℕ) : T
   pub least : IsLeast P (member reached)
 
 -- a run whose sink has no level is at its end
-pub finished : (P : ProblemData) (b : LayerData) (rows : List Row) (reached : List ℕ) → b.problem ≡ P → IsLayerRun b → IsLayered b.rows b.gain_left b.links b.points → IsSinkLevel b.cost_left b.points b.sink →
+pub finished : (P : ProblemData) (b : LayerData) (rows : List Row) (reached : List ℕ) → AreNeeds b.problem → (IsProblem b.problem → CutsAreLeast b.problem) → b.problem ≡ P → IsLayerRun b → IsLayered b.rows b.gain_left b.links b.points → IsSinkLevel b.cost_left b.points b.sink →
     far ≤ b.sink → rows ≡ positive_rows b.rows → ((j : ℕ) → member reached j ≡ is_reached b.links j) → IsAnswer P rows reached
-finished P b rows reached same kept layered level none e members =
+finished P b rows reached needs cuts same kept layered level none e members =
     let full : (p : ℕ) → p < length b.points → number_at b.points p < far → number_at b.cost_left p ≡ 0 = λ p l f.
     elim (cases_lt 0 (number_at b.cost_left p)) [
       | inl room ↦ absurd (omega (arith, level.least p l room, none, low_levels b kept layered p f, kept.known.links, kept.known.points))
       | inr empty ↦ omega (arith, empty)
     ] in
-    let end = run_end b.problem b.rows b.gain_left b.cost_left b.links b.points kept.known kept.run layered kept.point_levels full in
+    let end = run_end b.problem b.rows b.gain_left b.cost_left b.links b.points needs (cuts kept.known) kept.known kept.run layered kept.point_levels full in
     let answer : IsAnswer b.problem (positive_rows b.rows) reached = record {
       flow = positive_flow b.problem b.rows b.gain_left b.cost_left kept.run;
       positive = positive_some b.rows;

@@ -6,8 +6,8 @@ use Rattle.std.proofs.lemmas.Bool.{cases_lt}
 use Rattle.std.proofs.Math.ListN.{get_or-map}
 use Rattle.std.proofs.lemmas.List.{length-map, get_or_past}
 use Rattle.std.proofs.lemmas.List.Elements.{All-map}
+use Rattle.mh_network.specs.Needs.{AreNeeds}
 use Rattle.mh_network.specs.Problems.{ProblemData, IsProblem, needs_point, gain_of, cost_of}
-use Rattle.mh_network.proofs.Optimal.{needs-in_range}
 use Rattle.mh_flow.specs.declared.need_row.NeedRow.{NeedRow}
 use Rattle.mh_flow.specs.Carried.{row_at, no_row, number_at}
 use Rattle.mh_flow.specs.Chains.{IsChained}
@@ -33,10 +33,10 @@ rows_chained f rows keys last before count none e h =
 pub keys_inside : (f : NeedRow → ℕ) (rows : List NeedRow) (keys : List ℕ) (count : ℕ) → keys ≡ map f rows → All (λ r. f r < count) rows → All (λ k. k < count) keys
 keys_inside f rows keys count e h = subst (λ (xs : List ℕ). All (λ k. k < count) xs) (sym e) (All-map (λ k. k < count) f rows h)
 
-pub links_inside : (P : ProblemData) (rows : List NeedRow) → rows ≡ needs_below P (length P.links) → All (λ r. r.link < length P.links) rows
-links_inside P rows e =
+pub links_inside : (P : ProblemData) (rows : List NeedRow) → AreNeeds P → rows ≡ needs_below P (length P.links) → All (λ r. r.link < length P.links) rows
+links_inside P rows needs e =
     let needed : All (λ r. needs_point P r.link r.point ≡ true) rows = subst (λ (xs : List NeedRow). All (λ r. needs_point P r.link r.point ≡ true) xs) (sym e) (below-needed P (length P.links)) in
-    λ k d l. needs-in_range P _ _ (needed k d l)
+    λ k d l. needs.inside _ _ (needed k d l)
 
 pub points_inside : (P : ProblemData) (rows : List NeedRow) → IsProblem P → rows ≡ needs_below P (length P.links) → All (λ r. r.point < length P.costs) rows
 points_inside P rows problem e =
@@ -89,13 +89,13 @@ fresh rows left links points ll lb pl pb by_link by_point range =
 replicated : (n : ℕ) → length (replicate n far) ≡ n
 replicated n = grind (arith, common_steps)
 
-pub begun : (P : ProblemData) (rows : List NeedRow) (left cost_left links points : List ℕ) → IsProblem P → rows ≡ needs_below P (length P.links) →
+pub begun : (P : ProblemData) (rows : List NeedRow) (left cost_left links points : List ℕ) → AreNeeds P → IsProblem P → rows ≡ needs_below P (length P.links) →
     length left ≡ length P.links → ((j : ℕ) → j < length left → number_at left j ≡ gain_of P j) → length cost_left ≡ length P.costs → ((p : ℕ) → p < length cost_left → number_at cost_left p ≡ cost_of P p) →
     links ≡ replicate (length P.links) far → points ≡ replicate (length P.costs) far →
     IsLayerRun record { problem = P; rows = rows; gain_left = left; cost_left = cost_left; links = links; points = points; sink = far; phases = 0 }
-begun P rows left cost_left links points problem e gain_count gains cost_count costs l p = record {
+begun P rows left cost_left links points needs problem e gain_count gains cost_count costs l p = record {
   known = problem;
-  run = subst (λ (xs : List NeedRow). IsRun P xs left cost_left) (sym e) (run_new P left cost_left problem gain_count cost_count gains costs);
+  run = subst (λ (xs : List NeedRow). IsRun P xs left cost_left) (sym e) (run_new P left cost_left needs problem gain_count cost_count gains costs);
   link_levels = ap length l ∙ replicated (length P.links);
   point_levels = ap length p ∙ replicated (length P.costs);
 }

@@ -1,26 +1,22 @@
 use Rattle.std.proofs.Common.{◌≡◌, ◌<◌, ◌≤◌, ◌+◌, ◌-◌, ◌^◌, ℕ, zero, suc, List, [], ◌∷◌, ◌++◌, length, arith, refl, sym, ◌∙◌, ap, subst, cond, Bool, true, false, inl, inr, get_or, length-append, ◌≢◌, get_or-set_same, get_or-set_other}
 use Rattle.std.proofs.Math.ListN.{length-set}
-use Rattle.std.specs.Prelude.{map, nat_lt, ◌==◌, All, AllPairs, slice_set}
+use Rattle.std.specs.Prelude.{map, ◌==◌, All, AllPairs, slice_set}
 use Rattle.std.specs.List.{list_any}
-use Rattle.std.proofs.lemmas.Bool.{cases_lt, cases_eq, lt-ltb, eq-eqb, eqb-true, or_left, or_right, cases_Bool, and_parts, and_from, ltb-true, cond-true, cond-false, ne_eqb}
-use Rattle.std.proofs.lemmas.List.Sums.{sum_by-cons, count_by-le-length}
+use Rattle.std.proofs.lemmas.Bool.{cases_lt, cases_eq, eq-eqb, eqb-true, or_left, or_right, cond-true, cond-false, ne_eqb}
+use Rattle.std.proofs.lemmas.List.Sums.{sum_by-cons}
 use Rattle.std.proofs.lemmas.List.Kept.{AllPairs-cons, AllPairs-from_increasing}
 use Rattle.std.proofs.lemmas.List.Folds.{Any-from_list_any}
 use Rattle.std.proofs.lemmas.List.Elements.{All-append, All-map, All-get_or, All-from_get_or, All-head, All-tail}
 use Rattle.std.proofs.lemmas.List.{get_or_past, get_or-map, length-map, get_or-append_right, get_or_append_left}
 use Rattle.mh_network.specs.Sums.{sum_below, amount_at}
-use Rattle.mh_network.proofs.Cuts.{IsClosed, IsCut, least_by_cut}
-use Rattle.mh_network.specs.Problems.{ProblemData, no_link, IsProblem, needs_point, gain_of, cost_of, link_at, sum_of_gains}
-use Rattle.mh_network.specs.Selection.{IsBefore, IsLeast, gain_sum, cost_sum, union_of_needs, AllEligible}
+use Rattle.mh_network.specs.Needs.{AreNeeds}
+use Rattle.mh_network.specs.Problems.{ProblemData, no_link, IsProblem, needs_point, gain_of, cost_of, link_at}
+use Rattle.mh_network.specs.Selection.{IsBefore}
 use Rattle.mh_network.specs.declared.link_row.LinkRow.{LinkRow}
-use Rattle.mh_network.proofs.Net.{net}
-use Rattle.mh_network.proofs.Optimal.{IsCarried, needs-in_range, some_below-from, some_below-gives}
 use Rattle.mh_flow.specs.declared.need_row.NeedRow.{NeedRow}
-use Rattle.mh_flow.specs.Carried.{row_at, no_row, number_at, out_of_link, into_point, carried}
+use Rattle.mh_flow.specs.Carried.{row_at, no_row, number_at, into_point}
 use Rattle.mh_flow.specs.Layers.{IsPushed, IsWithin, IsSameRow}
-use Rattle.mh_flow.specs.Levels.{far, reached_count}
-use Rattle.mh_flow.specs.Run.{IsLayered, IsRun, IsOrdered, needs_below, is_reached, row_of}
-use Rattle.mh_flow.proofs.Pushing.{row-le-amount_at}
+use Rattle.mh_flow.specs.Run.{IsRun, IsOrdered, needs_below, row_of}
 
 abbrev idle : ℕ → ℕ → NeedRow
 idle j p = record { link = j; point = p; amount = 0 }
@@ -141,12 +137,12 @@ none_carried key q (r ∷ rs) h =
     let term : cond (key r == q) r.amount 0 ≡ 0 = cond-zero (key r == q) r.amount zero_here in
     omega (arith, sum_by-cons (λ (x : NeedRow). cond (key x == q) x.amount 0) r rs, term, none_carried key q rs (All-tail (λ (x : NeedRow). x.amount ≡ 0) r rs h))
 
-pub run_start : (P : ProblemData) (left cost_left : List ℕ) → IsProblem P → length left ≡ length P.links → length cost_left ≡ length P.costs →
+pub run_start : (P : ProblemData) (left cost_left : List ℕ) → AreNeeds P → IsProblem P → length left ≡ length P.links → length cost_left ≡ length P.costs →
     ((j : ℕ) → number_at left j ≡ gain_of P j) → ((p : ℕ) → number_at cost_left p ≡ cost_of P p) → IsRun P (needs_below P (length P.links)) left cost_left
-run_start P left cost_left problem links points gains costs = record {
+run_start P left cost_left needs problem links points gains costs = record {
   needed = below-needed P (length P.links);
   ordered = below-ordered P problem (length P.links);
-  complete = λ j p h. below-complete P (length P.links) j p h (needs-in_range P j p h);
+  complete = λ j p h. below-complete P (length P.links) j p h (needs.inside j p h);
   link_count = links;
   point_count = points;
   gains = λ j. omega (arith, gains j, none_carried (λ r. r.link) j (needs_below P (length P.links)) (below-zero P (length P.links)));
@@ -170,9 +166,9 @@ gain-small P problem j =
           omega (arith, none)
     ]
 
-pub run_within : (P : ProblemData) (rows : List NeedRow) (left cost_left : List ℕ) → IsProblem P → IsRun P rows left cost_left → IsWithin rows left
-run_within P rows left cost_left problem run = record {
-  links = λ k d l. omega (arith, needs-in_range P _ _ (run.needed k d l), run.link_count);
+pub run_within : (P : ProblemData) (rows : List NeedRow) (left cost_left : List ℕ) → AreNeeds P → IsProblem P → IsRun P rows left cost_left → IsWithin rows left
+run_within P rows left cost_left needs problem run = record {
+  links = λ k d l. omega (arith, needs.inside _ _ (run.needed k d l), run.link_count);
   gains = λ j. omega (arith, run.gains j, gain-small P problem j);
 }
 
@@ -210,109 +206,3 @@ run_pushed P old new left left' cost_left links points top p d run pushed same l
   gains = λ j. pushed.out j ∙ run.gains j;
   costs = λ q. cost_set cost_left p d (into_point old q) (into_point new q) q (cost_of P q) l m (run.costs q) (pushed.into q);
 }
-
--- what is reached lies in every closed set
-reach_inside : (P : ProblemData) (rows : List NeedRow) (left cost_left links points : List ℕ) (A B : ℕ → Bool) →
-    IsRun P rows left cost_left → IsLayered rows left links points → IsClosed (net P (λ r. r.link) (λ r. r.point) (λ r. r.amount)) rows A B → (n : ℕ) →
-    ((j : ℕ) → j < length links → number_at links j < n → number_at links j < far → A j ≡ true)
-    × ((p : ℕ) → p < length points → number_at points p < n → number_at points p < far → B p ≡ true)
-reach_inside P rows left cost_left links points A B run layered closed zero = (λ j l m f. absurd (omega arith), λ p l m f. absurd (omega arith))
-reach_inside P rows left cost_left links points A B run layered closed (suc n) =
-    let below = reach_inside P rows left cost_left links points A B run layered closed n in (
-      λ j l m f. elim (layered.supported.link_rows j l f) [
-        | inl source ↦ closed.spare j (omega (arith, l, layered.link_count, run.link_count)) (omega (arith, source.1, run.gains j))
-        | inr row ↦
-            let inside : B (row_at rows row.0).point ≡ true =
-            below.1 (row_at rows row.0).point (layered.range.point_range row.0 no_row row.1) (omega (arith, row.4)) (omega (arith, row.4)) in
-            subst (λ (i : ℕ). A i ≡ true) row.2 (closed.backward row.0 no_row row.1 row.3 inside)
-      ],
-      λ p l m f.
-          let row = layered.supported.point_rows p l f in
-          let inside : A (row_at rows row.0).link ≡ true =
-          below.0 (row_at rows row.0).link (layered.range.link_range row.0 no_row row.1) (omega (arith, row.3)) (omega (arith, row.3)) in
-          subst (λ (i : ℕ). B i ≡ true) row.2 (closed.forward row.0 no_row row.1 inside),
-    )
-
-same_test : (a b : Bool) → (a ≡ true → b ≡ true) → (b ≡ true → a ≡ true) → a ≡ b
-same_test true b f g = sym (f refl)
-same_test false true f g = g refl
-same_test false false f g = refl
-
-pub reached-gives : (levels : List ℕ) (j : ℕ) → is_reached levels j ≡ true → (j < length levels) × (number_at levels j < far)
-reached-gives levels j h =
-    let both = and_parts (nat_lt j (length levels)) (nat_lt (number_at levels j) far) h in
-    (ltb-true j (length levels) both.0, ltb-true (number_at levels j) far both.1)
-
-pub reached-from : (levels : List ℕ) (j : ℕ) → j < length levels → number_at levels j < far → is_reached levels j ≡ true
-reached-from levels j l m = and_from _ _ (lt-ltb j (length levels) l) (lt-ltb (number_at levels j) far m)
-
--- the sum of the gains less the flow's value is the worth of what is reached, and that is least
-pub run_end : (P : ProblemData) (rows : List NeedRow) (left cost_left links points : List ℕ) → IsProblem P → IsRun P rows left cost_left → IsLayered rows left links points →
-    length points ≡ length P.costs →
-    ((p : ℕ) → p < length points → number_at points p < far → number_at cost_left p ≡ 0) →
-    (gain_sum P (is_reached links) + carried rows ≡ sum_of_gains P + cost_sum P (union_of_needs P (is_reached links))) × IsLeast P (is_reached links)
-run_end P rows left cost_left links points problem run layered count full =
-    let R : ℕ → Bool = is_reached links in
-    let Q : ℕ → Bool = is_reached points in
-    let link_of : NeedRow → ℕ = λ r. r.link in
-    let point_of : NeedRow → ℕ = λ r. r.point in
-    let amount_of : NeedRow → ℕ = λ r. r.amount in
-    let link_total : length links ≡ length P.links = sym layered.link_count ∙ run.link_count in
-    let small : reached_count links + reached_count points + 1 < far =
-    omega (arith, count_by-le-length (λ v. nat_lt v far) links, count_by-le-length (λ v. nat_lt v far) points, problem.links, problem.points, link_total, count) in
-    let forth : (k : ℕ) → k < length rows → R (row_at rows k).link ≡ true → Q (row_at rows k).point ≡ true = λ k l h.
-    let reached = reached-gives links (row_at rows k).link h in
-    reached-from points (row_at rows k).point (layered.range.point_range k no_row l)
-    (omega (arith, (layered.settled k l).forth reached.1, layered.bounded.link_levels (row_at rows k).link reached.1, small)) in
-    let back : (k : ℕ) → k < length rows → 0 < (row_at rows k).amount → Q (row_at rows k).point ≡ true → R (row_at rows k).link ≡ true = λ k l some h.
-    let reached = reached-gives points (row_at rows k).point h in
-    reached-from links (row_at rows k).link (layered.range.link_range k no_row l)
-    (omega (arith, (layered.settled k l).back some reached.1, layered.bounded.point_levels (row_at rows k).point reached.1, small)) in
-    let flow : IsCarried P (net P link_of point_of amount_of) rows = record {
-      needed = run.needed;
-      gains = λ j. omega (arith, run.gains j);
-      costs = λ p. omega (arith, run.costs p);
-    } in
-    let cut : IsCut (net P link_of point_of amount_of) rows R Q = record {
-      closed = record {
-        spare = λ j l less.
-            let some : 0 < number_at left j = omega (arith, run.gains j, less) in
-            reached-from links j (omega (arith, l, link_total)) (omega (arith, layered.spare j some));
-        forward = All-from_get_or (λ r. R r.link ≡ true → Q r.point ≡ true) rows no_row forth;
-        backward = All-from_get_or (λ r. 0 < r.amount → Q r.point ≡ true → R r.link ≡ true) rows no_row back;
-      };
-      full = λ p l h.
-          let reached = reached-gives points p h in
-          omega (arith, run.costs p, full p reached.0 reached.1);
-    } in
-    let gainful : (j : ℕ) → R j ≡ true → 0 < gain_of P j = λ j h.
-    let reached = reached-gives links j h in
-    elim (layered.supported.link_rows j reached.0 reached.1) [
-      | inl source ↦ omega (arith, source.1, run.gains j)
-      | inr row ↦ omega (arith, row.3, row-le-amount_at link_of rows row.0 row.1, ap (out_of_link rows) row.2, run.gains j)
-    ] in
-    let eligible : AllEligible P R = λ j h.
-    elim (cases_Bool (link_at P j).eligible) [
-      | inl yes_it_is ↦ yes_it_is
-      | inr barred ↦ absurd (omega (arith, gainful j h, problem.ineligible j barred))
-    ] in
-    let union : (p : ℕ) → p < length P.costs → Q p ≡ union_of_needs P R p = λ p l.
-    same_test (Q p) (union_of_needs P R p)
-    (λ h.
-    let reached = reached-gives points p h in
-    let row = layered.supported.point_rows p reached.0 reached.1 in
-    let level : number_at links (row_at rows row.0).link < far = omega (arith, row.3, reached.1) in
-    let chosen : R (row_at rows row.0).link ≡ true = reached-from links _ (layered.range.link_range row.0 no_row row.1) level in
-    let needs : needs_point P (row_at rows row.0).link p ≡ true =
-    subst (λ (i : ℕ). needs_point P (row_at rows row.0).link i ≡ true) row.2 (run.needed row.0 no_row row.1) in
-    some_below-from (length P.links) _ _ (needs-in_range P _ _ needs) (and_from _ _ chosen needs))
-    (λ h.
-    let found = some_below-gives (length P.links) _ h in
-    let both = and_parts (R found.0) (needs_point P found.0 p) found.2 in
-    let row = run.complete found.0 p both.1 in
-    let chosen : R (row_at rows row.0).link ≡ true = subst (λ (i : ℕ). R i ≡ true) (sym row.2) both.0 in
-    subst (λ (i : ℕ). Q i ≡ true) row.3 (forth row.0 row.1 chosen)) in
-    least_by_cut P link_of point_of amount_of rows R Q problem flow eligible cut union
-    (λ A B closed j h.
-    let reached = reached-gives links j h in
-    (reach_inside P rows left cost_left links points A B run layered closed far).0 j reached.0 reached.1 reached.1)

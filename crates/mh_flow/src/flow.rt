@@ -6,7 +6,7 @@ ghost use Rattle.mh_network.specs.Selection.{IsBefore, IsFlow, IsLeast, worth, m
 
 use crate::blocking::block;
 use crate::layer_run::{FlowRun, LayerRun};
-use mh_network::{NoMemory, Problem};
+use mh_network::{NoMemory, Problem, cuts_are_least, needs_are_of_links};
 use std::alloc::Global;
 
 /// A greatest flow of a problem, and the links that its source still reaches, which are the least best
@@ -23,6 +23,8 @@ pub fn max_flow(alloc: Global, problem: &Problem) -> Result<FlowRun, NoMemory>
     ensures some { IfOk result (λ run. 1 ≤ run.phases) }
     ensures phases { IfOk result (λ run. run.phases ≤ length problem.now.links + length problem.now.costs + 2) }
 {
+    needs_are_of_links();
+    cuts_are_least();
     let mut run = LayerRun::new(alloc, problem)?;
     loop {
         run.build_levels()?;

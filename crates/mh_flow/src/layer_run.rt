@@ -18,7 +18,7 @@ use crate::path::Path;
 use crate::push::push_along;
 use crate::search::{Places, find_path};
 use crate::start::{costs, gains, need_rows, rows_by_link, rows_by_point};
-use mh_network::{NoMemory, Problem};
+use mh_network::{NoMemory, Problem, needs_are_of_links};
 use std::alloc::Global;
 use std::marker::Model;
 
@@ -96,6 +96,7 @@ impl<'p> LayerRun<'p> {
         ensures phases { IfOk result (λ run. run.phases ≡ 0) }
         ensures kept { IfOk result (λ run. IsLayerRun run) }
     {
+        needs_are_of_links();
         let rows = need_rows(alloc, problem)?;
         let by_link = rows_by_link(alloc, &rows, problem.links())?;
         let by_point = rows_by_point(alloc, &rows, problem.points())?;
@@ -160,6 +161,7 @@ impl<'p> LayerRun<'p> {
         ensures pushed { IsPathPushed self.old self.new path.now.point }
         ensures kept { IsLayerRun self.new }
     {
+        needs_are_of_links();
         let amount = push_along(
             &mut self.rows,
             &mut self.gain_left,

@@ -18,15 +18,14 @@ pub fn all_gains(problem: &Problem) -> u64
     sum
 }
 
-/// What the rows of a flow carry together, which a flow of a problem keeps within 2^62. O(rows).
-pub fn carried(flow: &[(u32, u32, u64)]) -> u64
-    requires small { value_of flow.now ≤ 2 ^ 62 }
+/// What the rows of a flow carry together, whatever rows they are: no number of them makes the sum wrap.
+/// A flow of a problem carries at most 2^62. O(rows).
+pub fn carried(flow: &[(u32, u32, u64)]) -> u128
     ensures value { result ≡ value_of flow.now }
-    ensures small { result ≤ 2 ^ 62 }
 {
-    let mut sum: u64 = 0;
+    let mut sum: u128 = 0;
     for row in flow {
-        sum += row.2;
+        sum += u128::from(row.2);
     }
     sum
 }

@@ -3,59 +3,57 @@ use Rattle.std.proofs.Common.{◌≡◌, ℕ, zero, suc, ◌≤◌, ◌<◌, Lis
 use Rattle.std.specs.Prelude.{◌==◌, All, AllPairs}
 use Rattle.std.specs.List.Sorted.{IsStrictlyIncreasing}
 use Rattle.std.proofs.lemmas.Bool.{cases_Bool, true≢false, eqb-true, eq-eqb, ne_eqb, and_parts, cond-true, cond-false}
-use Rattle.std.proofs.lemmas.List.{get_or-map, length-map}
+use Rattle.std.proofs.lemmas.List.{get_or-map}
 use Rattle.std.proofs.lemmas.List.Elements.{All-head, All-tail, All-map}
 use Rattle.std.proofs.lemmas.List.Kept.{AllPairs-cons, AllPairs-from_increasing}
 use Rattle.std.proofs.lemmas.List.Sums.{sum_by-cons}
 use Rattle.mh_network.specs.declared.link_row.LinkRow.{LinkRow}
 use Rattle.mh_network.specs.declared.part.Part.{Part}
 use Rattle.mh_network.specs.Sums.{amount_at}
-use Rattle.mh_network.specs.Problems.{ProblemData, IsProblem, gain_of, cost_of, needs_point}
-use Rattle.mh_network.specs.Parts.{AreParts, IsPartOf, part_at, place_of, part_row, part_problem}
+use Rattle.mh_network.specs.Problems.{ProblemData, gain_of, cost_of, needs_point, no_link}
+use Rattle.mh_network.specs.Alone.{AreNumbered, StandAlone}
+use Rattle.mh_network.specs.Parts.{AreParts, part_at, place_of, part_row, part_problem}
 use Rattle.mh_network.specs.Parts.Item.{link, point}
 use Rattle.mh_network.specs.Parts.IsJoined.{here}
 use Rattle.mh_network.specs.Selection.{Row, IsBefore, member, from_link, into_point}
-use Rattle.mh_network.proofs.Members.{same_answer}
-use Rattle.mh_network.proofs.Optimal.{needs-in_range}
-use Rattle.mh_network.proofs.Parted.{part_is_problem}
-use Rattle.mh_network.proofs.Renumbering.{num, place_in, place_here, member_at, row_here, needs_here, part_of}
 use Rattle.mh_flow.specs.FlowData.{FlowData}
 use Rattle.mh_plan.specs.Joined.{joined, rows_of, whole_row}
 use Rattle.mh_plan.specs.Solved.{AreSolved}
+use Rattle.mh_plan.proofs.Members.{num, same_answer}
 use Rattle.mh_plan.proofs.Concat.{joined_sum, joined_all, sum_map, one_within}
 use Rattle.mh_plan.proofs.Order.{is_at, count_at, none_at, once_at}
 
 -- numbers of a list and places in it are tested alike
-same_place : (xs : List ℕ) → IsStrictlyIncreasing xs → (k j : ℕ) → k < length xs → member xs j ≡ true → (num xs k == j) ≡ (k == place_of xs j)
-same_place xs rising k j l inside =
-    let there = place_in xs j inside in
+same_place : (xs : List ℕ) → AreNumbered xs → (k j : ℕ) → k < length xs → member xs j ≡ true → (num xs k == j) ≡ (k == place_of xs j)
+same_place xs numbered k j l inside =
+    let there = numbered.place j inside in
     same_answer (num xs k == j) (k == place_of xs j)
-    (λ e. eq-eqb k (place_of xs j) (sym (place_here xs k rising l) ∙ ap (place_of xs) (eqb-true (num xs k) j e)))
+    (λ e. eq-eqb k (place_of xs j) (sym (numbered.number k l).1 ∙ ap (place_of xs) (eqb-true (num xs k) j e)))
     (λ e. eq-eqb (num xs k) j (ap (num xs) (eqb-true k (place_of xs j) e) ∙ there.1))
 
-other_place : (xs : List ℕ) (k j : ℕ) → k < length xs → member xs j ≡ false → (num xs k == j) ≡ false
-other_place xs k j l outside = ne_eqb (num xs k) j (λ e. true≢false (sym (sym (ap (member xs) e) ∙ member_at xs k l) ∙ outside))
+other_place : (xs : List ℕ) → AreNumbered xs → (k j : ℕ) → k < length xs → member xs j ≡ false → (num xs k == j) ≡ false
+other_place xs numbered k j l outside = ne_eqb (num xs k) j (λ e. true≢false (sym (sym (ap (member xs) e) ∙ (numbered.number k l).0) ∙ outside))
 
 cond_none : (b : Bool) → cond {A = ℕ} b 0 0 ≡ 0
 cond_none true = refl
 cond_none false = refl
 
 -- the amounts of a number are those of its place
-pub amount_there : {X : Type 0} (key amount : X → ℕ) (xs : List ℕ) → IsStrictlyIncreasing xs → (rows : List X) → All (λ r. key r < length xs) rows → (j : ℕ) →
+pub amount_there : {X : Type 0} (key amount : X → ℕ) (xs : List ℕ) → AreNumbered xs → (rows : List X) → All (λ r. key r < length xs) rows → (j : ℕ) →
     amount_at (λ r. num xs (key r)) amount rows j ≡ cond (member xs j) (amount_at key amount rows (place_of xs j)) 0
-amount_there key amount xs rising [] h j = sym (cond_none (member xs j))
-amount_there key amount xs rising (r ∷ rs) h j =
+amount_there key amount xs numbered [] h j = sym (cond_none (member xs j))
+amount_there key amount xs numbered (r ∷ rs) h j =
     let l : key r < length xs = All-head (λ x. key x < length xs) r rs h in
-    let rest = amount_there key amount xs rising rs (All-tail (λ x. key x < length xs) r rs h) j in
+    let rest = amount_there key amount xs numbered rs (All-tail (λ x. key x < length xs) r rs h) j in
     let whole = sum_by-cons (λ x. cond (num xs (key x) == j) (amount x) 0) r rs in
     elim (cases_Bool (member xs j)) [
       | inl inside ↦
-          let test : cond (num xs (key r) == j) (amount r) 0 ≡ cond (key r == place_of xs j) (amount r) 0 = ap (λ (b : Bool). cond b (amount r) 0) (same_place xs rising (key r) j l inside) in
+          let test : cond (num xs (key r) == j) (amount r) 0 ≡ cond (key r == place_of xs j) (amount r) 0 = ap (λ (b : Bool). cond b (amount r) 0) (same_place xs numbered (key r) j l inside) in
           let left : amount_at (λ x. num xs (key x)) amount rs j ≡ amount_at key amount rs (place_of xs j) = rest ∙ cond-true (member xs j) _ 0 inside in
           let right : cond (member xs j) (amount_at key amount (r ∷ rs) (place_of xs j)) 0 ≡ amount_at key amount (r ∷ rs) (place_of xs j) = cond-true (member xs j) _ 0 inside in
           omega (arith, whole, test, left, right, sum_by-cons (λ x. cond (key x == place_of xs j) (amount x) 0) r rs)
       | inr outside ↦
-          let test : cond (num xs (key r) == j) (amount r) 0 ≡ 0 = cond-false (num xs (key r) == j) (amount r) 0 (other_place xs (key r) j l outside) in
+          let test : cond (num xs (key r) == j) (amount r) 0 ≡ 0 = cond-false (num xs (key r) == j) (amount r) 0 (other_place xs numbered (key r) j l outside) in
           let left : amount_at (λ x. num xs (key x)) amount rs j ≡ 0 = rest ∙ cond-false (member xs j) _ 0 outside in
           let right : cond (member xs j) (amount_at key amount (r ∷ rs) (place_of xs j)) 0 ≡ 0 = cond-false (member xs j) _ 0 outside in
           omega (arith, whole, test, left, right)
@@ -79,26 +77,17 @@ whole_ordered part links points (r ∷ rs) f g h =
     ]))
     (whole_ordered part links points rs (All-tail (λ x. x.0 < length part.links) r rs f) (All-tail (λ x. x.1 < length part.points) r rs g) (λ i k d l m. h (suc i) (suc k) d (omega (arith, l)) (omega (arith, m))))
 
-module _ (P : ProblemData) (problem : IsProblem P) (parts : List Part) (are : AreParts P parts) (run : ℕ → FlowData) (solved : AreSolved P parts run) where
-  abbrev of : (i : ℕ) → IsPartOf P (part_at parts i)
-  of i = part_of P parts problem are i
-
+module _ (P : ProblemData) (parts : List Part) (are : AreParts P parts) (alone : StandAlone P parts) (run : ℕ → FlowData) (solved : AreSolved P parts run) where
   pub links_below : (i : ℕ) → i < length parts → All (λ r. r.0 < length (part_at parts i).links) (run i).rows
-  links_below i l k d m =
-      let needed = (solved i l).flow.needed k d m in
-      let inside = needs-in_range (part_problem P (part_at parts i)) (get_or (run i).rows k d).0 (get_or (run i).rows k d).1 needed in
-      omega (arith, inside, length-map (part_at parts i).links (part_row P (part_at parts i)))
+  links_below i l k d m = (alone.inside i _ _ ((solved i l).flow.needed k d m)).0
 
   pub points_below : (i : ℕ) → i < length parts → All (λ r. r.1 < length (part_at parts i).points) (run i).rows
-  points_below i l k d m =
-      let needed = (solved i l).flow.needed k d m in
-      let inside = (part_is_problem P (part_at parts i) (of i) problem).in_range (get_or (run i).rows k d).0 (get_or (run i).rows k d).1 needed in
-      omega (arith, inside, length-map (part_at parts i).points (cost_of P))
+  points_below i l k d m = (alone.inside i _ _ ((solved i l).flow.needed k d m)).1
 
   pub part_needed : (i : ℕ) → i < length parts → All (λ r. needs_point P r.0 r.1 ≡ true) (rows_of parts run i)
   part_needed i l =
       All-map (λ (r : Row). needs_point P r.0 r.1 ≡ true) (whole_row (part_at parts i)) (run i).rows
-      (λ k d m. sym (needs_here P (part_at parts i) (of i) _ _ (links_below i l k d m) (points_below i l k d m)) ∙ (solved i l).flow.needed k d m)
+      (λ k d m. sym (alone.needs i _ _ (links_below i l k d m) (points_below i l k d m)) ∙ (solved i l).flow.needed k d m)
 
   part_positive : (i : ℕ) → i < length parts → All (λ r. 0 < r.2) (rows_of parts run i)
   part_positive i l = All-map (λ (r : Row). 0 < r.2) (whole_row (part_at parts i)) (run i).rows (λ k d m. (solved i l).positive k d m)
@@ -108,12 +97,12 @@ module _ (P : ProblemData) (problem : IsProblem P) (parts : List Part) (are : Ar
       let xs : List ℕ = (part_at parts i).links in
       let place : ℕ = place_of xs j in
       let moved : from_link (rows_of parts run i) j ≡ amount_at (λ (r : Row). num xs r.0) (λ r. r.2) (run i).rows j = sum_map (λ (r : Row). cond (r.0 == j) r.2 0) (whole_row (part_at parts i)) (run i).rows in
-      let there = amount_there (λ (r : Row). r.0) (λ r. r.2) xs (of i).links (run i).rows (links_below i l) j in
+      let there = amount_there (λ (r : Row). r.0) (λ r. r.2) xs (alone.links i) (run i).rows (links_below i l) j in
       let bound : from_link (run i).rows place ≤ gain_of (part_problem P (part_at parts i)) place = (solved i l).flow.gains place in
       elim (cases_Bool (member xs j)) [
         | inl inside ↦
-            let at = place_in xs j inside in
-            let gain : gain_of (part_problem P (part_at parts i)) place ≡ gain_of P j = ap (λ (x : LinkRow). x.gain) (row_here P (part_at parts i) (of i) place at.0) ∙ ap (gain_of P) at.1 in
+            let at = (alone.links i).place j inside in
+            let gain : gain_of (part_problem P (part_at parts i)) place ≡ gain_of P j = ap (λ (x : LinkRow). x.gain) (get_or-map (part_row P (part_at parts i)) xs place 0 no_link at.0) ∙ ap (gain_of P) at.1 in
             omega (arith, moved, there ∙ cond-true (member xs j) _ 0 inside, bound, gain, cond-true (member xs j) (gain_of P j) 0 inside)
         | inr outside ↦ omega (arith, moved, there ∙ cond-false (member xs j) _ 0 outside)
       ]
@@ -123,11 +112,11 @@ module _ (P : ProblemData) (problem : IsProblem P) (parts : List Part) (are : Ar
       let xs : List ℕ = (part_at parts i).points in
       let place : ℕ = place_of xs p in
       let moved : into_point (rows_of parts run i) p ≡ amount_at (λ (r : Row). num xs r.1) (λ r. r.2) (run i).rows p = sum_map (λ (r : Row). cond (r.1 == p) r.2 0) (whole_row (part_at parts i)) (run i).rows in
-      let there = amount_there (λ (r : Row). r.1) (λ r. r.2) xs (of i).points (run i).rows (points_below i l) p in
+      let there = amount_there (λ (r : Row). r.1) (λ r. r.2) xs (alone.points i) (run i).rows (points_below i l) p in
       let bound : into_point (run i).rows place ≤ cost_of (part_problem P (part_at parts i)) place = (solved i l).flow.costs place in
       elim (cases_Bool (member xs p)) [
         | inl inside ↦
-            let at = place_in xs p inside in
+            let at = (alone.points i).place p inside in
             let cost : cost_of (part_problem P (part_at parts i)) place ≡ cost_of P p = get_or-map (cost_of P) xs place 0 0 at.0 ∙ ap (cost_of P) at.1 in
             omega (arith, moved, there ∙ cond-true (member xs p) _ 0 inside, bound, cost, cond-true (member xs p) (cost_of P p) 0 inside)
         | inr outside ↦ omega (arith, moved, there ∙ cond-false (member xs p) _ 0 outside)
@@ -138,13 +127,13 @@ module _ (P : ProblemData) (problem : IsProblem P) (parts : List Part) (are : Ar
       let xs : List ℕ = (part_at parts i).links in
       elim (cases_Bool (member xs j)) [
         | inl inside ↦
-            omega (arith, once_at (rows_of parts run i) (whole_ordered (part_at parts i) (of i).links (of i).points (run i).rows (links_below i l) (points_below i l) (solved i l).ordered) j p, cond-true {A = ℕ} (member xs j) 1 0 inside)
+            omega (arith, once_at (rows_of parts run i) (whole_ordered (part_at parts i) (alone.part i).links (alone.part i).points (run i).rows (links_below i l) (points_below i l) (solved i l).ordered) j p, cond-true {A = ℕ} (member xs j) 1 0 inside)
         | inr outside ↦
             omega (
               arith,
               none_at (rows_of parts run i) j p
                   (All-map (λ (r : Row). is_at j p r ≡ true → ⊥) (whole_row (part_at parts i)) (run i).rows
-                  (λ k d m e. true≢false (sym (and_parts _ _ e).0 ∙ other_place xs (get_or (run i).rows k d).0 j (links_below i l k d m) outside))),
+                  (λ k d m e. true≢false (sym (and_parts _ _ e).0 ∙ other_place xs (alone.links i) (get_or (run i).rows k d).0 j (links_below i l k d m) outside))),
             )
       ]
 

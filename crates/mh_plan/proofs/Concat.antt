@@ -1,14 +1,13 @@
 -- Lists one after another: their sums, and what holds of each item.
-use Rattle.std.proofs.Common.{◌≡◌, ℕ, zero, suc, ◌+◌, ◌≤◌, ◌<◌, List, [], ◌∷◌, Bool, true, false, cond, refl, arith, sym, ◌∙◌, ap, inl, inr, map}
-use Rattle.std.specs.Prelude.{◌==◌, ◌||◌, All}
+use Rattle.std.proofs.Common.{◌≡◌, ℕ, zero, suc, ◌≤◌, ◌<◌, List, [], ◌∷◌, Bool, true, cond, refl, arith, sym, ◌∙◌, ap, inl, inr, map}
+use Rattle.std.specs.Prelude.{◌==◌, All}
 use Rattle.std.specs.List.{sum_by}
-use Rattle.std.proofs.lemmas.Bool.{cases_lt, true≢false, or_left, or_right, or_cases, eqb-true, eq-eqb}
+use Rattle.std.proofs.lemmas.Bool.{cases_Bool, cases_lt, cond-false, cond-true, true≢false, or_left, or_right, or_cases, eqb-true, eq-eqb}
 use Rattle.std.proofs.lemmas.List.Elements.{All-append}
 use Rattle.std.proofs.lemmas.List.Folds.{list_any-append}
 use Rattle.std.proofs.lemmas.List.Sums.{sum_by-append, sum_by-cons}
-use Rattle.mh_network.specs.Sums.{sum_below, some_below}
+use Rattle.mh_network.specs.Sums.{sum_below}
 use Rattle.mh_network.specs.Selection.{member}
-use Rattle.mh_network.proofs.Optimal.{some_below-gives}
 use Rattle.mh_plan.specs.Joined.{joined}
 
 pub joined_sum : {X : Type 0} (f : X → ℕ) (g : ℕ → List X) (n : ℕ) → sum_by f (joined g n) ≡ sum_below n (λ i. sum_by f (g i))
@@ -62,25 +61,22 @@ mapped_gives f (x ∷ xs) y e =
           (found.0, or_right (x == found.0) (member xs found.0) found.1, found.2)
     ]
 
-one_step : (a s : Bool) (x y g : ℕ) → y ≤ cond a g 0 → x ≤ cond s g 0 → (a ≡ true → s ≡ true → ⊥) → x + y ≤ cond (a || s) g 0
-one_step true true x y g h k n = absurd (n refl refl)
-one_step true false x y g h k n = omega (arith, h, k)
-one_step false s x y g h k n = omega (arith, h, k)
+nothing_counts : (n : ℕ) (f : ℕ → ℕ) → ((i : ℕ) → i < n → f i ≡ 0) → sum_below n f ≡ 0
+nothing_counts zero f h = refl
+nothing_counts (suc n) f h = omega (arith, h n (omega arith), nothing_counts n f (λ i l. h i (omega (arith, l))))
 
 -- terms of which one at most counts, and is within g
-pub one_counts : (n : ℕ) (A : ℕ → Bool) (f : ℕ → ℕ) (g : ℕ) → ((i k : ℕ) → i < n → k < n → A i ≡ true → A k ≡ true → i ≡ k) → ((i : ℕ) → i < n → f i ≤ cond (A i) g 0) → sum_below n f ≤ cond (some_below n A) g 0
-one_counts zero A f g apart each = omega arith
-one_counts (suc n) A f g apart each =
-    one_step (A n) (some_below n A) (sum_below n f) (f n) g (each n (omega arith))
-    (one_counts n A f g (λ i k l m. apart i k (omega (arith, l)) (omega (arith, m))) (λ i l. each i (omega (arith, l))))
-    (λ here before.
-    let found = some_below-gives n A before in
-    let same : found.0 ≡ n = apart found.0 n (omega (arith, found.1)) (omega arith) found.2 here in
-    absurd (omega (arith, found.1, same)))
-
-cond_within : (b : Bool) (g : ℕ) → cond b g 0 ≤ g
-cond_within true g = omega arith
-cond_within false g = omega arith
-
 pub one_within : (n : ℕ) (A : ℕ → Bool) (f : ℕ → ℕ) (g : ℕ) → ((i k : ℕ) → i < n → k < n → A i ≡ true → A k ≡ true → i ≡ k) → ((i : ℕ) → i < n → f i ≤ cond (A i) g 0) → sum_below n f ≤ g
-one_within n A f g apart each = omega (arith, one_counts n A f g apart each, cond_within (some_below n A) g)
+one_within zero A f g apart each = omega arith
+one_within (suc n) A f g apart each =
+    elim (cases_Bool (A n)) [
+      | inl here ↦
+          let before : sum_below n f ≡ 0 = nothing_counts n f (λ i l. elim (cases_Bool (A i)) [
+            | inl there ↦ absurd (omega (arith, l, apart i n (omega (arith, l)) (omega arith) there here))
+            | inr none ↦ omega (arith, each i (omega (arith, l)), cond-false (A i) g 0 none)
+          ]) in
+          omega (arith, before, each n (omega arith), cond-true (A n) g 0 here)
+      | inr none ↦
+          let rest : sum_below n f ≤ g = one_within n A f g (λ i k l m. apart i k (omega (arith, l)) (omega (arith, m))) (λ i l. each i (omega (arith, l))) in
+          omega (arith, rest, each n (omega arith), cond-false (A n) g 0 none)
+    ]

@@ -1,3 +1,4 @@
+pub mod Members
 pub mod Concat
 pub mod Order
 pub mod Listed

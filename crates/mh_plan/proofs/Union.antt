@@ -6,10 +6,8 @@ use Rattle.std.proofs.lemmas.List.{take_more}
 use Rattle.std.proofs.lemmas.List.Elements.{All-append}
 use Rattle.std.proofs.lemmas.List.Folds.{list_any-append}
 use Rattle.mh_network.specs.Problems.{ProblemData, IsProblem, link_at, needs_point}
-use Rattle.mh_network.specs.Selection.{member, union_of_needs}
-use Rattle.mh_network.proofs.Members.{all_members, some_member}
-use Rattle.mh_network.proofs.Optimal.{needs-in_range}
-use Rattle.mh_network.proofs.Renumbering.{num}
+use Rattle.mh_network.specs.Selection.{member}
+use Rattle.mh_plan.proofs.Members.{all_members, num}
 
 or_false : (b : Bool) → (b || false) ≡ b
 or_false true = refl
@@ -27,7 +25,3 @@ needs_more P links old new i l e h p =
     ap (list_any (λ j. needs_point P j p)) (take_more links i 0 l) ∙ list_any-append (λ j. needs_point P j p) (take i links) (num links i ∷ []) in
     whole ∙ (ap (λ (b : Bool). b || needs_point P (num links i) p) (h p)
     ∙ (ap (λ (b : Bool). list_any (λ j. needs_point P j p) (take i links) || b) (sym (or_false (needs_point P (num links i) p))) ∙ sym later))
-
--- the needs of links are the union of what they need
-pub needed_union : (P : ProblemData) (links : List ℕ) (p : ℕ) → union_of_needs P (member links) p ≡ list_any (λ j. needs_point P j p) links
-needed_union P links p = some_member (length P.links) (λ j. needs_point P j p) links (λ j e. needs-in_range P j p e)

@@ -14,7 +14,10 @@ use crate::joining::{join_links, join_rows};
 use crate::numbers::{ascending, needs_of};
 use crate::runs::{Runs, solve_parts};
 use mh_cert::Plan;
-use mh_network::{Listing, NoMemory, Part, Problem, all_gains, carried};
+use mh_network::{
+    Listing, NoMemory, Part, Problem, all_gains, amounts_are_within_gains, carried, lists_add_up,
+    parts_join,
+};
 use std::alloc::Global;
 use std::thread::Threads;
 
@@ -79,6 +82,9 @@ fn join_plan(
     ensures matching { IfOk result (λ plan. Matches problem.now plan) }
     ensures least { IfOk result (λ plan. IsLeast problem.now (member plan.links)) }
 {
+    parts_join(problem);
+    lists_add_up();
+    amounts_are_within_gains();
     let chosen = join_links(alloc, parts, runs)?;
     let links = ascending(alloc, problem.links(), &chosen)?;
     let needs = needs_of(alloc, problem, &links)?;

@@ -8,7 +8,7 @@ ghost use Rattle.mh_plan.specs.Solved.{IsSolved};
 
 use crate::gate::Gate;
 use mh_flow::{FlowRun, max_flow};
-use mh_network::{Listing, NoMemory, Part, Problem};
+use mh_network::{Listing, NoMemory, Part, Problem, parts_join};
 use std::alloc::Global;
 
 /// Plans the parts `worker`, `worker + workers`, `worker + 2 * workers` and so on.
@@ -26,6 +26,7 @@ pub(crate) fn plan_share<G: Gate>(
     requires room { length parts.now + workers < 2 ^ 64 }
     ensures share { IfOk result (λ runs. IsShare problem.now parts.now workers worker runs) }
 {
+    parts_join(problem);
     let mut runs = Vec::new(alloc);
     let mut part = worker;
     while part < parts.len() {

@@ -6,7 +6,7 @@ pub gain_of_links-requires-clause-inside : goal.gain_of_links-requires-clause-in
 gain_of_links-requires-clause-inside c = links_in_range c.args.problem.now c.args.links.now c.requires.eligible
 
 pub cost_of_points-requires-clause-inside : goal.cost_of_points-requires-clause-inside
-cost_of_points-requires-clause-inside c = points_in_range c.args.problem.now c.requires.problem c.args.links.now c.args.points.now c.requires.union.same
+cost_of_points-requires-clause-inside c = points_in_range c.args.problem.now c.requires.problem c.args.links.now c.args.points.now (λ p. c.requires.union.same p ∙ c.lists_add_up.ensures.needed c.args.problem.now c.args.links.now p)
 
 pub returns-clause-cost : goal.returns-clause-cost
 returns-clause-cost c = c.cost_of_points.ensures.value ∙ listed_cost c.args.problem.now c.args.links.now c.args.points.now c.requires.union

@@ -1,36 +1,44 @@
-use Rattle.std.proofs.Common.{◌≡◌, ◌∙◌, ap, ℕ, List, length, rules, w64}
+use Rattle.std.proofs.Common.{◌≡◌, ◌≤◌, ◌^◌, ◌∙◌, ap, arith, sym, ℕ, List, length, rules, w64}
 use Rattle.std.specs.List.{list_any}
 use Rattle.std.proofs.lemmas.Int.{to_z-of_z}
 use Rattle.std.specs.Prelude.{FitsSigned}
-use Rattle.mh_network.specs.Problems.{needs_point}
-use Rattle.mh_network.specs.Selection.{member}
+use Rattle.mh_network.specs.Problems.{needs_point, sum_of_gains}
+use Rattle.mh_network.specs.Selection.{member, value_of}
 use Rattle.mh_plan.specs.Joined.{joined, links_of}
 use Rattle.mh_plan.specs.Shares.{run_at}
 use Rattle.mh_plan.proofs.Amounts.{links_below, points_below}
 use Rattle.mh_plan.proofs.Best.{chosen_below, reached_below}
-use Rattle.mh_plan.proofs.Whole.{links_inside, links_least, matched, rows_small}
+use Rattle.mh_plan.proofs.Whole.{links_inside, links_least, matched, rows_gains, rows_needed}
 use Rattle.mh_plan.proofs.planner.join_plan.Goals as goal
 
 pub join_links-requires-clause-inside : goal.join_links-requires-clause-inside
-join_links-requires-clause-inside c = reached_below _ c.requires.problem _ c.requires.parts _ c.requires.solved
+join_links-requires-clause-inside c = reached_below _ _ c.requires.parts (c.parts_join.ensures.alone c.args.parts.now c.requires.parts) _ c.requires.solved
 
 pub ascending-requires-clause-inside : goal.ascending-requires-clause-inside
 ascending-requires-clause-inside c =
-    rw (c.deref.ensures.value, c.in_ok-chosen.ensures.value, c.links.ensures.count) (chosen_below _ c.requires.problem _ c.requires.parts _ c.requires.solved)
+    rw (c.deref.ensures.value, c.in_ok-chosen.ensures.value, c.links.ensures.count) (chosen_below _ _ c.requires.parts (c.parts_join.ensures.alone c.args.parts.now c.requires.parts) _ c.requires.solved)
 
 pub needs_of-requires-clause-inside : goal.needs_of-requires-clause-inside
 needs_of-requires-clause-inside c =
-    rw c.deref-2.ensures.value (links_inside _ c.requires.problem _ c.requires.parts _ c.requires.solved c.in_ok-links.links.items (rw (c.deref.ensures.value, c.in_ok-chosen.ensures.value) at c.in_ok-links.ensures.same))
+    rw c.deref-2.ensures.value (links_inside _ c.requires.problem _ c.requires.parts (c.parts_join.ensures.alone c.args.parts.now c.requires.parts) _ c.requires.solved c.in_ok-links.links.items (rw (c.deref.ensures.value, c.in_ok-chosen.ensures.value) at c.in_ok-links.ensures.same))
 
 pub join_rows-requires-clause-links : goal.join_rows-requires-clause-links
-join_rows-requires-clause-links c = links_below _ c.requires.problem _ c.requires.parts _ c.requires.solved
+join_rows-requires-clause-links c = links_below _ _ c.requires.parts (c.parts_join.ensures.alone c.args.parts.now c.requires.parts) _ c.requires.solved
 
 pub join_rows-requires-clause-points : goal.join_rows-requires-clause-points
-join_rows-requires-clause-points c = points_below _ c.requires.problem _ c.requires.parts _ c.requires.solved
+join_rows-requires-clause-points c = points_below _ _ c.requires.parts (c.parts_join.ensures.alone c.args.parts.now c.requires.parts) _ c.requires.solved
 
 pub left_of_gains-requires : goal.left_of_gains-requires
 left_of_gains-requires c =
-    record { small = rw c.deref-4.ensures.value (rows_small _ c.requires.problem _ c.requires.parts _ c.requires.solved c.in_ok-flow.flow.items c.in_ok-flow.ensures.same) }
+    let P = c.args.problem.now in
+    let rows = c.in_ok-flow.flow.items in
+    let alone = (c.parts_join.ensures.alone c.args.parts.now c.requires.parts) in
+    let within : value_of rows ≤ sum_of_gains P =
+    c.amounts_are_within_gains.ensures.within P rows (rows_needed P c.requires.problem _ c.requires.parts alone _ c.requires.solved rows c.in_ok-flow.ensures.same)
+    (rows_gains P c.requires.problem _ c.requires.parts alone _ c.requires.solved rows c.in_ok-flow.ensures.same) in
+    let few : sum_of_gains P ≤ 2 ^ 62 = c.requires.problem.gains in
+    let small : value_of rows ≤ 2 ^ 62 = omega arith in
+    record { small = rw c.deref-4.ensures.value small }
 
 pub returns-clause-matching : goal.returns-clause-matching
 returns-clause-matching c =
@@ -42,9 +50,9 @@ returns-clause-matching c =
     let balance = rw c.deref-4.ensures.value at c.left_of_gains.ensures.value in
     let fits : FitsSigned w64 c.left_of_gains.result = search rules in
     rw (c.from_vec.ensures.value, c.from_vec-2.ensures.value, c.from_vec-3.ensures.value)
-    (matched _ c.requires.problem _ c.requires.parts _ c.requires.solved c.in_ok-flow.flow.items c.in_ok-flow.ensures.same c.in_ok-links.links.items c.in_ok-points.points.items _
-    c.in_ok-flow.ensures.sorted c.in_ok-links.ensures.ascending same c.in_ok-points.ensures.ascending needed (to_z-of_z w64 c.left_of_gains.result fits ∙ balance))
+    (matched _ c.requires.problem _ c.requires.parts (c.parts_join.ensures.alone c.args.parts.now c.requires.parts) _ c.requires.solved c.in_ok-flow.flow.items c.in_ok-flow.ensures.same c.in_ok-links.links.items c.in_ok-points.points.items _
+    c.in_ok-flow.ensures.sorted c.in_ok-links.ensures.ascending same c.in_ok-points.ensures.ascending (λ p. needed p ∙ sym (c.lists_add_up.ensures.needed c.args.problem.now c.in_ok-links.links.items p)) (to_z-of_z w64 c.left_of_gains.result fits ∙ balance))
 
 pub returns-clause-least : goal.returns-clause-least
 returns-clause-least c =
-    rw c.from_vec.ensures.value (links_least _ c.requires.problem _ c.requires.parts _ c.requires.solved c.in_ok-links.links.items (rw (c.deref.ensures.value, c.in_ok-chosen.ensures.value) at c.in_ok-links.ensures.same))
+    rw c.from_vec.ensures.value (links_least _ c.requires.problem _ c.requires.parts (c.parts_join.ensures.alone c.args.parts.now c.requires.parts) _ c.requires.solved c.in_ok-links.links.items (rw (c.deref.ensures.value, c.in_ok-chosen.ensures.value) at c.in_ok-links.ensures.same))

@@ -2,7 +2,6 @@ use Rattle.std.proofs.Common.{◌≡◌, ◌+◌, ◌*◌, ◌∙◌, sym, ap, s
 use Rattle.std.proofs.lemmas.List.{get_or_default}
 use Rattle.mh_network.specs.declared.part.Part.{Part}
 use Rattle.mh_network.specs.Parts.{IsPartOf, no_part, part_at, part_problem}
-use Rattle.mh_network.proofs.Renumbering.{part_of}
 use Rattle.mh_plan.specs.Solved.{IsSolved}
 use Rattle.mh_plan.proofs.Shared.{share_more}
 use Rattle.mh_plan.proofs.worker.plan_share.Goals as goal
@@ -10,7 +9,7 @@ use Rattle.mh_plan.proofs.worker.plan_share.Goals as goal
 pub solve-run-requires : goal.solve-run-requires
 solve-run-requires g c =
     let same : part_at c.args.parts.now c.loop-part.part ≡ c.index-parts-part.result = get_or_default c.args.parts.now c.loop-part.part no_part _ c.loop-part-test.true ∙ sym c.index-parts-part.is in
-    record { part = subst (λ (part : Part). IsPartOf c.args.problem.now part) same (part_of _ _ c.requires.problem c.requires.parts c.loop-part.part) }
+    record { part = subst (λ (part : Part). IsPartOf c.args.problem.now part) same ((c.parts_join.ensures.alone c.args.parts.now c.requires.parts).part c.loop-part.part) }
 
 pub loop-part-preserved : goal.loop-part-preserved
 loop-part-preserved g c =

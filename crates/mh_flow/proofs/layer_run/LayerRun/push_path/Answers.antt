@@ -12,7 +12,7 @@ use Rattle.mh_flow.proofs.layer_run.LayerRun.push_path.Goals as goal
 
 pub push_along-amount-requires-clause-within : goal.push_along-amount-requires-clause-within
 push_along-amount-requires-clause-within c =
-    rw (c.deref_mut.ensures.value, c.deref_mut-2.ensures.value) (run_within _ _ _ _ c.self.invariant.0.known c.self.invariant.0.run)
+    rw (c.deref_mut.ensures.value, c.deref_mut-2.ensures.value) (run_within _ _ _ _ (c.needs_are_of_links.ensures.needs _) c.self.invariant.0.known c.self.invariant.0.run)
 
 pub invariant_of-self : goal.invariant_of-self
 invariant_of-self c =
