@@ -7,10 +7,11 @@ use Rattle.std.proofs.lemmas.List.FromFn.{get_or-map-range_with_len, length-map-
 use Rattle.std.proofs.lemmas.Bool.Decides.{nat_tests}
 use Rattle.mh_tree.specs.Handle.{TypedTree}
 use Rattle.mh_site.specs.declared.control.Control.{Control}
-use Rattle.mh_site.specs.declared.control.Control.TheVariants.{Target, Invalidate}
+use Rattle.mh_site.specs.declared.control.Control.TheVariants.{Target, Invalidate, Install}
+use Rattle.mh_site.specs.Controls.{Relinked}
 use Rattle.mh_site.specs.Defined.{DefinitionData, no_site}
-use Rattle.mh_site.specs.Worlds.{WorldState, SiteState, opened, opening, replay, after, state_at, no_state, retargeted, clear_point}
-use Rattle.mh_site.specs.LookBack.{base, version, member, is_valid, valid_points, site_after}
+use Rattle.mh_site.specs.Worlds.{WorldState, SiteState, opened, opening, replay, after, state_at, no_state, retargeted, relinked, relink_site, clear_point}
+use Rattle.mh_site.specs.LookBack.{base, linked, kept, version, member, is_valid, valid_points, last_of, site_after}
 use Rattle.mh_site.proofs.Tables.{replay_push}
 
 -- the world after controls that are given newest first
@@ -21,9 +22,14 @@ one_more : (d : DefinitionData) (c : Control) (older : List Control) → world d
 one_more d c older = ap (replay (opened d)) (reverse-append (c ∷ []) older) ∙ replay_push (opened d) (reverse older) c
 
 -- ---- sites
+relinked_sites : (changes : List Relinked) (sites : List SiteState) → length (fold relink_site sites changes) ≡ length sites
+relinked_sites [] sites = refl
+relinked_sites (c ∷ changes) sites = relinked_sites changes (relink_site sites c) ∙ length-set sites c.site _
+
 after_sites : (w : WorldState) (c : Control) → length (after w c).sites ≡ length w.sites
 after_sites w (Target r) = length-set w.sites r.site _
 after_sites w (Invalidate points) = refl
+after_sites w (Install changes) = relinked_sites changes w.sites
 
 pub world_sites : (d : DefinitionData) (newest : List Control) → length (world d newest).sites ≡ length d.sites
 world_sites d [] = length-map d.sites opening
@@ -38,25 +44,55 @@ target_read w t s tree false e h =
     let other : s ≢ t = λ q. grind (arith, nat_tests) in
     get_or-set_other w.sites t s (retargeted tree (state_at w t)) no_state other
 
-abbrev state_of : TypedTree → ℕ → SiteState
-state_of t n = record { base = t; linked = t; kept = []; version = n }
+abbrev state_of : TypedTree → TypedTree → List ℕ → ℕ → SiteState
+state_of t l k n = record { base = t; linked = l; kept = k; version = n }
 
-spread : (b : Bool) (tree t : TypedTree) (n : ℕ) → cond b (retargeted tree (state_of t n)) (state_of t n) ≡ state_of (cond b tree t) (cond b (n + 1) n)
-spread true tree t n = refl
-spread false tree t n = refl
+retarget_spread : (b : Bool) (tree t l : TypedTree) (k : List ℕ) (n : ℕ)
+    → cond b (retargeted tree (state_of t l k n)) (state_of t l k n) ≡ state_of (cond b tree t) (cond b tree l) (cond b [] k) (cond b (n + 1) n)
+retarget_spread true tree t l k n = refl
+retarget_spread false tree t l k n = refl
+
+relink_spread : (b : Bool) (new : TypedTree) (links : List ℕ) (t l : TypedTree) (k : List ℕ) (n : ℕ)
+    → cond b (relinked new links (state_of t l k n)) (state_of t l k n) ≡ state_of t (cond b new l) (cond b links k) n
+relink_spread true new links t l k n = refl
+relink_spread false new links t l k n = refl
+
+relink_read : (sites : List SiteState) (c : Relinked) (s : ℕ) (b : Bool) → (c.site == s) ≡ b → s < length sites
+    → slice_index_or (relink_site sites c) s no_state ≡ cond b (relinked c.linked c.kept (slice_index_or sites s no_state)) (slice_index_or sites s no_state)
+relink_read sites c s true e h =
+    let same : s ≡ c.site = grind (arith, nat_tests) in
+    rw same (get_or-set_same sites c.site (relinked c.linked c.kept (slice_index_or sites c.site no_state)) no_state (omega arith))
+relink_read sites c s false e h =
+    let other : s ≢ c.site = λ q. grind (arith, nat_tests) in
+    get_or-set_other sites c.site s (relinked c.linked c.kept (slice_index_or sites c.site no_state)) no_state other
+
+-- a site after an installation
+relinks_read : (changes : List Relinked) (sites : List SiteState) (s : ℕ) (t l : TypedTree) (k : List ℕ) (n : ℕ) → s < length sites
+    → slice_index_or sites s no_state ≡ state_of t l k n
+    → slice_index_or (fold relink_site sites changes) s no_state ≡ state_of t (last_of (λ c. c.linked) s l changes) (last_of (λ c. c.kept) s k changes) n
+relinks_read [] sites s t l k n h e = e
+relinks_read (c ∷ changes) sites s t l k n h e =
+    relinks_read changes (relink_site sites c) s t (cond (c.site == s) c.linked l) (cond (c.site == s) c.kept k) n (omega (arith, length-set sites c.site (relinked c.linked c.kept (slice_index_or sites c.site no_state))))
+    (relink_read sites c s (c.site == s) refl h
+    ∙ (ap (λ x. cond (c.site == s) (relinked c.linked c.kept x) x) e ∙ relink_spread (c.site == s) c.linked c.kept t l k n))
 
 pub read : (d : DefinitionData) (newest : List Control) (s : ℕ) → s < length d.sites → state_at (world d newest) s ≡ site_after d newest s
 read d [] s h = get_or-map opening d.sites s no_site no_state h
 read d (Target r ∷ older) s h =
     ap (λ w. state_at w s) (one_more d (Target r) older)
     ∙ (target_read (world d older) r.site s r.tree (r.site == s) refl (omega (arith, world_sites d older))
-    ∙ (ap (λ x. cond (r.site == s) (retargeted r.tree x) x) (read d older s h) ∙ spread (r.site == s) r.tree (base d older s) (version older s)))
+    ∙ (ap (λ x. cond (r.site == s) (retargeted r.tree x) x) (read d older s h)
+    ∙ retarget_spread (r.site == s) r.tree (base d older s) (linked d older s) (kept older s) (version older s)))
 read d (Invalidate points ∷ older) s h = ap (λ w. state_at w s) (one_more d (Invalidate points) older) ∙ read d older s h
+read d (Install changes ∷ older) s h =
+    ap (λ w. state_at w s) (one_more d (Install changes) older)
+    ∙ relinks_read changes (world d older).sites s (base d older s) (linked d older s) (kept older s) (version older s) (omega (arith, world_sites d older)) (read d older s h)
 
 -- ---- the front
 after_front : (w : WorldState) (c : Control) → (after w c).front ≡ w.front + 1
 after_front w (Target r) = refl
 after_front w (Invalidate points) = refl
+after_front w (Install changes) = refl
 
 pub world_front : (d : DefinitionData) (newest : List Control) → (world d newest).front ≡ length newest
 world_front d [] = refl
@@ -116,3 +152,4 @@ valid_is d (Target r ∷ older) = ap (λ w. w.valid) (one_more d (Target r) olde
 valid_is d (Invalidate points ∷ older) =
     ap (λ w. w.valid) (one_more d (Invalidate points) older)
     ∙ (ap (λ v. fold clear_point v points) (valid_is d older) ∙ clear_all (is_valid older) (length d.points) points)
+valid_is d (Install changes ∷ older) = ap (λ w. w.valid) (one_more d (Install changes) older) ∙ valid_is d older

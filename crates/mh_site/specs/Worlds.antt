@@ -6,7 +6,8 @@ use Rattle.mh_tree.specs.Handle.{TypedTree}
 use Rattle.mh_tree.specs.TreeCode.{coded_typed_tree}
 use Rattle.mh_site.specs.declared.site.Site.{Site}
 use Rattle.mh_site.specs.declared.control.Control.{Control}
-use Rattle.mh_site.specs.declared.control.Control.TheVariants.{Target, Invalidate}
+use Rattle.mh_site.specs.declared.control.Control.TheVariants.{Target, Invalidate, Install}
+use Rattle.mh_site.specs.Controls.{Relinked}
 use Rattle.mh_site.specs.Defined.{DefinitionData, no_tree}
 
 -- a site's base tree and linked tree, the links that the linked tree holds, and how often the site was retargeted
@@ -49,10 +50,18 @@ retargeted t x = record { base = t; linked = t; kept = []; version = x.version +
 abbrev pub clear_point : List Bool → ℕ → List Bool
 clear_point v p = slice_set v p false
 
+-- a site with another linked tree, over the same base
+abbrev pub relinked : TypedTree → List ℕ → SiteState → SiteState
+relinked t links x = record { base = x.base; linked = t; kept = links; version = x.version }
+
+abbrev pub relink_site : List SiteState → Relinked → List SiteState
+relink_site sites r = slice_set sites r.site (relinked r.linked r.kept (slice_index_or sites r.site no_state))
+
 -- the world after a control
 abbrev pub after : WorldState → Control → WorldState
 after w (Target r) = record { valid = w.valid; sites = slice_set w.sites r.site (retargeted r.tree (state_at w r.site)); front = w.front + 1 }
 after w (Invalidate points) = record { valid = fold clear_point w.valid points; sites = w.sites; front = w.front + 1 }
+after w (Install changes) = record { valid = w.valid; sites = fold relink_site w.sites changes; front = w.front + 1 }
 
 -- the world after controls, oldest first
 abbrev pub replay : WorldState → List Control → WorldState

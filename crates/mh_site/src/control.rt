@@ -76,6 +76,87 @@ impl Points {
     }
 }
 
+/// A site's new linked tree, with its code, and the links that it holds, by number.
+#[derive(Drop)]
+pub struct Relinking {
+    pub(crate) site: usize,
+    pub(crate) linked: Prepared,
+    pub(crate) kept: Vec<usize>,
+}
+
+impl Model for Relinking {
+    ghost use Rattle.mh_site.specs.Controls.{Relinked, coded_relinked};
+
+    ghost Value = { Relinked };
+
+    ghost coded = { coded_relinked };
+
+    ghost view = { λ r. record { site = r.site; linked = r.linked; kept = r.kept.items } };
+}
+
+impl Relinking {
+    /// The tree that the calls of a site run from then on, and the links that it holds.
+    pub fn new(site: usize, linked: Prepared, kept: Vec<usize>) -> Relinking
+        ensures value { result ≡ record { site = site; linked = linked; kept = kept.items } }
+    {
+        Relinking { site, linked, kept }
+    }
+
+    /// The number of the site.
+    pub fn site(&self) -> usize
+        ensures value { result ≡ self.now.site }
+    {
+        self.site
+    }
+
+    /// The new linked tree.
+    pub fn linked(&self) -> &Prepared
+        ensures value { result.now ≡ self.now.linked }
+    {
+        &self.linked
+    }
+
+    /// The links that the tree holds.
+    pub fn kept(&self) -> &[usize]
+        ensures value { result.now ≡ self.now.kept }
+    {
+        self.kept.as_slice()
+    }
+}
+
+/// New linked trees of several sites, which change together.
+#[derive(Drop)]
+pub struct Installation {
+    pub(crate) changes: Vec<Relinking>,
+}
+
+impl Model for Installation {
+    ghost use Rattle.std.specs.Prelude.{List};
+    ghost use Rattle.mh_site.specs.Controls.{Relinked, coded_changes};
+
+    ghost Value = { List Relinked };
+
+    ghost coded = { coded_changes };
+
+    ghost view = { λ i. i.changes.items };
+}
+
+impl Installation {
+    /// The changes, with no copy.
+    pub fn new(changes: Vec<Relinking>) -> Installation
+        ensures value { result ≡ changes.items }
+    {
+        Installation { changes }
+    }
+
+    /// The changes, in order.
+    pub fn as_slice(&self) -> &[Relinking]
+        ensures value { result.now ≡ self.now }
+    {
+        self.changes.as_slice()
+    }
+}
+
 /// What changes a world, with all the memory that the change takes.
 #[derive(Drop)]
 pub enum Control {
@@ -84,4 +165,6 @@ pub enum Control {
     Target(Retargeting),
     /// Invalidates points for good. A point past the last is left out.
     Invalidate(Points),
+    /// Links sites to other trees over their bases, in order. A site past the last is left out.
+    Install(Installation),
 }

@@ -2,11 +2,11 @@
 
 ghost use Rattle.std.specs.Prelude.{◌≡◌, ◌<◌, ◌+◌, ◌^◌, length, map, fold, slice_set, slice_index_or, IfOk, List, ◌++◌, ◌∷◌, []};
 ghost use Rattle.std.specs.List.{All};
-ghost use Rattle.mh_site.specs.Worlds.{WorldState, opened, opening, after, replay, state_at, no_state, retargeted, clear_point};
+ghost use Rattle.mh_site.specs.Worlds.{WorldState, opened, opening, after, replay, state_at, no_state, retargeted, relinked, relink_site, clear_point};
 ghost use Rattle.mh_site.specs.SiteStates.{site_state};
 ghost use Rattle.mh_site.specs.declared.control.Control.{Control};
 
-use crate::control::{Control, Points, Retargeting, prepared};
+use crate::control::{Control, Installation, Points, Relinking, Retargeting, prepared};
 use crate::definition::Definition;
 use crate::fault::NoMemory;
 use crate::site::Site;
@@ -19,7 +19,7 @@ use std::marker::Model;
 pub(crate) struct SiteWorld {
     base: Declared,
     linked: Prepared,
-    kept: Vec<u32>,
+    kept: Vec<usize>,
     version: u64,
 }
 
@@ -98,7 +98,7 @@ impl World {
     }
 
     /// The links that the linked tree holds, by number.
-    pub fn kept(&self, site: usize) -> &[u32]
+    pub fn kept(&self, site: usize) -> &[usize]
         requires inside { site < length self.now.sites }
         ensures value { result.now ≡ (state_at self.now site).kept }
     {
@@ -130,6 +130,7 @@ impl World {
         match control {
             Control::Target(retargeting) => retarget(&mut self.sites, retargeting),
             Control::Invalidate(points) => clear(&mut self.valid, &points),
+            Control::Install(installation) => relink_all(&mut self.sites, installation),
         }
     }
 }
@@ -170,6 +171,28 @@ fn retarget(sites: &mut Vec<SiteWorld>, retargeting: Retargeting)
         entry.linked = linked;
         entry.kept.clear();
         entry.version += 1;
+    }
+}
+
+// Other linked trees of sites, in order.
+fn relink_all(sites: &mut Vec<SiteWorld>, installation: Installation)
+    ensures value { map site_state sites.new.items ≡ fold relink_site (map site_state sites.old.items) installation }
+{
+    let Installation { changes } = installation;
+    for change in changes {
+        relink(sites, change);
+    }
+}
+
+// Another linked tree of a site, over the same base.
+fn relink(sites: &mut Vec<SiteWorld>, change: Relinking)
+    ensures value { map site_state sites.new.items ≡ relink_site (map site_state sites.old.items) change }
+{
+    let Relinking { site, linked, kept } = change;
+    if site < sites.len() {
+        let relinked = &mut sites[site];
+        relinked.linked = linked;
+        relinked.kept = kept;
     }
 }
 
