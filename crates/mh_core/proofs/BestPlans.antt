@@ -1,5 +1,5 @@
 -- Each published plan is best.
-use Rattle.std.proofs.Common.{◌≡◌, ◌++◌, ◌∷◌, [], ℕ, List, subst}
+use Rattle.std.proofs.Common.{◌++◌, ◌∷◌, [], ℕ, List, subst}
 use Rattle.mh_network.specs.declared.link_row.LinkRow.{LinkRow}
 use Rattle.mh_network.specs.Problems.{IsProblem, problem_of}
 use Rattle.mh_network.specs.Selection.{IsBest, member}

@@ -1,12 +1,10 @@
 -- The totals of records count the calls that a flush of the same worker follows.
-use Rattle.std.proofs.Common.{◌≡◌, ◌≢◌, ℕ, ◌+◌, ◌<◌, ◌==◌, ◌||◌, ◌&&◌, Bool, true, false, cond, List, [], ◌∷◌, length, refl, ap, sym, ◌∙◌, arith}
-use Rattle.std.proofs.lemmas.Bool.{eq-eqb, ne_eqb}
+use Rattle.std.proofs.Common.{◌≡◌, ℕ, ◌+◌, ◌<◌, ◌==◌, ◌||◌, ◌&&◌, Bool, true, false, cond, List, [], ◌∷◌, length, refl, ap, sym, ◌∙◌, arith}
 use Rattle.std.proofs.lemmas.Bool.Decides.{Decides-eqb, nat_tests}
-use Rattle.mh_ledger.specs.Ledgers.{at}
 use Rattle.mh_site.specs.Defined.{DefinitionData}
 use Rattle.mh_site.specs.Links.{links}
 use Rattle.mh_core.specs.declared.event.Event.{Event}
-use Rattle.mh_core.specs.declared.event.Event.TheVariants.{Call, Flush, Target, Invalidate, Snapshot, Publish}
+use Rattle.mh_core.specs.declared.event.Event.TheVariants.{Call, Flush, Target, Invalidate, Snapshot, Publish, Install}
 use Rattle.mh_core.specs.Histories.{records}
 use Rattle.mh_core.specs.Hits.{flushed_calls, hits, total_calls, moved, unflushed, unflushed_hits}
 use Rattle.mh_core.specs.Records.{hits_of, total}
@@ -25,6 +23,7 @@ module _ (d : DefinitionData) (j : ℕ) where
   same_later p q (Invalidate points ∷ h) same = same_later p q h same
   same_later p q (Snapshot ∷ h) same = same_later p q h same
   same_later p q (Publish n plan ∷ h) same = same_later p q h same
+  same_later p q (Install m ∷ h) same = same_later p q h same
 
   -- a call of a worker, whether the one that flushes later or another
   one_call : (is later own hit : Bool) (all some rest : ℕ) → (is ≡ true → later ≡ own) → all ≡ some + cond own 0 rest
@@ -73,6 +72,7 @@ module _ (d : DefinitionData) (j : ℕ) where
   one_flush w later (Invalidate points ∷ h) = one_flush w later h
   one_flush w later (Snapshot ∷ h) = one_flush w later h
   one_flush w later (Publish n plan ∷ h) = one_flush w later h
+  one_flush w later (Install m ∷ h) = one_flush w later h
 
   moved_hits : (h : List Event) (w : ℕ) → j < length (links d) → hits_of (moved d h w) j ≡ unflushed d h w j
   moved_hits h w inside = hits_counted (unflushed_hits d h w) j ∙ at_number (unflushed d h w) (length (links d)) j inside
@@ -87,3 +87,4 @@ module _ (d : DefinitionData) (j : ℕ) where
   total_is (Invalidate points ∷ h) inside = total_is h inside
   total_is (Snapshot ∷ h) inside = total_is h inside
   total_is (Publish n plan ∷ h) inside = total_is h inside
+  total_is (Install m ∷ h) inside = total_is h inside

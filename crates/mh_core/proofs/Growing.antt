@@ -5,10 +5,13 @@ use Rattle.mh_site.specs.Defined.{DefinitionData}
 use Rattle.mh_site.specs.Worlds.{WorldState}
 use Rattle.mh_ledger.specs.Ledgers.{TotalsState}
 use Rattle.mh_core.specs.declared.record.Record.{Record}
-use Rattle.mh_core.specs.declared.record.Record.TheVariants.{Flushed, Targeted, Invalidated, Snapped, Published}
+use Rattle.mh_core.specs.declared.record.Record.TheVariants.{Flushed, Targeted, Invalidated, Snapped, Published, Installed}
 use Rattle.mh_core.specs.Books.{BookState, IsBook, AreTotals}
 use Rattle.mh_core.specs.Limits.{LimitsData}
-use Rattle.mh_core.specs.Records.{world, total, plans}
+use Rattle.mh_core.specs.Installations.{PublishedPlan}
+use Rattle.mh_core.specs.PlanTables.{plans_of}
+use Rattle.mh_core.specs.Records.{total}
+use Rattle.mh_core.specs.Replayed.{world}
 use Rattle.mh_core.specs.Rows.{tests}
 use Rattle.mh_core.specs.Snapshots.{SnapshotState, snapshots_of}
 use Rattle.mh_core.specs.Tests.{Passes}
@@ -25,23 +28,24 @@ fits_in d l n r (Targeted s tree) passes = passes.1.1.1.0
 fits_in d l n r (Invalidated points) passes = passes.1.0
 fits_in d l n r Snapped passes = passes.0.0
 fits_in d l n r (Published m plan) passes = passes.1.1.0.0
+fits_in d l n r (Installed m) passes = passes.1.1.0
 
 -- what is made of the records
-pub record Made (b : BookState) (r : List Record) (w : WorldState) (t : TotalsState) (s : List SnapshotState) (n : ℕ) : Type 0 where
+pub record Made (b : BookState) (r : List Record) (w : WorldState) (t : TotalsState) (s : List SnapshotState) (n : List PublishedPlan) : Type 0 where
   pub world : w ≡ world b.definition r
   pub totals : AreTotals b.definition b.limits r t
   pub snapshots : s ≡ snapshots_of b.definition r
-  pub plans : n ≡ plans r
+  pub plans : n ≡ plans_of r
 
 -- what a record that is no flush leaves
 pub totals_stay : (b : BookState) (e : Record) → IsBook b → ((j : ℕ) → total (e ∷ b.records) j ≡ total b.records j) → AreTotals b.definition b.limits (e ∷ b.records) b.totals
 totals_stay b e is same = record { count = is.totals.count; sums = λ j h. is.totals.sums j h ∙ sym (same j); limit = is.totals.limit }
 
-abbrev pub pushed : BookState → List Record → WorldState → TotalsState → List SnapshotState → ℕ → BookState
+abbrev pub pushed : BookState → List Record → WorldState → TotalsState → List SnapshotState → List PublishedPlan → BookState
 pushed b r w t s n = record { definition = b.definition; limits = b.limits; records = r; world = w; totals = t; snapshots = s; plans = n }
 
 -- a book that takes a record, which is pushed behind the others
-pub book_grows : (b : BookState) (calls : ℕ) (e : Record) (older newer : List Record) (w : WorldState) (t : TotalsState) (s : List SnapshotState) (n : ℕ) → IsBook b
+pub book_grows : (b : BookState) (calls : ℕ) (e : Record) (older newer : List Record) (w : WorldState) (t : TotalsState) (s : List SnapshotState) (n : List PublishedPlan) → IsBook b
     → Passes (tests b.definition b.limits (length b.records + calls) b.records e) → Made b (e ∷ b.records) w t s n → reverse older ≡ b.records → newer ≡ older ++ e ∷ [] → IsBook (pushed b (reverse newer) w t s n)
 book_grows b calls e older newer w t s n is passes made was push =
     let few = fits_in b.definition b.limits (length b.records + calls) b.records e passes in

@@ -7,8 +7,12 @@ pub mod PastSnapshots
 pub mod HitCounts
 pub mod Deciding
 pub mod Standing
+pub mod PlanTables
+pub mod InstalledLinks
+pub mod CachedLinks
 pub mod PlanTests
 pub mod BestPlans
+pub mod Caches
 pub mod Calls
 pub mod Runs
 pub mod HitLinks

@@ -13,7 +13,7 @@ use Rattle.mh_site.specs.Defined.{DefinitionData}
 use Rattle.mh_site.specs.Lawful.{IsDefinition}
 use Rattle.mh_site.specs.Links.{links, link_at}
 use Rattle.mh_core.specs.declared.record.Record.{Record}
-use Rattle.mh_core.specs.declared.record.Record.TheVariants.{Flushed, Targeted, Invalidated, Snapped, Published}
+use Rattle.mh_core.specs.declared.record.Record.TheVariants.{Flushed, Targeted, Invalidated, Snapped, Published, Installed}
 use Rattle.mh_core.specs.Books.{Legal}
 use Rattle.mh_core.specs.Limits.{LimitsData, most_gains}
 use Rattle.mh_core.specs.Problems.{IsTaken, is_eligible, problem_after, row}
@@ -32,6 +32,7 @@ snapshots_count d (Targeted t tree ∷ r) = snapshots_count d r
 snapshots_count d (Invalidated points ∷ r) = snapshots_count d r
 snapshots_count d (Snapped ∷ r) = let h = snapshots_count d r in omega arith
 snapshots_count d (Published n plan ∷ r) = snapshots_count d r
+snapshots_count d (Installed m ∷ r) = snapshots_count d r
 
 -- ---- the records before a snapshot
 past_last : (r : List Record) (n : ℕ) → n ≡ snapshots r + 1 → past (Snapped ∷ r) n ≡ r
@@ -61,6 +62,7 @@ kept_at d (Snapped ∷ r) n none h =
           ∙ (get_or-append-add older (snapshot_of d r ∷ []) 0 none ∙ ap (snapshot_of d) (sym (past_last r (n + 1) (omega arith)))))
     ]
 kept_at d (Published m plan ∷ r) n none h = kept_at d r n none h
+kept_at d (Installed m ∷ r) n none h = kept_at d r n none h
 
 -- ---- legal records
 -- the records before a snapshot were legal, and its gains passed their test
@@ -78,6 +80,7 @@ past_legal d l (Snapped ∷ r) n legal taken = elim (cases_lt (snapshots r) n) [
   | inr earlier ↦ subst (WasLegal d l) (sym (past_earlier r n earlier)) (past_legal d l r n legal.1 (taken.0, earlier))
 ]
 past_legal d l (Published m plan ∷ r) n legal taken = past_legal d l r n legal.1 taken
+past_legal d l (Installed m ∷ r) n legal taken = past_legal d l r n legal.1 taken
 
 -- no total passes its limit
 pub total_within : (d : DefinitionData) (l : LimitsData) (r : List Record) (j : ℕ) → Legal d l r → j < length (links d) → total r j ≤ l.total
@@ -87,13 +90,14 @@ total_within d l (Targeted t tree ∷ r) j legal h = total_within d l r j legal.
 total_within d l (Invalidated points ∷ r) j legal h = total_within d l r j legal.1 h
 total_within d l (Snapped ∷ r) j legal h = total_within d l r j legal.1 h
 total_within d l (Published n plan ∷ r) j legal h = total_within d l r j legal.1 h
+total_within d l (Installed m ∷ r) j legal h = total_within d l r j legal.1 h
 
 -- ---- the rows of a snapshot
 same_all : (p q : ℕ → Bool) (xs : List ℕ) → All (λ x. p x ≡ q x) xs → list_all p xs ≡ list_all q xs
 same_all p q [] h = refl
 same_all p q (x ∷ xs) h = rw (All-head (λ y. p y ≡ q y) x xs h, same_all p q xs (All-tail (λ y. p y ≡ q y) x xs h)) refl
 
-eligible_same : (d : DefinitionData) (g : List Record) (j : ℕ) → IsDefinition d → j < length (links d) → are_valid (valid_points d g) (link_at d j).1.needs ≡ is_eligible d g j
+pub eligible_same : (d : DefinitionData) (g : List Record) (j : ℕ) → IsDefinition d → j < length (links d) → are_valid (valid_points d g) (link_at d j).1.needs ≡ is_eligible d g j
 eligible_same d g j is h =
     same_all (λ p. slice_index_or (valid_points d g) p false) (is_valid g) (link_at d j).1.needs
     (λ k e within. get_or-map-range_with_len (is_valid g) 0 (length d.points) _ _ false ((lawful_link d j is h).known k e within) (omega arith))

@@ -29,3 +29,8 @@ pub plan_refused : (d : DefinitionData) (l : LimitsData) (accepted : ℕ) (r : L
 plan_refused d l accepted r n plan given P told taken problem same refused =
     plan_is_refused d l accepted r n plan told taken
     (subst (λ (p : Plan). Refused (problem_at d r n) p told) same (subst (λ (Q : ProblemData). Refused Q given told) problem refused))
+
+-- a plan that matches its problem as they are read
+pub plan_matches : (d : DefinitionData) (r : List Record) (n : ℕ) (plan given : Plan) (P : ProblemData) → P ≡ problem_at d r n → given ≡ plan → Matches P given → Matches (problem_at d r n) plan
+plan_matches d r n plan given P problem same matching =
+    subst (λ (p : Plan). Matches (problem_at d r n) p) same (subst (λ (Q : ProblemData). Matches Q given) problem matching)

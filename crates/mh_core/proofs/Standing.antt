@@ -54,7 +54,7 @@ totals_now b is =
     let inside : j < length (links b.definition) = omega (arith, h, is.totals.count) in
     is.totals.sums j inside ∙ sym (at_number (total b.records) (length (links b.definition)) j inside))
 
-valid_now : (b : BookState) → IsBook b → b.world.valid ≡ valid_points b.definition b.records
+pub valid_now : (b : BookState) → IsBook b → b.world.valid ≡ valid_points b.definition b.records
 valid_now b is = ap (λ (w : WorldState). w.valid) is.world ∙ valid_is b.definition b.records
 
 versions_now : (b : BookState) → IsBook b → map (λ i. (state_at b.world i).version) (numbers (length b.definition.sites)) ≡ map (version b.records) (numbers (length b.definition.sites))
@@ -103,6 +103,16 @@ pub snapshots_now : (b now : BookState) (kept : List SnapshotState) → IsBook b
 snapshots_now b now kept is seen e =
     sym (length-reverse kept) ∙ (ap length (sym e ∙ is.snapshots) ∙ (snapshots_count b.definition b.records ∙ ap (λ (x : BookState). snapshots x.records) seen))
 
+-- the kept snapshot of a number
+pub kept_read : (b : BookState) (kept : List SnapshotState) (n : ℕ) (s : SnapshotState) → IsBook b → b.snapshots ≡ reverse kept → IsTaken b.records n → s ≡ slice_index_or kept (n - 1) s
+    → s ≡ snapshot_of b.definition (past b.records n)
+kept_read b kept n s is e taken which =
+    let oldest : kept ≡ reverse (snapshots_of b.definition b.records) = sym (reverse-reverse kept) ∙ ap reverse (sym e ∙ is.snapshots) in
+    let place : n - 1 + 1 ≡ n = omega (arith, taken.0) in
+    which
+    ∙ (ap (λ (l : List SnapshotState). slice_index_or l (n - 1) s) oldest
+    ∙ (kept_at b.definition b.records (n - 1) s (omega (arith, taken.0, taken.1)) ∙ ap (λ (i : ℕ). snapshot_of b.definition (past b.records i)) place))
+
 -- a kept snapshot as it is read, by a book that callers see as `now`
 pub record Reads (b now : BookState) (kept : List SnapshotState) (n : ℕ) (totals : List ℕ) (valid : List Bool) : Type 0 where
   pub book : IsBook b
@@ -119,12 +129,7 @@ module _ (b now : BookState) (kept : List SnapshotState) (n : ℕ) (totals : Lis
   taken_then = subst (λ (x : BookState). IsTaken x.records n) (sym h.seen) h.taken
 
   is_then : h.snapshot ≡ snapshot_of b.definition (past b.records n)
-  is_then =
-      let oldest : kept ≡ reverse (snapshots_of b.definition b.records) = sym (reverse-reverse kept) ∙ ap reverse (sym h.snapshots ∙ h.book.snapshots) in
-      let place : n - 1 + 1 ≡ n = omega (arith, taken_then.0) in
-      h.which
-      ∙ (ap (λ (s : List SnapshotState). slice_index_or s (n - 1) h.snapshot) oldest
-      ∙ (kept_at b.definition b.records (n - 1) h.snapshot (omega (arith, taken_then.0, taken_then.1)) ∙ ap (λ (i : ℕ). snapshot_of b.definition (past b.records i)) place))
+  is_then = kept_read b kept n h.snapshot h.book h.snapshots taken_then h.which
 
   totals_then : totals ≡ (snapshot_of b.definition (past b.records n)).totals
   totals_then = h.numbers ∙ ap (λ (s : SnapshotState). s.totals) is_then

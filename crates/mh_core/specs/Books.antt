@@ -12,12 +12,15 @@ use Rattle.mh_core.specs.declared.refusal.Refusal.{Refusal}
 use Rattle.mh_core.specs.Histories.{records, ArePlaced}
 use Rattle.mh_core.specs.Hits.{unflushed_hits}
 use Rattle.mh_core.specs.Limits.{LimitsData, IsLimits}
-use Rattle.mh_core.specs.Records.{world, total, plans}
+use Rattle.mh_core.specs.Installations.{PublishedPlan}
+use Rattle.mh_core.specs.PlanTables.{plans_of}
+use Rattle.mh_core.specs.Records.{total}
+use Rattle.mh_core.specs.Replayed.{world}
 use Rattle.mh_core.specs.Rows.{tests}
 use Rattle.mh_core.specs.Snapshots.{SnapshotState, snapshots_of}
 use Rattle.mh_core.specs.Tests.{Passes, Refuses}
 
--- its records, newest first, with what was made of them: the world, the totals, the snapshots, newest first, and the number of plans
+-- its records, newest first, with what was made of them: the world, the totals, the snapshots and the plans, newest first
 pub record BookState : Type 0 where
   pub definition : DefinitionData
   pub limits : LimitsData
@@ -25,12 +28,12 @@ pub record BookState : Type 0 where
   pub world : WorldState
   pub totals : TotalsState
   pub snapshots : List SnapshotState
-  pub plans : ℕ
+  pub plans : List PublishedPlan
 
 -- a book without records
 abbrev pub opened_book : DefinitionData → ℕ → LimitsData → BookState
 opened_book d workers l =
-    record { definition = d; limits = l; records = []; world = opened d; totals = opened_totals (length (links d)) workers l.total; snapshots = []; plans = 0 }
+    record { definition = d; limits = l; records = []; world = opened d; totals = opened_totals (length (links d)) workers l.total; snapshots = []; plans = [] }
 
 -- each record passed its tests, where so many events had been accepted
 abbrev pub Legal : DefinitionData → LimitsData → List Record → Type 0
@@ -52,7 +55,7 @@ pub record IsBook (b : BookState) : Type 0 where
   pub world : b.world ≡ world b.definition b.records
   pub totals : AreTotals b.definition b.limits b.records b.totals
   pub snapshots : b.snapshots ≡ snapshots_of b.definition b.records
-  pub plans : b.plans ≡ plans b.records
+  pub plans : b.plans ≡ plans_of b.records
 
 -- exactly this record is appended, which passes its tests, where so many calls were accepted beside the records
 pub record Takes (b : BookState) (calls : ℕ) (e : Record) (new : BookState) : Type 0 where

@@ -11,7 +11,9 @@ use Rattle.mh_core.specs.declared.event.Event.{Event}
 use Rattle.mh_core.specs.declared.record.Record.{Record}
 use Rattle.mh_core.specs.Books.{BookState}
 use Rattle.mh_core.specs.Legal.{MachineState}
+use Rattle.mh_core.specs.Installations.{PublishedPlan}
 use Rattle.mh_core.specs.Limits.{LimitsData}
+use Rattle.mh_core.specs.PlanTables.{coded_published}
 use Rattle.mh_core.specs.Snapshots.{SnapshotState, coded_snapshot}
 
 abbrev pub coded_limits : Coded LimitsData
@@ -19,8 +21,8 @@ coded_limits = code_by (ℕ × (ℕ × ℕ)) (coded× coded_ℕ (coded× coded_�
 
 abbrev pub coded_book : Coded BookState
 coded_book =
-    code_by ((DefinitionData × LimitsData) × ((List Record × WorldState) × (TotalsState × (List SnapshotState × ℕ))))
-    (coded× (coded× coded_definition coded_limits) (coded× (coded× (coded_list entry.the_row.coded) coded_world) (coded× coded_totals (coded× (coded_list coded_snapshot) coded_ℕ))))
+    code_by ((DefinitionData × LimitsData) × ((List Record × WorldState) × (TotalsState × (List SnapshotState × List PublishedPlan))))
+    (coded× (coded× coded_definition coded_limits) (coded× (coded× (coded_list entry.the_row.coded) coded_world) (coded× coded_totals (coded× (coded_list coded_snapshot) (coded_list coded_published)))))
     (λ b. ((b.definition, b.limits), ((b.records, b.world), (b.totals, (b.snapshots, b.plans)))))
     (λ p. record { definition = p.0.0; limits = p.0.1; records = p.1.0.0; world = p.1.0.1; totals = p.1.1.0; snapshots = p.1.1.1.0; plans = p.1.1.1.1 }) (λ _. refl)
 

@@ -1,11 +1,11 @@
 -- Histories: the accepted events, newest first.
-use Rattle.std.specs.Prelude.{ℕ, ◌-◌, ◌≤◌, List, [], ◌∷◌, ◌++◌, map, length, take, drop}
+use Rattle.std.specs.Prelude.{◌-◌, ◌≤◌, List, [], ◌∷◌, ◌++◌, map, length, take, drop}
 use Rattle.mh_site.specs.Defined.{DefinitionData}
 use Rattle.mh_core.specs.declared.call.AcceptedCall.{AcceptedCall}
 use Rattle.mh_core.specs.declared.event.Event.{Event}
-use Rattle.mh_core.specs.declared.event.Event.TheVariants.{Call, Flush, Target, Invalidate, Snapshot, Publish}
+use Rattle.mh_core.specs.declared.event.Event.TheVariants.{Call, Flush, Target, Invalidate, Snapshot, Publish, Install}
 use Rattle.mh_core.specs.declared.record.Record.{Record}
-use Rattle.mh_core.specs.declared.record.Record.TheVariants.{Flushed, Targeted, Invalidated, Snapped, Published}
+use Rattle.mh_core.specs.declared.record.Record.TheVariants.{Flushed, Targeted, Invalidated, Snapped, Published, Installed}
 use Rattle.mh_core.specs.Hits.{moved}
 
 -- the records of a history: its events but the calls, a flush with what it moves
@@ -17,6 +17,7 @@ records d (Target s tree ∷ h) = Targeted s tree ∷ records d h
 records d (Invalidate points ∷ h) = Invalidated points ∷ records d h
 records d (Snapshot ∷ h) = Snapped ∷ records d h
 records d (Publish n plan ∷ h) = Published n plan ∷ records d h
+records d (Install m ∷ h) = Installed m ∷ records d h
 
 -- the event that a record is of
 abbrev pub event_of : Record → Event
@@ -25,6 +26,7 @@ event_of (Targeted s tree) = Target s tree
 event_of (Invalidated points) = Invalidate points
 event_of Snapped = Snapshot
 event_of (Published n plan) = Publish n plan
+event_of (Installed m) = Install m
 
 -- calls among records, both newest first: each call stands behind as many records as its place says
 abbrev pub joined : List AcceptedCall → List Record → List Event

@@ -1,12 +1,12 @@
 -- Which links a call hits, and what a worker's calls add up to: the counters of the cases of an inline cache (Hölzle, Chambers, Ungar 1991).
-use Rattle.std.specs.Prelude.{ℕ, ◌+◌, ◌==◌, Bool, true, false, ◌&&◌, ◌||◌, Option, Some, None, List, [], ◌∷◌, map, length, slice_index_or, if◌then◌else◌}
+use Rattle.std.specs.Prelude.{ℕ, ◌+◌, ◌==◌, Bool, false, ◌&&◌, ◌||◌, Option, Some, None, List, [], ◌∷◌, map, length, slice_index_or, if◌then◌else◌}
 use Rattle.mh_type.specs.declared.value.Value.{Value}
 use Rattle.mh_type.specs.declared.value.Value.TheVariants.{Boolean}
 use Rattle.mh_site.specs.Defined.{DefinitionData, site_at}
 use Rattle.mh_site.specs.Links.{links, link_at, site_of}
 use Rattle.mh_type.specs.Values.{same_value}
 use Rattle.mh_core.specs.declared.event.Event.{Event}
-use Rattle.mh_core.specs.declared.event.Event.TheVariants.{Call, Flush, Target, Invalidate, Snapshot, Publish}
+use Rattle.mh_core.specs.declared.event.Event.TheVariants.{Call, Flush, Target, Invalidate, Snapshot, Publish, Install}
 use Rattle.mh_core.specs.Records.{numbers, hits_in}
 
 -- the argument at a place; a site without a key place has no link that asks for it
@@ -27,6 +27,7 @@ unflushed d (Target s tree ∷ h) w j = unflushed d h w j
 unflushed d (Invalidate points ∷ h) w j = unflushed d h w j
 unflushed d (Snapshot ∷ h) w j = unflushed d h w j
 unflushed d (Publish n plan ∷ h) w j = unflushed d h w j
+unflushed d (Install m ∷ h) w j = unflushed d h w j
 
 -- of each link by number
 abbrev pub unflushed_hits : DefinitionData → List Event → ℕ → List ℕ
@@ -45,6 +46,7 @@ flushed_calls d later (Target s tree ∷ h) j = flushed_calls d later h j
 flushed_calls d later (Invalidate points ∷ h) j = flushed_calls d later h j
 flushed_calls d later (Snapshot ∷ h) j = flushed_calls d later h j
 flushed_calls d later (Publish n plan ∷ h) j = flushed_calls d later h j
+flushed_calls d later (Install m ∷ h) j = flushed_calls d later h j
 
 -- the hits of a link that count: those that a flush of the same worker follows
 abbrev pub total_calls : DefinitionData → List Event → ℕ → ℕ

@@ -6,9 +6,9 @@ use Rattle.mh_tree.specs.Meaning.{mean, steps}
 use Rattle.mh_site.specs.Defined.{DefinitionData, site_at}
 use Rattle.mh_site.specs.Links.{links}
 use Rattle.mh_core.specs.declared.event.Event.{Event}
-use Rattle.mh_core.specs.declared.event.Event.TheVariants.{Call, Flush, Target, Invalidate, Snapshot, Publish}
+use Rattle.mh_core.specs.declared.event.Event.TheVariants.{Call, Flush, Target, Invalidate, Snapshot, Publish, Install}
 use Rattle.mh_core.specs.declared.record.Record.{Record}
-use Rattle.mh_core.specs.declared.record.Record.TheVariants.{Flushed, Targeted, Invalidated, Snapped, Published}
+use Rattle.mh_core.specs.declared.record.Record.TheVariants.{Flushed, Targeted, Invalidated, Snapped, Published, Installed}
 use Rattle.mh_core.specs.declared.refusal.Refusal.{Refusal}
 use Rattle.mh_core.specs.declared.refusal.Refusal.TheVariants.{NoWorker, NoSite, WrongType, HistoryFull, LedgerFull}
 use Rattle.mh_core.specs.declared.reply.Reply.{Reply}
@@ -16,7 +16,8 @@ use Rattle.mh_core.specs.declared.reply.Reply.TheVariants as answers
 use Rattle.mh_core.specs.Histories.{records}
 use Rattle.mh_core.specs.Hits.{hits, unflushed, moved}
 use Rattle.mh_core.specs.Limits.{LimitsData}
-use Rattle.mh_core.specs.Records.{base, linked, valid_points, snapshots, plans}
+use Rattle.mh_core.specs.Installations.{linked, report}
+use Rattle.mh_core.specs.Records.{base, valid_points, snapshots, plans}
 use Rattle.mh_core.specs.Rows as rows
 use Rattle.mh_core.specs.Tests.{Tests, test, no_more, only, Refuses, Passes}
 
@@ -65,6 +66,7 @@ module _ (x : Setting) where
   tests h (Invalidate points) = record_tests h (Invalidated points)
   tests h Snapshot = record_tests h Snapped
   tests h (Publish n plan) = record_tests h (Published n plan)
+  tests h (Install m) = record_tests h (Installed m)
 
   -- what an accepted event is answered with
   abbrev pub answer : List Event → Event → Reply
@@ -74,6 +76,7 @@ module _ (x : Setting) where
   answer h (Invalidate points) = answers.Done
   answer h Snapshot = answers.Taken (snapshots (records x.definition h) + 1)
   answer h (Publish n plan) = answers.Published (plans (records x.definition h) + 1) plan
+  answer h (Install m) = answers.Installed (report x.definition (records x.definition h) m)
 
   -- the event passes its tests, is answered and is in the history; or it is refused, and is not
   abbrev pub Step : List Event → Event → Reply → List Event → Type 0

@@ -3,6 +3,9 @@ pub mod Tests
 pub mod Limits
 pub mod Records
 pub mod Problems
+pub mod Installations
+pub mod Replayed
+pub mod PlanTables
 pub mod Tables
 pub mod Rows
 pub mod Hits

@@ -1,17 +1,13 @@
 -- What is so after a list of records, newest first: by looking back for the last that tells.
-use Rattle.std.specs.Prelude.{ℕ, ◌+◌, ◌==◌, Bool, true, not, ◌&&◌, List, [], ◌∷◌, map, filter, length, reverse, if◌then◌else◌}
+use Rattle.std.specs.Prelude.{ℕ, ◌+◌, ◌==◌, Bool, true, not, ◌&&◌, List, [], ◌∷◌, map, filter, length, if◌then◌else◌}
 use Rattle.std.specs.List.{range_with_len}
 use Rattle.mh_tree.specs.Handle.{TypedTree}
 use Rattle.mh_network.specs.Sums.{amount_at}
 use Rattle.mh_ledger.specs.Ledgers.{at}
 use Rattle.mh_site.specs.Defined.{DefinitionData, site_at}
-use Rattle.mh_site.specs.Links.{links}
 use Rattle.mh_site.specs.LookBack.{member}
-use Rattle.mh_site.specs.Worlds.{WorldState, opened, replay}
-use Rattle.mh_site.specs.declared.control.Control.{Control}
-use Rattle.mh_site.specs.declared.control.Control.TheVariants as control
 use Rattle.mh_core.specs.declared.record.Record.{Record}
-use Rattle.mh_core.specs.declared.record.Record.TheVariants.{Flushed, Targeted, Invalidated, Snapped, Published}
+use Rattle.mh_core.specs.declared.record.Record.TheVariants.{Flushed, Targeted, Invalidated, Snapped, Published, Installed}
 
 -- the numbers below a bound
 abbrev pub numbers : ℕ → List ℕ
@@ -25,6 +21,7 @@ base d (Targeted t tree ∷ r) s = if t == s then tree else base d r s
 base d (Invalidated points ∷ r) s = base d r s
 base d (Snapped ∷ r) s = base d r s
 base d (Published n plan ∷ r) s = base d r s
+base d (Installed m ∷ r) s = base d r s
 
 -- how often a site was retargeted
 abbrev pub version : List Record → ℕ → ℕ
@@ -34,6 +31,7 @@ version (Targeted t tree ∷ r) s = if t == s then version r s + 1 else version 
 version (Invalidated points ∷ r) s = version r s
 version (Snapped ∷ r) s = version r s
 version (Published n plan ∷ r) s = version r s
+version (Installed m ∷ r) s = version r s
 
 -- a point is valid until an invalidation names it (`SwitchPoint.hasBeenInvalidated`)
 abbrev pub is_valid : List Record → ℕ → Bool
@@ -43,6 +41,7 @@ is_valid (Targeted t tree ∷ r) p = is_valid r p
 is_valid (Invalidated points ∷ r) p = not (member points p) && is_valid r p
 is_valid (Snapped ∷ r) p = is_valid r p
 is_valid (Published n plan ∷ r) p = is_valid r p
+is_valid (Installed m ∷ r) p = is_valid r p
 
 -- which points are valid, by number
 abbrev pub valid_points : DefinitionData → List Record → List Bool
@@ -64,6 +63,7 @@ total (Targeted t tree ∷ r) j = total r j
 total (Invalidated points ∷ r) j = total r j
 total (Snapped ∷ r) j = total r j
 total (Published n plan ∷ r) j = total r j
+total (Installed m ∷ r) j = total r j
 
 -- how many snapshots were taken
 abbrev pub snapshots : List Record → ℕ
@@ -73,6 +73,7 @@ snapshots (Targeted t tree ∷ r) = snapshots r
 snapshots (Invalidated points ∷ r) = snapshots r
 snapshots (Snapped ∷ r) = snapshots r + 1
 snapshots (Published n plan ∷ r) = snapshots r
+snapshots (Installed m ∷ r) = snapshots r
 
 -- how many plans were published
 abbrev pub plans : List Record → ℕ
@@ -82,6 +83,7 @@ plans (Targeted t tree ∷ r) = plans r
 plans (Invalidated points ∷ r) = plans r
 plans (Snapped ∷ r) = plans r
 plans (Published n plan ∷ r) = plans r + 1
+plans (Installed m ∷ r) = plans r
 
 -- the records before the snapshot of this number, from 1
 abbrev pub past : List Record → ℕ → List Record
@@ -91,24 +93,4 @@ past (Targeted t tree ∷ r) n = past r n
 past (Invalidated points ∷ r) n = past r n
 past (Snapped ∷ r) n = if snapshots r + 1 == n then r else past r n
 past (Published n′ plan ∷ r) n = past r n
-
--- the links that a site's tree holds: no record installs any
-abbrev pub kept : DefinitionData → List Record → ℕ → List ℕ
-kept d r s = []
-
--- the tree that a call of the site runs: its base tree, where no link is kept
-abbrev pub linked : DefinitionData → List Record → ℕ → TypedTree
-linked d r s = base d r s
-
--- what the records change in a world, newest first
-abbrev pub controls : List Record → List Control
-controls [] = []
-controls (Flushed w hits ∷ r) = controls r
-controls (Targeted s tree ∷ r) = control.Target record { site = s; tree = tree } ∷ controls r
-controls (Invalidated points ∷ r) = control.Invalidate points ∷ controls r
-controls (Snapped ∷ r) = controls r
-controls (Published n plan ∷ r) = controls r
-
--- the world after the records
-abbrev pub world : DefinitionData → List Record → WorldState
-world d r = replay (opened d) (reverse (controls r))
+past (Installed m ∷ r) n = past r n

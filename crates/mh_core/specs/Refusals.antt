@@ -3,7 +3,7 @@ use Rattle.std.specs.Prelude.{ℕ, List, codes, ◌++◌}
 use Rattle.std.specs.Fmt.{decimal}
 use Rattle.mh_cert.specs.Plans.{fault_number}
 use Rattle.mh_core.specs.declared.refusal.Refusal.{Refusal}
-use Rattle.mh_core.specs.declared.refusal.Refusal.TheVariants.{NoMemory, HistoryFull, NoSite, NoPoint, WrongType, NoSnapshot, PlanRefused, TotalTooLarge, LedgerFull, GainTooLarge, NoWorker}
+use Rattle.mh_core.specs.declared.refusal.Refusal.TheVariants.{NoMemory, HistoryFull, NoSite, NoPoint, WrongType, NoSnapshot, NoPlan, PlanRefused, OldPlan, TotalTooLarge, LedgerFull, GainTooLarge, NoWorker}
 
 abbrev pub refusal_number : Refusal → ℕ
 refusal_number NoMemory = 1
@@ -12,7 +12,9 @@ refusal_number NoSite = 3
 refusal_number NoPoint = 4
 refusal_number WrongType = 5
 refusal_number NoSnapshot = 6
+refusal_number NoPlan = 7
 refusal_number (PlanRefused fault) = 8
+refusal_number (OldPlan newest) = 9
 refusal_number TotalTooLarge = 10
 refusal_number LedgerFull = 11
 refusal_number GainTooLarge = 12
@@ -26,7 +28,9 @@ refusal_text NoSite = codes "3 NoSite"
 refusal_text NoPoint = codes "4 NoPoint"
 refusal_text WrongType = codes "5 WrongType"
 refusal_text NoSnapshot = codes "6 NoSnapshot"
+refusal_text NoPlan = codes "7 NoPlan"
 refusal_text (PlanRefused fault) = codes "8 PlanRefused " ++ decimal (fault_number fault)
+refusal_text (OldPlan newest) = codes "9 OldPlan " ++ decimal newest
 refusal_text TotalTooLarge = codes "10 TotalTooLarge"
 refusal_text LedgerFull = codes "11 LedgerFull"
 refusal_text GainTooLarge = codes "12 GainTooLarge"

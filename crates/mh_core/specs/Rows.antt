@@ -10,9 +10,10 @@ use Rattle.mh_cert.specs.declared.plan.Plan.{Plan}
 use Rattle.mh_site.specs.Defined.{DefinitionData, site_at}
 use Rattle.mh_site.specs.Links.{links}
 use Rattle.mh_core.specs.declared.record.Record.{Record}
-use Rattle.mh_core.specs.declared.record.Record.TheVariants.{Flushed, Targeted, Invalidated, Snapped, Published}
+use Rattle.mh_core.specs.declared.record.Record.TheVariants.{Flushed, Targeted, Invalidated, Snapped, Published, Installed}
 use Rattle.mh_core.specs.declared.refusal.Refusal.{Refusal}
-use Rattle.mh_core.specs.declared.refusal.Refusal.TheVariants.{NoSite, WrongType, NoPoint, HistoryFull, NoSnapshot, PlanRefused, TotalTooLarge, GainTooLarge}
+use Rattle.mh_core.specs.declared.refusal.Refusal.TheVariants.{NoSite, WrongType, NoPoint, HistoryFull, NoSnapshot, NoPlan, PlanRefused, OldPlan, TotalTooLarge, GainTooLarge}
+use Rattle.mh_core.specs.Installations.{IsPublished}
 use Rattle.mh_core.specs.Limits.{LimitsData, most_snapshots, most_plans, most_gains}
 use Rattle.mh_core.specs.Problems.{IsTaken, problem_after, problem_at}
 use Rattle.mh_core.specs.Records.{total, snapshots, plans, hits_of}
@@ -47,3 +48,7 @@ tests d l accepted r (Published n plan) =
     (take_memory
     (test (Matches (problem_at d r n) plan) (tells_fault d r n plan)
     (test ((accepted < l.history) × (plans r < most_plans)) (only HistoryFull) no_more)))
+tests d l accepted r (Installed m) =
+    test (IsPublished r m) (only NoPlan)
+    (test (m ≡ plans r) (only (OldPlan (plans r)))
+    (test (accepted < l.history) (only HistoryFull) no_more))

@@ -4,7 +4,7 @@ use Rattle.std.specs.Coded.{Coded, code_by, coded×, coded_ℕ, coded_bool, code
 use Rattle.mh_site.specs.Defined.{DefinitionData}
 use Rattle.mh_site.specs.Links.{links}
 use Rattle.mh_core.specs.declared.record.Record.{Record}
-use Rattle.mh_core.specs.declared.record.Record.TheVariants.{Flushed, Targeted, Invalidated, Snapped, Published}
+use Rattle.mh_core.specs.declared.record.Record.TheVariants.{Flushed, Targeted, Invalidated, Snapped, Published, Installed}
 use Rattle.mh_core.specs.Records.{numbers, version, valid_points, total}
 
 -- the total of each link, which points are valid, and how often each site was retargeted
@@ -25,6 +25,7 @@ snapshots_of d (Targeted t tree ∷ r) = snapshots_of d r
 snapshots_of d (Invalidated points ∷ r) = snapshots_of d r
 snapshots_of d (Snapped ∷ r) = snapshot_of d r ∷ snapshots_of d r
 snapshots_of d (Published n plan ∷ r) = snapshots_of d r
+snapshots_of d (Installed m ∷ r) = snapshots_of d r
 
 abbrev pub coded_snapshot : Coded SnapshotState
 coded_snapshot =

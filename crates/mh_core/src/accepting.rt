@@ -7,7 +7,7 @@ ghost use Rattle.mh_site.specs.Defined.{site_at};
 ghost use Rattle.mh_site.specs.Links.{links};
 ghost use Rattle.mh_core.specs.Books.{AreLedgers};
 ghost use Rattle.mh_core.specs.declared.event.Event.{Event};
-ghost use Rattle.mh_core.specs.declared.event.Event.TheVariants.{Call, Flush, Target, Invalidate, Snapshot, Publish};
+ghost use Rattle.mh_core.specs.declared.event.Event.TheVariants.{Call, Flush, Target, Invalidate, Snapshot, Publish, Install};
 ghost use Rattle.mh_core.specs.declared.reply.Reply.TheVariants.{Called};
 ghost use Rattle.mh_core.specs.Legal.{tests, answer, answer_of_call, extended, HasRoom};
 ghost use Rattle.mh_core.specs.Tests.{Passes};
@@ -44,6 +44,7 @@ impl Machine {
             Event::Invalidate { points } => self.accept_points(points),
             Event::Snapshot => self.accept_snapshot(),
             Event::Publish { snapshot, plan } => self.accept_plan(snapshot, plan),
+            Event::Install { plan } => self.accept_install(plan),
         }
     }
 
@@ -132,6 +133,17 @@ impl Machine {
         let number = self.book.append_publish(calls, snapshot, recorded)?;
         Ok(Reply::Published { number, plan })
     }
+
+    fn accept_install(&mut self, plan: usize) -> Result<Reply, NoMemory>
+        requires passes { Passes (tests self.old.setting self.old.history (Install plan)) }
+        ensures reply { IfOk result (λ reply. reply ≡ answer self.old.setting self.old.history (Install plan)) }
+        ensures taken { OnOk result (self.new ≡ extended self.old (Install plan)) }
+        ensures refused { OnErr result (self.new ≡ self.old) }
+    {
+        let calls = self.calls.len();
+        let report = self.book.append_install(calls, plan)?;
+        Ok(Reply::Installed(report))
+    }
 }
 
 // Counts the hit of a call in its worker's ledger, where it hits a link and the ledger has room.
@@ -162,6 +174,9 @@ fn evaluated(
     ensures answer { IfOk result (λ p. Called p.0 p.1 ≡ answer_of_call book.now.definition book.now.records site arguments.now) }
 {
     let world = book.world();
+    // Read for what a tree keeps.
+    let base = world.base(site).handle();
+    let _method_type = base.method_type();
     let linked = world.prepared(site);
     let valid = world.valid();
     match run(stack, valid, linked, arguments) {

@@ -2,8 +2,9 @@
 
 ghost use Rattle.std.specs.Prelude.{◌≡◌, ◌+◌, ℕ, List, length, slice_set, OnOk, OnErr, IfOk};
 ghost use Rattle.mh_ledger.specs.Ledgers.{AreHeld, Holds, LedgerState, settled};
-ghost use Rattle.mh_core.specs.declared.record.Record.TheVariants.{Flushed, Targeted, Invalidated, Snapped, Published};
+ghost use Rattle.mh_core.specs.declared.record.Record.TheVariants.{Flushed, Targeted, Invalidated, Snapped, Published, Installed};
 ghost use Rattle.mh_core.specs.Books.{Takes};
+ghost use Rattle.mh_core.specs.Installations.{report};
 ghost use Rattle.mh_core.specs.Records.{hits_in};
 ghost use Rattle.mh_core.specs.Rows.{tests};
 ghost use Rattle.mh_core.specs.Tests.{Passes};
@@ -11,11 +12,12 @@ ghost use Rattle.mh_core.specs.Tests.{Passes};
 use crate::book::Book;
 use crate::fault::NoMemory;
 use crate::hits::counted;
-use crate::plan::SharedPlan;
+use crate::install_report::InstallReport;
+use crate::plan::{PublishedPlan, SharedPlan};
 use crate::record::Record;
 use crate::snapshot::Snapshot;
 use mh_ledger::Ledger;
-use mh_site::{Control, Listing, Points, Retargeting};
+use mh_site::{Control, Installation, Listing, Points, Retargeting};
 use mh_tree::Declared;
 use std::alloc::Global;
 
@@ -101,15 +103,41 @@ impl Book {
     ) -> Result<usize, NoMemory>
         requires passes { Passes (tests self.old.definition self.old.limits (length self.old.records + calls) self.old.records (Published snapshot plan)) }
         ensures taken { OnOk result (Takes self.old calls (Published snapshot plan) self.new) }
-        ensures number { IfOk result (λ number. number ≡ self.old.plans + 1) }
+        ensures number { IfOk result (λ number. number ≡ length self.old.plans + 1) }
         ensures totals { self.new.totals ≡ self.old.totals }
         ensures refused { OnErr result (self.new ≡ self.old) }
     {
+        let copy = plan.share()?;
+        self.plans.reserve(1)?;
         self.records.reserve(1)?;
+        let published = PublishedPlan {
+            snapshot,
+            plan: copy,
+        };
+        self.plans.push_reserved(published);
         self.records
             .push_reserved(Record::Published { snapshot, plan });
-        self.plans += 1;
-        Ok(self.plans)
+        Ok(self.plans.len())
+    }
+
+    pub(crate) fn append_install(
+        &mut self,
+        calls: usize,
+        plan: usize,
+    ) -> Result<InstallReport, NoMemory>
+        requires passes { Passes (tests self.old.definition self.old.limits (length self.old.records + calls) self.old.records (Installed plan)) }
+        ensures taken { OnOk result (Takes self.old calls (Installed plan) self.new) }
+        ensures report { IfOk result (λ told. told ≡ report self.old.definition self.old.records plan) }
+        ensures totals { self.new.totals ≡ self.old.totals }
+        ensures refused { OnErr result (self.new ≡ self.old) }
+    {
+        let report = self.report(plan)?;
+        let changes = self.relinkings(plan)?;
+        self.records.reserve(1)?;
+        self.records.push_reserved(Record::Installed { plan });
+        let control = Installation::new(changes);
+        self.world.absorb(Control::Install(control));
+        Ok(report)
     }
 }
 

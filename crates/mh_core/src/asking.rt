@@ -33,6 +33,7 @@ impl Machine {
             Event::Invalidate { points } => self.book.test_points(calls, points),
             Event::Snapshot => self.book.test_snapshot(calls),
             Event::Publish { snapshot, plan } => self.book.test_publish(calls, *snapshot, plan),
+            Event::Install { plan } => self.book.test_install(calls, *plan),
         }
     }
 

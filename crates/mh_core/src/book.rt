@@ -4,14 +4,16 @@ ghost use Rattle.std.specs.Prelude.{◌≡◌, ◌⊎◌, ◌+◌, ℕ, List, le
 ghost use Rattle.std.specs.List.{range_with_len};
 ghost use Rattle.mh_ledger.specs.Ledgers.{AreHeld, Holds, LedgerState, opened_ledger, settled};
 ghost use Rattle.mh_site.specs.Links.{links as links_of};
-ghost use Rattle.mh_core.specs.declared.record.Record.TheVariants.{Flushed, Targeted, Invalidated, Snapped, Published};
+ghost use Rattle.mh_core.specs.declared.record.Record.TheVariants.{Flushed, Targeted, Invalidated, Snapped, Published, Installed};
 ghost use Rattle.mh_core.specs.Books.{BookState, Takes, Rejects, IsBook, opened_book};
+ghost use Rattle.mh_core.specs.Installations.{report};
 ghost use Rattle.mh_core.specs.Problems.{IsTaken, problem_at};
 ghost use Rattle.mh_core.specs.Records.{hits_in};
 
 use crate::fault::NoMemory;
+use crate::install_report::InstallReport;
 use crate::limits::Limits;
-use crate::plan::SharedPlan;
+use crate::plan::{PublishedPlan, SharedPlan};
 use crate::problem::make_problem;
 use crate::record::Record;
 use crate::refusal::Refusal;
@@ -24,7 +26,7 @@ use std::alloc::Global;
 use std::marker::Model;
 
 /// The records of accepted events other than calls, with what was made of them: the world, the totals of
-/// all workers' hits, and the snapshots.
+/// all workers' hits, the snapshots, and the plans.
 ///
 /// A contract sees the records newest first. The world is the replay of what the records change, so,
 /// as the law `records_look_back` says, it has what looking back through the records finds; the totals
@@ -38,7 +40,7 @@ pub struct Book {
     pub(crate) world: World,
     pub(crate) totals: Totals,
     pub(crate) snapshots: Vec<Snapshot>,
-    pub(crate) plans: usize,
+    pub(crate) plans: Vec<PublishedPlan>,
 }
 
 impl Model for Book {
@@ -88,7 +90,7 @@ impl Book {
             world,
             totals,
             snapshots: Vec::new(alloc),
-            plans: 0,
+            plans: Vec::new(alloc),
         };
         Ok((book, ledgers))
     }
@@ -210,7 +212,8 @@ impl Book {
         self.append_points(0, points).map_err(|_| Refusal::NoMemory)
     }
 
-    /// Takes a snapshot of the totals and of which points are valid, and gives its number, from 1.
+    /// Takes a snapshot of the totals, of which points are valid and of how often each site was retargeted, and
+    /// gives its number, from 1.
     /// O(links + points + sites).
     ///
     /// Refused with `HistoryFull` also where there are 1,024 snapshots, with `GainTooLarge` where the gains
@@ -233,12 +236,30 @@ impl Book {
     /// `NoMemory` stands in place of the last two. Nothing changes.
     pub fn publish(&mut self, snapshot: usize, plan: SharedPlan) -> Result<usize, Refusal>
         ensures taken { OnOk result (Takes self.old 0 (Published snapshot plan) self.new) }
-        ensures number { IfOk result (λ number. number ≡ self.old.plans + 1) }
+        ensures number { IfOk result (λ number. number ≡ length self.old.plans + 1) }
         ensures totals { self.new.totals ≡ self.old.totals }
         ensures refused { IfErr result (λ told. Rejects self.old 0 (Published snapshot plan) told self.new) }
     {
         self.test_publish(0, snapshot, &plan)?;
         self.append_publish(0, snapshot, plan)
             .map_err(|_| Refusal::NoMemory)
+    }
+    /// Installs the newest plan (Hölzle, Chambers and Ungar, Optimizing Dynamically-Typed Object-Oriented
+    /// Languages With Polymorphic Inline Caches, 1991), and reports what became of each site that has a link
+    /// in the plan or holds links now. A site that was retargeted since the plan's snapshot is left as it
+    /// is. Any other runs from now on the inline cache of those of its links in the plan whose needs are all
+    /// valid, or its base tree where there are none. O(sites + links of the plan), and for each cache linear
+    /// in its site's base tree.
+    ///
+    /// Refused with `NoPlan`, with `OldPlan` where a newer plan was published, with `HistoryFull`, and then
+    /// with `NoMemory`; nothing changes.
+    pub fn install(&mut self, plan: usize) -> Result<InstallReport, Refusal>
+        ensures taken { OnOk result (Takes self.old 0 (Installed plan) self.new) }
+        ensures report { IfOk result (λ told. told ≡ report self.old.definition self.old.records plan) }
+        ensures totals { self.new.totals ≡ self.old.totals }
+        ensures refused { IfErr result (λ told. Rejects self.old 0 (Installed plan) told self.new) }
+    {
+        self.test_install(0, plan)?;
+        self.append_install(0, plan).map_err(|_| Refusal::NoMemory)
     }
 }

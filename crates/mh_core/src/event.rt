@@ -6,7 +6,8 @@ use mh_tree::Declared;
 use mh_type::Value;
 
 /// One step of one actor. Workers, sites and points are given by number, from 0; a number past the
-/// last is one that is not there. Snapshots have the numbers from 1 in the order in which they are taken.
+/// last is one that is not there. Snapshots and plans have the numbers from 1 in the order in which they are
+/// taken and published.
 #[derive(Drop)]
 pub enum Event {
     /// A worker calls a site (`MutableCallSite.dynamicInvoker`). Where the argument at the site's key
@@ -29,11 +30,16 @@ pub enum Event {
     Invalidate {
         points: Listing<u32>,
     },
-    /// The totals and which points are valid are kept, under the next number.
+    /// The totals, which points are valid and how often each site was retargeted are kept, under the next
+    /// number.
     Snapshot,
     /// A plan for the problem of a snapshot is offered, and published where it matches.
     Publish {
         snapshot: usize,
         plan: SharedPlan,
+    },
+    /// The newest plan, by its number, is installed: its links become the inline caches of their sites.
+    Install {
+        plan: usize,
     },
 }

@@ -26,6 +26,12 @@ impl From<mh_eval::NoMemory> for NoMemory {
     }
 }
 
+impl From<mh_pic::NoMemory> for NoMemory {
+    fn from(_refused: mh_pic::NoMemory) -> NoMemory {
+        NoMemory
+    }
+}
+
 impl From<mh_ledger::NoMemory> for NoMemory {
     fn from(_refused: mh_ledger::NoMemory) -> NoMemory {
         NoMemory

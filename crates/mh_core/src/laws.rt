@@ -13,7 +13,9 @@ ghost use Rattle.mh_site.specs.Links.{links};
 ghost use Rattle.mh_core.specs.declared.event.Event.{Event};
 ghost use Rattle.mh_core.specs.Histories.{records};
 ghost use Rattle.mh_core.specs.Hits.{total_calls};
-ghost use Rattle.mh_core.specs.Records.{base, linked, kept, total, version, valid_points, world};
+ghost use Rattle.mh_core.specs.Installations.{linked, kept};
+ghost use Rattle.mh_core.specs.Records.{base, total, version, valid_points};
+ghost use Rattle.mh_core.specs.Replayed.{world};
 
 use crate::book::Book;
 

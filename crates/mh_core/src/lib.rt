@@ -10,6 +10,8 @@ mod call;
 mod event;
 mod fault;
 mod hits;
+mod install_report;
+mod installing;
 mod laws;
 mod limits;
 mod machine;
@@ -25,6 +27,7 @@ pub use book::Book;
 pub use call::AcceptedCall;
 pub use event::Event;
 pub use fault::NoMemory;
+pub use install_report::{InstallReport, Linkage, SiteLinkage};
 pub use laws::{published_plans_are_best, records_look_back, totals_are_sums};
 pub use limits::{
     LARGEST_LEDGER, LARGEST_TOTAL, LONGEST_HISTORY, Limits, MOST_PLANS, MOST_SNAPSHOTS,

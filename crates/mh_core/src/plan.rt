@@ -49,3 +49,21 @@ impl SharedPlan {
         &self.plan
     }
 }
+
+// A published plan, and the number of the snapshot that it was published for.
+#[derive(Drop)]
+pub(crate) struct PublishedPlan {
+    pub(crate) snapshot: usize,
+    pub(crate) plan: SharedPlan,
+}
+
+impl Model for PublishedPlan {
+    ghost use Rattle.mh_core.specs.Installations.{PublishedPlan as Seen};
+    ghost use Rattle.mh_core.specs.PlanTables.{coded_published};
+
+    ghost Value = { Seen };
+
+    ghost coded = { coded_published };
+
+    ghost view = { λ p. record { snapshot = p.snapshot; plan = p.plan } };
+}

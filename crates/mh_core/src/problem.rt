@@ -121,7 +121,7 @@ fn gain(definition: &Definition, totals: &[u64], valid: &[bool], link: usize) ->
 }
 
 // Whether all these points are valid. One past the last is not.
-fn all_valid(points: &[u32], valid: &[bool]) -> bool
+pub(crate) fn all_valid(points: &[u32], valid: &[bool]) -> bool
     ensures value { result ≡ are_valid valid.now points.now }
 {
     points.iter().all(|point| is_valid(valid, *point))
@@ -135,7 +135,7 @@ fn is_valid(valid: &[bool], point: u32) -> bool
 }
 
 // The link of a number.
-fn link_of(definition: &Definition, link: usize) -> &Link
+pub(crate) fn link_of(definition: &Definition, link: usize) -> &Link
     requires inside { link < length (links_of definition.now) }
     ensures value { result.now ≡ (link_at definition.now link).1 }
     ensures light { result.now.weight ≤ 2 ^ 20 }

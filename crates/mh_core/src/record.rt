@@ -29,4 +29,8 @@ pub enum Record {
         snapshot: usize,
         plan: SharedPlan,
     },
+    /// The plan of this number, which was the newest, was installed.
+    Installed {
+        plan: usize,
+    },
 }

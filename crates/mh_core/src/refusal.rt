@@ -23,8 +23,12 @@ pub enum Refusal {
     WrongType,
     /// A snapshot that was not taken.
     NoSnapshot,
+    /// A plan that was not published.
+    NoPlan,
     /// A plan that does not match its problem, with what the checker tells of it.
     PlanRefused(CheckFault),
+    /// A plan that is not the newest, whose number is told.
+    OldPlan(usize),
     /// Some total would pass its limit.
     TotalTooLarge,
     /// The worker holds as many hits of the link as it may.
@@ -47,7 +51,9 @@ impl Refusal {
             Refusal::NoPoint => 4,
             Refusal::WrongType => 5,
             Refusal::NoSnapshot => 6,
+            Refusal::NoPlan => 7,
             Refusal::PlanRefused(_) => 8,
+            Refusal::OldPlan(_) => 9,
             Refusal::TotalTooLarge => 10,
             Refusal::LedgerFull => 11,
             Refusal::GainTooLarge => 12,
@@ -70,7 +76,9 @@ impl fmt::Display for Refusal {
             Refusal::NoPoint => write!(f, "4 NoPoint"),
             Refusal::WrongType => write!(f, "5 WrongType"),
             Refusal::NoSnapshot => write!(f, "6 NoSnapshot"),
+            Refusal::NoPlan => write!(f, "7 NoPlan"),
             Refusal::PlanRefused(fault) => write!(f, "8 PlanRefused {}", fault.number()),
+            Refusal::OldPlan(newest) => write!(f, "9 OldPlan {newest}"),
             Refusal::TotalTooLarge => write!(f, "10 TotalTooLarge"),
             Refusal::LedgerFull => write!(f, "11 LedgerFull"),
             Refusal::GainTooLarge => write!(f, "12 GainTooLarge"),

@@ -1,5 +1,6 @@
 //! What a machine answers.
 
+use crate::install_report::InstallReport;
 use crate::plan::SharedPlan;
 use crate::refusal::Refusal;
 use mh_type::Outcome;
@@ -15,6 +16,8 @@ pub enum Reply {
     Taken { snapshot: usize },
     /// The plan was published, and has this number, from 1.
     Published { number: usize, plan: SharedPlan },
+    /// The plan was installed, as the report tells.
+    Installed(InstallReport),
     /// The first test that failed, or want of memory.
     Refused(Refusal),
 }

@@ -59,6 +59,13 @@ impl Snapshot {
     {
         self.valid.as_slice()
     }
+
+    // How often each site had been retargeted.
+    pub(crate) fn versions(&self) -> &[u64]
+        ensures value { result.now ≡ self.now.versions }
+    {
+        self.versions.as_slice()
+    }
 }
 
 // How often each site was retargeted.

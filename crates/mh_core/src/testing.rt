@@ -5,7 +5,7 @@ ghost use Rattle.std.specs.List.{All};
 ghost use Rattle.mh_ledger.specs.Ledgers.{Holds};
 ghost use Rattle.mh_cert.specs.Plans.{Matches, plan_tests};
 ghost use Rattle.mh_network.specs.Tests as first;
-ghost use Rattle.mh_core.specs.declared.record.Record.TheVariants.{Flushed, Targeted, Invalidated, Snapped, Published};
+ghost use Rattle.mh_core.specs.declared.record.Record.TheVariants.{Flushed, Targeted, Invalidated, Snapped, Published, Installed};
 ghost use Rattle.mh_core.specs.declared.refusal.Refusal.{Refusal};
 ghost use Rattle.mh_core.specs.Records.{hits_in};
 ghost use Rattle.mh_core.specs.Rows.{tests};
@@ -115,7 +115,25 @@ impl Book {
     {
         let problem = self.problem(snapshot)?;
         test_plan(self.alloc, &problem, plan.plan())?;
-        if self.is_full(calls) || self.plans >= MOST_PLANS {
+        if self.is_full(calls) || self.plans.len() >= MOST_PLANS {
+            return Err(Refusal::HistoryFull);
+        }
+        Ok(())
+    }
+
+    // The tests of an installation, of which the first that fails is told.
+    pub(crate) fn test_install(&self, calls: usize, plan: usize) -> Result<(), Refusal>
+        ensures passes { OnOk result (Passes (tests self.now.definition self.now.limits (length self.now.records + calls) self.now.records (Installed plan))) }
+        ensures refuses { IfErr result (λ told. Refuses (tests self.now.definition self.now.limits (length self.now.records + calls) self.now.records (Installed plan)) told) }
+    {
+        let newest = self.plans.len();
+        if plan == 0 || plan > newest {
+            return Err(Refusal::NoPlan);
+        }
+        if plan != newest {
+            return Err(Refusal::OldPlan(newest));
+        }
+        if self.is_full(calls) {
             return Err(Refusal::HistoryFull);
         }
         Ok(())

@@ -3,7 +3,7 @@ use Rattle.std.specs.Prelude.{OnErr, OnOk}
 use Rattle.mh_ledger.specs.Ledgers.{Holds, LedgerState, at}
 use Rattle.mh_site.specs.Defined.{DefinitionData}
 use Rattle.mh_site.specs.Links.{links}
-use Rattle.mh_core.specs.Hits.{hits, unflushed, unflushed_hits}
+use Rattle.mh_core.specs.Hits.{hits, unflushed}
 use Rattle.mh_core.proofs.Ledgered.{hit_ledgers, ledger_read, unflushed_at}
 use Rattle.mh_core.proofs.accepting.count_hit.Goals as goal
 

@@ -5,6 +5,11 @@ use Rattle.mh_site.specs.Worlds.{WorldState, state_at}
 use Rattle.mh_core.proofs.Calls.{reads, answered}
 use Rattle.mh_core.proofs.accepting.evaluated.Goals as goal
 
+pub base-requires : goal.base-requires
+base-requires c =
+    let r = reads c.args.book.now c.args.site c.world-world.ensures.book c.requires.inside in
+    record { inside = omega (arith, r.inside, ap (λ (w : WorldState). length w.sites) c.world-world.ensures.value) }
+
 pub prepared-linked-requires : goal.prepared-linked-requires
 prepared-linked-requires c =
     let r = reads c.args.book.now c.args.site c.world-world.ensures.book c.requires.inside in
@@ -24,11 +29,11 @@ run-requires-clause-known c =
     omega (arith, r.known, ap (λ (t : TypedTree). point_bound t.tree) tree, ap length valid)
 
 pub returns-in-Ok : goal.returns-in-Ok
-returns-in-Ok c =
-    let r = reads c.args.book.now c.args.site c.world-world.ensures.book c.requires.inside in
-    record {
-      answer = answered c.args.book.now c.args.site c.args.arguments.now c.valid-valid.result.now c.prepared-linked.result.now _ _ r
-          (c.valid-valid.ensures.value ∙ ap (λ (w : WorldState). w.valid) c.world-world.ensures.value)
-          (c.prepared-linked.ensures.value ∙ ap (λ (w : WorldState). (state_at w c.args.site).linked) c.world-world.ensures.value)
-          c.in-Ok.ensures.outcome c.in-Ok.ensures.steps;
-    }
+returns-in-Ok c = record {
+  answer = answered c.args.book.now c.args.site c.world-world.ensures.book c.requires.inside c.args.arguments.now c.valid-valid.result.now c.prepared-linked.result.now c.handle-base.result.now _ _
+      (c.valid-valid.ensures.value ∙ ap (λ (w : WorldState). w.valid) c.world-world.ensures.value)
+      (c.prepared-linked.ensures.value ∙ ap (λ (w : WorldState). (state_at w c.args.site).linked) c.world-world.ensures.value)
+      (c.handle-base.ensures.value ∙ c.base.ensures.value ∙ ap (λ (w : WorldState). (state_at w c.args.site).base) c.world-world.ensures.value)
+      c.method_type-method_type.ensures.sound
+      c.requires.fits c.in-Ok.ensures.outcome c.in-Ok.ensures.steps;
+}

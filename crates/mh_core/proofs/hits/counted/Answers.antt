@@ -1,4 +1,4 @@
-use Rattle.std.proofs.Common.{◌≡◌, ◌∷◌, ◌++◌, [], ap, sym, ◌∙◌, Vec, ℕ, Global}
+use Rattle.std.proofs.Common.{◌∷◌, ◌++◌, [], ap, sym, ◌∙◌}
 use Rattle.mh_ledger.specs.Ledgers.{at}
 use Rattle.mh_core.proofs.CountedHits.{counted_none, counted_hit}
 use Rattle.mh_core.proofs.hits.counted.Goals as goal

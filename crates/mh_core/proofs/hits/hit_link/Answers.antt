@@ -1,6 +1,5 @@
-use Rattle.std.proofs.Common.{◌≡◌, ◌+◌, ap, sym, ◌∙◌, arith, subst, true, ℕ, rules, Some, None, List}
+use Rattle.std.proofs.Common.{◌≡◌, ◌+◌, ap, sym, ◌∙◌, arith, ℕ, Some, None}
 use Rattle.std.specs.List.{position}
-use Rattle.std.specs.Option.{IfNone}
 use Rattle.mh_site.specs.declared.link.Link.{Link}
 use Rattle.mh_type.specs.Values.{same_value}
 use Rattle.mh_core.specs.Hits.{hits}

@@ -1,5 +1,4 @@
-use Rattle.std.proofs.Common.{List, subst}
-use Rattle.mh_core.specs.declared.record.Record.{Record}
+use Rattle.std.proofs.Common.{subst}
 use Rattle.mh_core.specs.Books.{Legal}
 use Rattle.mh_core.proofs.BestPlans.{published_matches, published_best}
 use Rattle.mh_core.proofs.laws.published_plans_are_best.Goals as goal

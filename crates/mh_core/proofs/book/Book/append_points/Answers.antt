@@ -6,7 +6,7 @@ use Rattle.mh_core.specs.declared.record.Record.{Record}
 use Rattle.mh_core.specs.declared.record.Record.TheVariants.{Invalidated}
 use Rattle.mh_core.specs.Books.{BookState, IsBook}
 use Rattle.mh_core.specs.BookViews.{book_state}
-use Rattle.mh_core.specs.Records.{controls, world}
+use Rattle.mh_core.specs.Replayed.{controls, world}
 use Rattle.mh_core.specs.Rows.{tests}
 use Rattle.mh_core.specs.Tests.{Passes}
 use Rattle.mh_core.proofs.Growing.{book_grows, book_room, totals_stay}
@@ -26,8 +26,8 @@ invariant_of-self-2 c =
     c.push_reserved.ensures.items ∙ (ap (λ (l : List Record). l ++ Invalidated c.in_ok-recorded.recorded ∷ []) c.in_ok-reserve.ensures.items
     ∙ ap (λ (l : List ℕ). c.self.inside.records.items ++ Invalidated l ∷ []) c.in_ok-recorded.ensures.value) in
     let after : c.absorb.new.self ≡ world b.definition (e ∷ b.records) =
-    c.absorb.ensures.replays (opened b.definition) (reverse (controls b.records)) is.world
-    ∙ (ap (λ (l : List ℕ). replay (opened b.definition) (reverse (controls b.records) ++ control.Invalidate l ∷ [])) (c.new-control.ensures.value ∙ c.into_vec.ensures.value)
+    c.absorb.ensures.replays (opened b.definition) (reverse (controls b.definition b.records)) is.world
+    ∙ (ap (λ (l : List ℕ). replay (opened b.definition) (reverse (controls b.definition b.records) ++ control.Invalidate l ∷ [])) (c.new-control.ensures.value ∙ c.into_vec.ensures.value)
     ∙ sym (world_push b.definition (e ∷ b.records) b.records (control.Invalidate c.args.points) refl)) in
     book_grows b c.args.calls e c.self.inside.records.items c.push_reserved.new.self.items c.absorb.new.self b.totals b.snapshots b.plans is passes
     record { world = after; totals = totals_stay b e is (λ j. refl); snapshots = is.snapshots; plans = is.plans } refl items

@@ -8,7 +8,7 @@ use Rattle.mh_core.specs.declared.record.Record.{Record}
 use Rattle.mh_core.specs.declared.record.Record.TheVariants.{Targeted}
 use Rattle.mh_core.specs.Books.{BookState, IsBook}
 use Rattle.mh_core.specs.BookViews.{book_state}
-use Rattle.mh_core.specs.Records.{controls, world}
+use Rattle.mh_core.specs.Replayed.{controls, world}
 use Rattle.mh_core.specs.Rows.{tests}
 use Rattle.mh_core.specs.Tests.{Passes}
 use Rattle.mh_core.proofs.Growing.{book_grows, book_room, totals_stay}
@@ -26,8 +26,8 @@ invariant_of-self-2 c =
     let passes = subst (λ (x : BookState). Passes (tests x.definition x.limits (length x.records + c.args.calls) x.records e)) (sym c.self.view_is) c.requires.passes in
     let items = c.push_reserved.ensures.items ∙ ap (λ (l : List Record). l ++ e ∷ []) c.in_ok-reserve.ensures.items in
     let after : c.absorb.new.self ≡ world b.definition (e ∷ b.records) =
-    c.absorb.ensures.replays (opened b.definition) (reverse (controls b.records)) is.world
-    ∙ (ap (λ (r : Retargeted). replay (opened b.definition) (reverse (controls b.records) ++ control.Target r ∷ []))
+    c.absorb.ensures.replays (opened b.definition) (reverse (controls b.definition b.records)) is.world
+    ∙ (ap (λ (r : Retargeted). replay (opened b.definition) (reverse (controls b.definition b.records) ++ control.Target r ∷ []))
     (c.in_ok-retargeting.ensures.value ∙ ap (λ (t : TypedTree). record { site = c.args.site; tree = t }) c.in_ok-base.ensures.value)
     ∙ sym (world_push b.definition (e ∷ b.records) b.records (control.Target record { site = c.args.site; tree = c.args.tree }) refl)) in
     book_grows b c.args.calls e c.self.inside.records.items c.push_reserved.new.self.items c.absorb.new.self b.totals b.snapshots b.plans is passes

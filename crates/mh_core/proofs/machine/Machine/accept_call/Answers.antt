@@ -2,7 +2,6 @@ use Rattle.std.proofs.Common.{◌≡◌, ◌<◌, ◌∷◌, [], ◌++◌, List,
 use Rattle.std.specs.Prelude.{reverse}
 use Rattle.std.proofs.lemmas.List.{length-reverse}
 use Rattle.mh_type.specs.declared.value.Value.{Value}
-use Rattle.mh_ledger.specs.Ledgers.{ledger_at}
 use Rattle.mh_core.specs.declared.call.AcceptedCall.{AcceptedCall}
 use Rattle.mh_core.specs.declared.event.Event.TheVariants.{Call}
 use Rattle.mh_core.specs.Books.{AreLedgers, IsMachine}

@@ -1,4 +1,4 @@
-use Rattle.std.proofs.Common.{◌≡◌, ◌<◌, length, ap, refl, arith}
+use Rattle.std.proofs.Common.{◌<◌, length, ap, refl, arith}
 use Rattle.std.specs.Prelude.{reverse}
 use Rattle.mh_core.specs.declared.record.Record.{Record}
 use Rattle.mh_core.specs.declared.record.Record.TheVariants.{Flushed}

@@ -1,13 +1,15 @@
-use Rattle.std.proofs.Common.{◌≡◌, ◌+◌, List, length, refl, ap, sym, ◌∙◌}
+use Rattle.std.proofs.Common.{◌+◌, List, length, refl, ap, sym, ◌∙◌}
 use Rattle.std.specs.Prelude.{reverse}
 use Rattle.mh_core.specs.declared.record.Record.{Record}
 use Rattle.mh_core.specs.declared.record.Record.TheVariants.{Published}
 use Rattle.mh_core.specs.declared.reply.Reply.TheVariants as reply
-use Rattle.mh_core.specs.Histories.{joined, records}
+use Rattle.mh_core.specs.Histories.{records}
+use Rattle.mh_core.specs.Installations.{PublishedPlan}
 use Rattle.mh_core.specs.Legal.{MachineState}
 use Rattle.mh_core.specs.Books.{Takes}
 use Rattle.mh_core.specs.Records.{plans}
 use Rattle.mh_core.proofs.Machines.{calls_count, machine_takes, passes_record, passes_same, takes_same, view_takes}
+use Rattle.mh_core.proofs.PlanTables.{plans_count}
 use Rattle.mh_core.proofs.machine.Machine.accept_plan.Goals as goal
 
 pub append_publish-requires : goal.append_publish-requires
@@ -39,6 +41,7 @@ returns-clause-taken c =
 pub returns-clause-reply : goal.returns-clause-reply
 returns-clause-reply c =
     let m = c.self.inside in
-    let number = ap (λ n. n + 1) c.records-records.ensures.book.plans
-    ∙ (ap (λ (r : List Record). plans r + 1) c.self.invariant.records ∙ ap (λ (x : MachineState). plans (records x.setting.definition x.history) + 1) c.self.view_is) in
+    let number = ap (λ (l : List PublishedPlan). length l + 1) c.records-records.ensures.book.plans
+    ∙ (ap (λ n. n + 1) (plans_count m.book.records)
+    ∙ (ap (λ (r : List Record). plans r + 1) c.self.invariant.records ∙ ap (λ (x : MachineState). plans (records x.setting.definition x.history) + 1) c.self.view_is)) in
     ap (λ n. reply.Published n c.args.plan) (c.in_ok-number.ensures.number ∙ number)

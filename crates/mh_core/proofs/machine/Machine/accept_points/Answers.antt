@@ -1,4 +1,4 @@
-use Rattle.std.proofs.Common.{◌≡◌, length, refl}
+use Rattle.std.proofs.Common.{refl}
 use Rattle.std.specs.Prelude.{reverse}
 use Rattle.mh_core.specs.declared.record.Record.TheVariants.{Invalidated}
 use Rattle.mh_core.proofs.Machines.{calls_count, machine_takes, passes_record, view_takes}

@@ -1,9 +1,9 @@
-use Rattle.std.proofs.Common.{◌≡◌, ◌+◌, List, length, refl, ap, sym, ◌∙◌}
+use Rattle.std.proofs.Common.{◌+◌, List, length, refl, ap, ◌∙◌}
 use Rattle.std.specs.Prelude.{reverse}
 use Rattle.mh_core.specs.declared.record.Record.{Record}
 use Rattle.mh_core.specs.declared.record.Record.TheVariants.{Snapped}
 use Rattle.mh_core.specs.declared.reply.Reply.TheVariants as reply
-use Rattle.mh_core.specs.Histories.{joined, records}
+use Rattle.mh_core.specs.Histories.{records}
 use Rattle.mh_core.specs.Legal.{MachineState}
 use Rattle.mh_core.specs.Records.{snapshots}
 use Rattle.mh_core.specs.Snapshots.{SnapshotState}

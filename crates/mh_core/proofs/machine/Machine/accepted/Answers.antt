@@ -1,7 +1,6 @@
-use Rattle.std.proofs.Common.{List, length, ap, arith}
+use Rattle.std.proofs.Common.{length, ap, arith}
 use Rattle.std.specs.Prelude.{reverse}
 use Rattle.std.proofs.lemmas.List.{length-reverse}
-use Rattle.mh_core.specs.declared.call.AcceptedCall.{AcceptedCall}
 use Rattle.mh_core.specs.Legal.{MachineState}
 use Rattle.mh_core.proofs.Joined.{joined_length}
 use Rattle.mh_core.proofs.machine.Machine.accepted.Goals as goal

@@ -1,4 +1,4 @@
-use Rattle.std.proofs.Common.{List, ap, ◌∙◌}
+use Rattle.std.proofs.Common.{ap}
 use Rattle.std.specs.Prelude.{reverse}
 use Rattle.mh_core.proofs.Machines.{machine_opened}
 use Rattle.mh_core.proofs.machine.Machine.open.Goals as goal

@@ -1,7 +1,7 @@
 use Rattle.std.proofs.Common.{subst, sym}
 use Rattle.std.specs.Prelude.{reverse, OnOk, IfErr}
 use Rattle.mh_core.specs.declared.event.Event.{Event}
-use Rattle.mh_core.specs.declared.record.Record.TheVariants.{Targeted, Invalidated, Snapped, Published}
+use Rattle.mh_core.specs.declared.record.Record.TheVariants.{Targeted, Invalidated, Snapped, Published, Installed}
 use Rattle.mh_core.specs.Legal.{tests}
 use Rattle.mh_core.specs.Tests.{Passes, Refuses}
 use Rattle.mh_core.proofs.Machines.{calls_count, err_asked, ok_asked}
@@ -70,3 +70,19 @@ returns-in-Publish-clause-refuses c =
     subst (λ (f : Event). IfErr c.test_publish.result (λ told. Refuses (tests x.setting x.history f) told)) (sym c.in-Publish.is)
     (err_asked m.book (reverse m.calls.items) m.workers m.ledgers.items c.self.invariant x c.len-calls.result c.self.view_is (calls_count m.calls c.len-calls.result c.len-calls.ensures)
     (Published c.in-Publish.snapshot c.in-Publish.plan) c.test_publish.result c.test_publish.ensures.refuses)
+
+pub returns-in-Install-clause-passes : goal.returns-in-Install-clause-passes
+returns-in-Install-clause-passes c =
+    let m = c.self.inside in
+    let x = c.args.self.now in
+    subst (λ (f : Event). OnOk c.test_install.result (Passes (tests x.setting x.history f))) (sym c.in-Install.is)
+    (ok_asked m.book (reverse m.calls.items) m.workers m.ledgers.items c.self.invariant x c.len-calls.result c.self.view_is (calls_count m.calls c.len-calls.result c.len-calls.ensures)
+    (Installed c.in-Install.plan) c.test_install.result c.test_install.ensures.passes)
+
+pub returns-in-Install-clause-refuses : goal.returns-in-Install-clause-refuses
+returns-in-Install-clause-refuses c =
+    let m = c.self.inside in
+    let x = c.args.self.now in
+    subst (λ (f : Event). IfErr c.test_install.result (λ told. Refuses (tests x.setting x.history f) told)) (sym c.in-Install.is)
+    (err_asked m.book (reverse m.calls.items) m.workers m.ledgers.items c.self.invariant x c.len-calls.result c.self.view_is (calls_count m.calls c.len-calls.result c.len-calls.ensures)
+    (Installed c.in-Install.plan) c.test_install.result c.test_install.ensures.refuses)

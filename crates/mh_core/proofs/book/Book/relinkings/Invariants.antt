@@ -1,0 +1,11 @@
+use Rattle.std.proofs.Common.{◌≡◌, ◌&&◌}
+use Rattle.mh_core.specs.Installations.{is_concerned, is_current}
+use Rattle.mh_core.specs.Replayed.{relinked}
+use Rattle.mh_core.proofs.InstalledLinks.{gathered}
+use Rattle.mh_core.proofs.book.Book.relinkings.Given as goal
+
+abbrev pub invariant-loop-site : goal.invariant-loop-site
+invariant-loop-site l = record {
+  items : l.relinkings.items
+      ≡ gathered (relinked l.self.definition l.self.records l.plan) (λ s. is_concerned l.self.definition l.self.records l.plan s && is_current l.self.records l.plan s) 0 l.site;
+}

@@ -1,0 +1,54 @@
+use Rattle.std.proofs.Common.{◌≡◌, ◌∙◌, ◌+◌, ◌-◌, ◌&&◌, ℕ, Bool, ap, length, refl, sym, arith}
+use Rattle.std.proofs.lemmas.List.{map-id}
+use Rattle.mh_network.specs.Selection.{member}
+use Rattle.mh_site.specs.Defined.{site_at}
+use Rattle.mh_site.specs.Links.{first_link}
+use Rattle.mh_core.specs.Books.{BookState}
+use Rattle.mh_core.specs.Installations.{own_links, plan_at}
+use Rattle.mh_core.specs.Problems.{is_eligible}
+use Rattle.mh_core.proofs.InstalledLinks.{filter_both, gather_pass, gather_skip, gathered}
+use Rattle.mh_core.proofs.LawfulLinks.{few_links}
+use Rattle.mh_core.proofs.book.Book.usable.Goals.{then-is_usable+in_ok-push, else-is_usable}
+use Rattle.mh_core.proofs.book.Book.usable.Goals as goal
+
+pub overflow_add-link-end : goal.overflow_add-link-end
+overflow_add-link-end c =
+    omega (arith, c.first_link-first.ensures.within, ap length c.links.ensures.value, few_links c.self.inside.definition c.self.invariant.definition)
+
+pub loop-link-preserved : goal.loop-link-preserved
+loop-link-preserved c =
+    let now = c.args.self.now in
+    let first = c.first_link-first.result in
+    let link = c.loop-link.link in
+    let passes : ℕ → Bool = λ j. member (plan_at now.records c.args.plan).plan.links j && is_eligible now.definition now.records j in
+    let place : first + (link - first) ≡ link = omega (arith, c.loop-link.invariant.least) in
+    let next : link + 1 - first ≡ link - first + 1 = omega (arith, c.loop-link.invariant.least) in
+    record {
+      least = omega (arith, c.loop-link.invariant.least);
+      items = elim c.if-is_usable.branch [
+        | then-is_usable+in_ok-push w ↦
+            rw w.usable-is
+            (gather_pass (λ j. j) passes first (link - first) link (link + 1 - first) _ _ link place next c.loop-link.invariant.items (sym c.is_usable.ensures.value ∙ w.if-is_usable.true) refl w.in_ok-push.ensures.items)
+        | else-is_usable w ↦
+            rw w.usable-is (gather_skip (λ j. j) passes first (link - first) link (link + 1 - first) _ place next c.loop-link.invariant.items (sym c.is_usable.ensures.value ∙ w.if-is_usable.false))
+      ];
+    }
+
+pub returns : goal.returns
+returns c =
+    let now = c.args.self.now in
+    let first = c.first_link-first.result in
+    let has = member (plan_at now.records c.args.plan).plan.links in
+    let can = is_eligible now.definition now.records in
+    let passes : ℕ → Bool = λ j. has j && can j in
+    let links = ap length c.links.ensures.value ∙ ap (λ (b : BookState). length (site_at b.definition c.args.site).links) c.self.view_is in
+    let start : first ≡ first_link now.definition c.args.site = c.first_link-first.ensures.value ∙ ap (λ (b : BookState). first_link b.definition c.args.site) c.self.view_is in
+    let count : c.loop-link.link - first ≡ length (site_at now.definition c.args.site).links =
+    omega (arith, c.loop-link-test.false, c.loop-link.auto.link, c.loop-link.invariant.least, links) in
+    record {
+      value =
+          c.loop-link.invariant.items
+          ∙ (ap (gathered (λ j. j) passes first) count
+          ∙ (ap (λ (a : ℕ). gathered (λ j. j) passes a (length (site_at now.definition c.args.site).links)) start
+          ∙ (map-id _ ∙ sym (filter_both has can (own_links now.definition c.args.site)))));
+    }
