@@ -1,5 +1,5 @@
 -- The text of lines.
-use Rattle.std.specs.Prelude.{ℕ, true, false, List, [], ◌∷◌, ◌++◌, codes, if◌then◌else◌, ◌==◌, ◌||◌}
+use Rattle.std.specs.Prelude.{ℕ, true, false, Bool, List, [], ◌∷◌, ◌++◌, filter, length, codes, if◌then◌else◌, ◌==◌, ◌||◌}
 use Rattle.std.specs.Fmt.{decimal, signed_decimal}
 use Rattle.std.specs.List.{flat_map}
 use Rattle.mh_type.specs.declared.value.Value as value
@@ -8,7 +8,10 @@ use Rattle.mh_type.specs.declared.outcome.Outcome.{Outcome}
 use Rattle.mh_type.specs.declared.outcome.Outcome.TheVariants.{Value, Thrown}
 use Rattle.mh_type.specs.declared.outcome.Throw.TheVariants.{ArithmeticException, TextTooLong}
 use Rattle.mh_core.specs.declared.reply.Reply.{Reply}
-use Rattle.mh_core.specs.declared.reply.Reply.TheVariants.{Called, Done, Taken, Published, Refused}
+use Rattle.mh_core.specs.declared.reply.Reply.TheVariants.{Called, Done, Taken, Published, Installed, Refused}
+use Rattle.mh_core.specs.declared.install_report.InstallReport.{InstallReport}
+use Rattle.mh_core.specs.declared.install_report.Linkage.TheVariants.{Linked, Unlinked, Skipped}
+use Rattle.mh_core.specs.declared.install_report.SiteLinkage.{SiteLinkage}
 use Rattle.mh_core.specs.Refusals.{refusal_text}
 use Rattle.mh_cert.specs.declared.plan.Plan.{Plan}
 use Rattle.mh_network.specs.Selection.{value_of}
@@ -49,12 +52,30 @@ published_text d n m plan =
     codes "plan " ++ (decimal m ++ (codes " snapshot " ++ (decimal n ++ (codes " links " ++ (numbers_text plan.links
     ++ (codes " points " ++ (names_text d plan.points ++ (codes " value " ++ (signed_decimal plan.value ++ (codes " flow " ++ decimal (value_of plan.flow)))))))))))
 
--- a reply to a step that names this snapshot
+abbrev pub is_linked : SiteLinkage → Bool
+is_linked x = elim x.linkage as (λ _. Bool) [ Linked links ↦ true | Unlinked ↦ false | Skipped ↦ false ]
+
+abbrev pub is_skipped : SiteLinkage → Bool
+is_skipped x = elim x.linkage as (λ _. Bool) [ Linked links ↦ false | Unlinked ↦ false | Skipped ↦ true ]
+
+-- the links that were left out, and nothing where there is none
+abbrev pub invalid_text : List ℕ → List ℕ
+invalid_text [] = []
+invalid_text (j ∷ js) = codes " invalid " ++ numbers_text (j ∷ js)
+
+-- the installation of the plan of this number: how many sites were linked, how many skipped
+abbrev pub installed_text : ℕ → InstallReport → List ℕ
+installed_text m report =
+    codes "install " ++ (decimal m ++ (codes " linked " ++ (decimal (length (filter is_linked report.sites))
+    ++ (codes " skipped " ++ (decimal (length (filter is_skipped report.sites)) ++ invalid_text report.left_out)))))
+
+-- a reply to a step that names this number
 abbrev pub reply_text : DefinitionData → ℕ → Reply → List ℕ
 reply_text d n (Called outcome steps) = outcome_text outcome
 reply_text d n Done = codes "ok"
 reply_text d n (Taken m) = codes "snapshot " ++ decimal m
 reply_text d n (Published m plan) = published_text d n m plan
+reply_text d n (Installed report) = installed_text n report
 reply_text d n (Refused refusal) = codes "refused " ++ refusal_text refusal
 
 -- a reply, and the byte 0x0A

@@ -12,7 +12,7 @@ use Rattle.mh_site.specs.declared.site.Site.{Site}
 use Rattle.mh_site.specs.Defined.{DefinitionData, site_at}
 use Rattle.mh_site.specs.Definitions.{definition_made}
 use Rattle.mh_core.specs.declared.event.Event.{Event}
-use Rattle.mh_core.specs.declared.event.Event.TheVariants.{Call, Flush, Target, Invalidate, Snapshot, Publish}
+use Rattle.mh_core.specs.declared.event.Event.TheVariants.{Call, Flush, Target, Invalidate, Snapshot, Publish, Install}
 use Rattle.mh_core.specs.Limits.{LimitsData}
 use Rattle.mh_text.specs.declared.fault.Fault.{Fault}
 use Rattle.mh_text.specs.declared.fault.ReadFault.{ReadFault}
@@ -219,6 +219,13 @@ offer_from (snapshot ∷ plan ∷ []) = do
   Ok (Publish snapshot plan)
 offer_from _ = Err BadShape
 
+-- m
+abbrev pub install_from : List Data → Result Event ReadFault
+install_from (plan ∷ []) = do
+  plan ← count_of (2 ^ 32 - 1) plan
+  Ok (Install plan)
+install_from _ = Err BadShape
+
 -- n
 abbrev pub plan_from : List Data → Result Step ReadFault
 plan_from (snapshot ∷ []) = do
@@ -234,7 +241,8 @@ event_named declared word args =
     if bytes_eq word (codes "target") then target_from declared args else (
     if bytes_eq word (codes "invalidate") then invalidate_from declared.scope.points args else (
     if bytes_eq word (codes "snapshot") then snapshot_from args else (
-    if bytes_eq word (codes "offer") then offer_from args else Err BadShape)))))
+    if bytes_eq word (codes "offer") then offer_from args else (
+    if bytes_eq word (codes "install") then install_from args else Err BadShape))))))
 
 -- the step that a word heads: the asking for a plan, or an event
 abbrev pub step_named : Declarations → List ℕ → List Data → Result Step ReadFault

@@ -4,7 +4,7 @@ use Rattle.mh_network.specs.Selection.{IsLeast, member}
 use Rattle.mh_cert.specs.Plans.{Matches}
 use Rattle.mh_cert.specs.declared.plan.Plan.{Plan}
 use Rattle.mh_core.specs.declared.event.Event.{Event}
-use Rattle.mh_core.specs.declared.event.Event.TheVariants.{Call, Flush, Target, Invalidate, Snapshot, Publish}
+use Rattle.mh_core.specs.declared.event.Event.TheVariants.{Call, Flush, Target, Invalidate, Snapshot, Publish, Install}
 use Rattle.mh_core.specs.declared.refusal.Refusal.TheVariants.{NoMemory, NoSnapshot}
 use Rattle.mh_core.specs.declared.reply.Reply.{Reply}
 use Rattle.mh_core.specs.declared.reply.Reply.TheVariants.{Refused}
@@ -15,21 +15,22 @@ use Rattle.mh_core.specs.Problems.{IsTaken, problem_at}
 use Rattle.mh_text.specs.declared.step.Step.{Step}
 use Rattle.mh_text.specs.declared.step.Step.TheVariants.{Ask, Plan as ask_plan}
 
--- the snapshot that an event names, 0 where it names none
-abbrev pub snapshot_in : Event → ℕ
-snapshot_in (Call w s a) = 0
-snapshot_in (Flush w) = 0
-snapshot_in (Target s tree) = 0
-snapshot_in (Invalidate points) = 0
-snapshot_in Snapshot = 0
-snapshot_in (Publish n plan) = n
+-- the number that an event names, of the snapshot that a plan is for or of the plan that is installed; 0 where it names none
+abbrev pub number_in : Event → ℕ
+number_in (Call w s a) = 0
+number_in (Flush w) = 0
+number_in (Target s tree) = 0
+number_in (Invalidate points) = 0
+number_in Snapshot = 0
+number_in (Publish n plan) = n
+number_in (Install m) = m
 
 -- the same of a step
-abbrev pub snapshot_named : Step → ℕ
-snapshot_named (Ask event) = snapshot_in event
-snapshot_named (ask_plan n) = n
+abbrev pub number_named : Step → ℕ
+number_named (Ask event) = number_in event
+number_named (ask_plan n) = n
 
--- a reply, behind the snapshot that its step names
+-- a reply, behind the number that its step names
 abbrev pub Told : Type 0
 Told = ℕ × Reply
 
@@ -55,7 +56,7 @@ module _ (x : Setting) where
 
   -- a step and what is told of it
   abbrev pub Takes : List Event → Step → Told → List Event → Type 0
-  Takes h step told new = (told.0 ≡ snapshot_named step) × Answers h step told.1 new
+  Takes h step told new = (told.0 ≡ number_named step) × Answers h step told.1 new
 
   -- one step after another
   abbrev pub Run : List Event → List Step → List Told → List Event → Type 0

@@ -3,7 +3,7 @@ ghost use Rattle.std.specs.Prelude.{◌≡◌, [], ◌∷◌, ◌++◌, map, IfE
 ghost use Rattle.mh_text.specs.declared.fault.TextFault.TheVariants as text;
 ghost use Rattle.serde_json.specs.View.{view};
 ghost use Rattle.mh_text.specs.Gives.{Gives, GivesNumbered, GivesUpTo, IsOfInput};
-ghost use Rattle.mh_text.specs.Script.{call_from, flush_from, target_from, invalidate_from, snapshot_from, offer_from, plan_from, event_named, step_named, step_of, steps_of, IsNext};
+ghost use Rattle.mh_text.specs.Script.{call_from, flush_from, target_from, invalidate_from, snapshot_from, offer_from, install_from, plan_from, event_named, step_named, step_of, steps_of, IsNext};
 
 use crate::declarations::Declarations;
 use crate::fault::{Fault, ReadFault, TextFault};
@@ -87,6 +87,16 @@ fn read_offer(alloc: Global, args: &[Value]) -> Result<Event, ReadFault>
     Ok(Event::Publish { snapshot, plan })
 }
 
+fn read_install(args: &[Value]) -> Result<Event, ReadFault>
+    ensures value { Gives (λ x. x) result (install_from (map view args.now)) }
+{
+    let [plan] = args else {
+        return Err(ReadFault::BadShape);
+    };
+    let plan = number(plan)? as usize;
+    Ok(Event::Install { plan })
+}
+
 fn read_plan_step(args: &[Value]) -> Result<Step, ReadFault>
     ensures value { Gives (λ x. x) result (plan_from (map view args.now)) }
 {
@@ -113,6 +123,7 @@ fn read_event(
         "invalidate" => read_invalidate(alloc, &declared.scope, args),
         "snapshot" => read_snapshot(args),
         "offer" => read_offer(alloc, args),
+        "install" => read_install(args),
         _ => Err(ReadFault::BadShape),
     }
 }

@@ -1,16 +1,17 @@
 //! Lines of text: one for each reply.
-ghost use Rattle.std.specs.Prelude.{◌≡◌, ◌++◌, string_bytes, codes, IfOk, OnOk, All, ◌<◌, ◌≤◌, length};
+ghost use Rattle.std.specs.Prelude.{◌≡◌, ◌++◌, string_bytes, codes, filter, IfOk, OnOk, All, ◌<◌, ◌≤◌, length};
 ghost use Rattle.std.specs.List.{flat_map, slice_index_or};
 ghost use Rattle.mh_site.specs.Defined.{point_at};
 ghost use Rattle.mh_text.specs.declared.step.Step.TheVariants.{Plan as no_step};
-ghost use Rattle.mh_text.specs.Steps.{snapshot_named};
+ghost use Rattle.mh_text.specs.Steps.{number_named};
 ghost use Rattle.mh_type.specs.declared.value.Value.TheVariants as variant;
-ghost use Rattle.mh_text.specs.Lines.{quoted, value_text, outcome_text, names_text, published_text, reply_text, line_of};
+ghost use Rattle.mh_text.specs.Lines.{quoted, value_text, outcome_text, names_text, published_text, is_linked, is_skipped, invalid_text, installed_text, reply_text, line_of};
 
-use crate::plan_lines::{flow_value, numbers_line};
+use crate::plan_lines::numbers_line;
 use crate::script::Script;
 use mh_cert::Plan;
-use mh_core::Reply;
+use mh_core::{InstallReport, Linkage, Reply, SiteLinkage};
+use mh_network::carried;
 use mh_site::Definition;
 use mh_type::{Outcome, Text, Throw, Value};
 use std::alloc::{AllocError, Global};
@@ -110,48 +111,96 @@ fn published_line(
 {
     let links = numbers_line(alloc, plan.links.as_slice())?;
     let points = names_line(alloc, definition, plan.points.as_slice())?;
-    let flow = flow_value(plan.flow.as_slice());
+    let flow = carried(plan.flow.as_slice());
     format!(in alloc;
         "plan {number} snapshot {snapshot} links {links} points {points} value {} flow {flow}",
         plan.value
     )
 }
 
+// How many of these sites were linked.
+fn count_linked(sites: &[SiteLinkage]) -> usize
+    ensures value { result ≡ length (filter is_linked sites.now) }
+{
+    let mut count = 0;
+    for site in sites {
+        if let Linkage::Linked(_) = site.linkage {
+            count += 1;
+        }
+    }
+    count
+}
+
+// How many of these sites were skipped.
+fn count_skipped(sites: &[SiteLinkage]) -> usize
+    ensures value { result ≡ length (filter is_skipped sites.now) }
+{
+    let mut count = 0;
+    for site in sites {
+        if let Linkage::Skipped = site.linkage {
+            count += 1;
+        }
+    }
+    count
+}
+
+fn invalid_line(alloc: Global, links: &[u32]) -> Result<String, AllocError>
+    ensures value { IfOk result (λ s. string_bytes s ≡ invalid_text links.now) }
+{
+    if links.is_empty() {
+        return String::from_str(alloc, "");
+    }
+    let links = numbers_line(alloc, links)?;
+    format!(in alloc; " invalid {links}")
+}
+
+/// The installation of the plan of this number.
+fn installed_line(alloc: Global, plan: usize, report: &InstallReport) -> Result<String, AllocError>
+    ensures value { IfOk result (λ s. string_bytes s ≡ installed_text plan report.now) }
+{
+    let sites = report.sites.as_slice();
+    let linked = count_linked(sites);
+    let skipped = count_skipped(sites);
+    let invalid = invalid_line(alloc, report.left_out.as_slice())?;
+    format!(in alloc; "install {plan} linked {linked} skipped {skipped}{invalid}")
+}
+
 fn reply_line(
     alloc: Global,
     definition: &Definition,
-    snapshot: usize,
+    named: usize,
     reply: &Reply,
 ) -> Result<String, AllocError>
-    ensures value { IfOk result (λ s. string_bytes s ≡ reply_text definition.now snapshot reply.now) }
+    ensures value { IfOk result (λ s. string_bytes s ≡ reply_text definition.now named reply.now) }
 {
     match reply {
         Reply::Called { outcome, .. } => outcome_line(alloc, outcome),
         Reply::Done => format!(in alloc; "ok"),
         Reply::Taken { snapshot } => format!(in alloc; "snapshot {snapshot}"),
         Reply::Published { number, plan } => {
-            published_line(alloc, definition, snapshot, *number, plan.plan())
+            published_line(alloc, definition, named, *number, plan.plan())
         }
+        Reply::Installed(report) => installed_line(alloc, named, report),
         Reply::Refused(refusal) => format!(in alloc; "refused {refusal}"),
     }
 }
 
-/// The line of a reply to a step that names this snapshot.
+/// The line of a reply to a step that names this number.
 pub(crate) fn line(
     alloc: Global,
     definition: &Definition,
-    snapshot: usize,
+    named: usize,
     reply: &Reply,
 ) -> Result<String, AllocError>
-    ensures value { IfOk result (λ s. string_bytes s ≡ line_of definition.now (snapshot, reply.now)) }
+    ensures value { IfOk result (λ s. string_bytes s ≡ line_of definition.now (named, reply.now)) }
 {
-    let mut line = reply_line(alloc, definition, snapshot, reply)?;
+    let mut line = reply_line(alloc, definition, named, reply)?;
     line.push('\n')?;
     Ok(line)
 }
 
 /// The line of a reply to a step of a script, by the step's number from 0: the script gives the names of
-/// points, and the snapshot that an offered plan is for. Refused where memory was.
+/// points, and the snapshot or the plan that the step names. Refused where memory was.
 pub fn render(
     alloc: Global,
     script: &Script,
@@ -159,8 +208,8 @@ pub fn render(
     reply: &Reply,
 ) -> Result<String, AllocError>
     requires inside { step < length script.now.steps }
-    ensures value { IfOk result (λ s. string_bytes s ≡ line_of script.now.definition (snapshot_named (slice_index_or script.now.steps step (no_step 0)), reply.now)) }
+    ensures value { IfOk result (λ s. string_bytes s ≡ line_of script.now.definition (number_named (slice_index_or script.now.steps step (no_step 0)), reply.now)) }
 {
-    let snapshot = script.steps.as_slice()[step].snapshot();
-    line(alloc, &script.definition, snapshot, reply)
+    let named = script.steps.as_slice()[step].number();
+    line(alloc, &script.definition, named, reply)
 }

@@ -2,11 +2,10 @@
 ghost use Rattle.std.specs.Prelude.{◌≡◌, ◌++◌, string_bytes, IfOk, OnOk, codes};
 ghost use Rattle.std.specs.Fmt.{decimal};
 ghost use Rattle.std.specs.List.{flat_map, sum_by};
-ghost use Rattle.mh_network.specs.Selection.{value_of};
 ghost use Rattle.mh_text.specs.PlanLines.{numbers_text, chosen_text, plan_text, phases_text, phases_bound as bound_of};
 
 use mh_cert::Plan;
-use mh_network::Problem;
+use mh_network::{Problem, carried};
 use std::alloc::{AllocError, Global};
 
 /// Appends a comma and a number for each.
@@ -31,17 +30,6 @@ pub(crate) fn numbers_line(alloc: Global, numbers: &[u32]) -> Result<String, All
     Ok(line)
 }
 
-/// The sum of the amounts of a flow.
-pub(crate) fn flow_value(flow: &[(u32, u32, u64)]) -> u128
-    ensures value { result ≡ value_of flow.now }
-{
-    let mut sum: u128 = 0;
-    for row in flow {
-        sum += u128::from(row.2);
-    }
-    sum
-}
-
 /// The links and the points of a plan.
 fn chosen_line(alloc: Global, plan: &Plan) -> Result<String, AllocError>
     ensures value { IfOk result (λ s. string_bytes s ≡ chosen_text plan.now) }
@@ -57,7 +45,7 @@ pub fn plan_line(alloc: Global, plan: &Plan) -> Result<String, AllocError>
     ensures value { IfOk result (λ s. string_bytes s ≡ plan_text plan.now) }
 {
     let chosen = chosen_line(alloc, plan)?;
-    let flow = flow_value(plan.flow.as_slice());
+    let flow = carried(plan.flow.as_slice());
     format!(in alloc; "{chosen} value {} flow {flow}", plan.value)
 }
 

@@ -21,22 +21,22 @@ use std::alloc::Global;
 use std::io::{Read, Write};
 use std::thread::Threads;
 
-/// The line of a reply to the step of this number, which names this snapshot.
+/// The line of a reply to the step of this number, which names this number.
 fn write_line<W: Write>(
     alloc: Global,
     definition: &Definition,
-    snapshot: usize,
+    named: usize,
     reply: &Reply,
     at: u64,
     writer: &mut Watched<W>,
 ) -> Result<(), Fault>
     ensures line { MatchResult result
-        (λ _. Appends (W.contents writer.old.inner) (W.contents writer.new.inner) (line_of definition.now (snapshot, reply.now)))
-        (λ e. (e.at ≡ at) × AppendsFront (W.contents writer.old.inner) (W.contents writer.new.inner) (line_of definition.now (snapshot, reply.now))) }
+        (λ _. Appends (W.contents writer.old.inner) (W.contents writer.new.inner) (line_of definition.now (named, reply.now)))
+        (λ e. (e.at ≡ at) × AppendsFront (W.contents writer.old.inner) (W.contents writer.new.inner) (line_of definition.now (named, reply.now))) }
     ensures kind { IfErr result (λ e. IsEnd (HasFailed writer.old.failures writer.new.failures) e.kind) }
     ensures kept { OnOk result (writer.new.failures ≡ writer.old.failures) }
 {
-    let Ok(text) = line(alloc, definition, snapshot, reply) else {
+    let Ok(text) = line(alloc, definition, named, reply) else {
         return Err(Fault {
             kind: TextFault::NoMemory,
             at,
@@ -65,10 +65,10 @@ fn write_step<T: Threads + Sync, W: Write>(
     ensures kind { IfErr result (λ e. IsEnd (HasFailed writer.old.failures writer.new.failures) e.kind) }
     ensures kept { OnOk result (writer.new.failures ≡ writer.old.failures) }
 {
-    let snapshot = step.snapshot();
+    let named = step.number();
     let reply = answer(rt, alloc, machine, step);
     let definition = machine.book().definition();
-    write_line(alloc, definition, snapshot, &reply, at, writer)
+    write_line(alloc, definition, named, &reply, at, writer)
 }
 
 /// Runs the steps, and writes the line of each.

@@ -1,6 +1,6 @@
 //! What a script asks for, step by step.
 ghost use Rattle.std.specs.Prelude.{◌≡◌};
-ghost use Rattle.mh_text.specs.Steps.{snapshot_named, snapshot_in};
+ghost use Rattle.mh_text.specs.Steps.{number_named, number_in};
 
 use mh_core::Event;
 
@@ -15,22 +15,24 @@ pub enum Step {
 }
 
 impl Step {
-    /// The number of the snapshot that the step names, from 1; 0 where it names none.
-    pub fn snapshot(&self) -> usize
-        ensures value { result ≡ snapshot_named self.now }
+    /// The number that the step names, from 1: of the snapshot that a plan is for, or of the plan that is
+    /// installed; 0 where it names none.
+    pub fn number(&self) -> usize
+        ensures value { result ≡ number_named self.now }
     {
         match self {
-            Step::Ask(event) => snapshot_of(event),
+            Step::Ask(event) => number_of(event),
             Step::Plan { snapshot } => *snapshot,
         }
     }
 }
 
-fn snapshot_of(event: &Event) -> usize
-    ensures value { result ≡ snapshot_in event.now }
+fn number_of(event: &Event) -> usize
+    ensures value { result ≡ number_in event.now }
 {
     match event {
         Event::Publish { snapshot, .. } => *snapshot,
+        Event::Install { plan } => *plan,
         _ => 0,
     }
 }
