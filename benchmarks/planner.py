@@ -1,11 +1,13 @@
 #!/usr/bin/env python3
-"""planner.py [PROGRAM]: times `mhlink plan` beside LEMON's Preflow, on problems as large as one may be.
+"""planner.py [PROGRAM [FLOW_BENCH]]: times `mhlink plan`, and its greatest flow alone beside LEMON's, on the largest problems.
 
-PROGRAM is ../mhlink where none is named. It needs g++ and LEMON (Debian's liblemon-dev). For each problem it prints the
-phases of the flow and their bound, and in milliseconds, the least of several runs: the whole of `mhlink plan` on one worker,
-on two and on four; the reading of its input, which is `mhlink check` on the same problem with no plan beside it; planning,
-which is the difference of the first and this; and LEMON's flow alone, over a network that was built before. Both have to find
-flows of the same value. Numbers are drawn from a fixed seed, so the problems are always the same.
+PROGRAM is ../mhlink where none is named, and FLOW_BENCH is what `rt run` builds in ../crates/flow_bench. LEMON's flow wants
+g++ and LEMON (Debian's liblemon-dev); without them its column is empty. For each problem it prints the phases of the flow,
+part by part and over the whole, and in milliseconds, the least of several runs: the whole of `mhlink plan` on one worker, on
+two and on four; the reading of its input, which is `mhlink check` on the same problem with no plan beside it; planning, which
+is the difference of the first and this; `max_flow` on the whole problem, read before, which is a run of FLOW_BENCH less one
+that finds no flow; and LEMON's Preflow over a network that was built before. All have to find flows of the same value.
+Numbers are drawn from a fixed seed, so the problems are always the same.
 """
 import json, random, subprocess, sys, tempfile, time
 from pathlib import Path
@@ -13,6 +15,8 @@ from pathlib import Path
 HERE = Path(__file__).resolve().parent
 LINKS, POINTS = 4096, 1024
 RUNS = 9
+# how often a run of FLOW_BENCH finds a greatest flow
+ROUNDS = 50
 
 
 def problem(gains, costs, needs):
@@ -85,22 +89,46 @@ def numbers(given):
         yield " ".join(map(str, [len(link["needs"]), *link["needs"]]))
 
 
+def flow_alone(program, given):
+    """The milliseconds of one `max_flow` without its reading, the value of the flow, and its phases."""
+    (none, _), (some, said) = (least([program], "\n".join([str(rounds), *numbers(given)]).encode()) for rounds in (0, ROUNDS))
+    _, value, _, phases = said.split()
+    return (some - none) / ROUNDS, value, phases
+
+
+def lemon_in(room):
+    """LEMON's program, built into a folder, or None where there is no LEMON."""
+    lemon = f"{room}/lemon_flow"
+    built = subprocess.run(["g++", "-O2", "-o", lemon, str(HERE / "lemon_flow.cpp")], stderr=subprocess.PIPE, check=False)
+    if built.returncode:
+        print("no LEMON is installed (Debian's liblemon-dev): its column is empty", file=sys.stderr)
+    return None if built.returncode else lemon
+
+
 def main():
     program = sys.argv[1] if len(sys.argv) > 1 else str(HERE.parent / "mhlink")
+    flow_bench = sys.argv[2] if len(sys.argv) > 2 else str(HERE.parent / "crates/flow_bench/out/flow_bench")
+    if not Path(flow_bench).is_file():
+        sys.exit(f"{flow_bench} is not built: run `rt run <stdin` in crates/flow_bench")
     with tempfile.TemporaryDirectory() as room:
-        lemon = f"{room}/lemon_flow"
-        subprocess.run(["g++", "-O2", "-o", lemon, str(HERE / "lemon_flow.cpp")], check=True)
-        print("| Problem | phases | bound | plan | 2 workers | 4 workers | reading | planning | LEMON |\n|---|---|---|---|---|---|---|---|---|")
+        lemon = lemon_in(room)
+        print("| Problem | phases | bound | plan | 2 workers | 4 workers | reading | planning | phases of the whole | max_flow | LEMON |")
+        print("|---|---|---|---|---|---|---|---|---|---|---|")
         for name, given in PROBLEMS.items():
             text = json.dumps(given, separators=(",", ":")).encode()
             whole, said = least([program, "plan", "--phases"], text)
             two, four = (least([program, "plan", "--workers", str(count)], text)[0] for count in (2, 4))
             reading, _ = least([program, "check"], b'{"problem":' + text + b"}")
-            value, seconds = least([lemon], "\n".join(numbers(given)).encode())[1].split()
+            alone, value, rounds = flow_alone(flow_bench, given)
             plan, phases = said.splitlines()
-            assert plan.endswith(f" flow {value}"), f"{name}: LEMON's flow is {value}, and the plan is {plan[-60:]}"
+            assert plan.endswith(f" flow {value}"), f"{name}: max_flow gives {value}, and the plan is {plan[-60:]}"
+            beside = "-"
+            if lemon:
+                found, seconds = least([lemon], "\n".join(numbers(given)).encode())[1].split()
+                assert found == value, f"{name}: LEMON's flow is {found}, and max_flow gives {value}"
+                beside = f"{float(seconds) * 1000:.2f}"
             _, count, _, bound = phases.split()
-            row = f"{whole:.1f} | {two:.1f} | {four:.1f} | {reading:.1f} | {whole - reading:.1f} | {float(seconds) * 1000:.1f}"
+            row = f"{whole:.1f} | {two:.1f} | {four:.1f} | {reading:.1f} | {whole - reading:.1f} | {rounds} | {alone:.2f} | {beside}"
             print(f"| {name} | {count} | {bound} | {row} |", flush=True)
 
 

@@ -1,0 +1,143 @@
+//! Calls by machines.
+
+ghost use Rattle.std.specs.Prelude.{◌≡◌, IfOk};
+
+use crate::request::Way;
+use crate::tally::Tally;
+use mh_core::{Event, Limits, Machine, Reply};
+use mh_site::{Definition, Link, Listing, Name, Point, Site};
+use mh_tree::{Declared, Handle};
+use mh_type::{Outcome, Value};
+use std::alloc::Global;
+
+/// The calls of one machine, so that with their flushes they are at most 2^20 events.
+pub(crate) const CALLS_OF_A_MACHINE: u64 = 1_000_000;
+
+/// The calls before each flush.
+const CALLS_OF_A_FLUSH: u64 = 1_000;
+
+/// A definition of one point and one site of this tree. Where calls are to be flushed, the site has a link that
+/// each call with these arguments hits.
+pub(crate) fn define(
+    alloc: Global,
+    way: Way,
+    handle: &Handle,
+    arguments: &[Value],
+) -> anyhow::Result<Definition> {
+    let point = Point {
+        name: Name::new(alloc, "a")?,
+        cost: 5,
+    };
+    let mut links = Vec::new(alloc);
+    let mut key = None;
+    if let (Way::Flush, Some(first)) = (way, arguments.first()) {
+        links.push(link_of(alloc, first)?)?;
+        key = Some(0);
+    }
+    let site = Site {
+        name: Name::new(alloc, "f")?,
+        method_type: handle.method_type().copy(),
+        key,
+        target: Declared::new(handle)?,
+        links: Listing::from_vec(links),
+    };
+    let points = Listing::from_vec(vec![in alloc; point]?);
+    let sites = Listing::from_vec(vec![in alloc; site]?);
+    let definition = Definition::new(alloc, points, sites)?;
+    Ok(definition)
+}
+
+/// The link of calls with this argument, which needs no point.
+fn link_of(alloc: Global, argument: &Value) -> anyhow::Result<Link> {
+    Ok(Link {
+        when: argument.share()?,
+        weight: 1,
+        needs: Listing::from_vec(Vec::new(alloc)),
+    })
+}
+
+/// A machine of one worker with the widest limits.
+pub(crate) fn open(alloc: Global, definition: &Definition) -> anyhow::Result<Machine> {
+    let Some(limits) = Limits::new(1 << 20, 1 << 20, 1 << 40) else {
+        anyhow::bail!("the limits are out of range");
+    };
+    let machine = Machine::open(alloc, definition, 1, limits)?;
+    Ok(machine)
+}
+
+/// One call of the site, or why there was none.
+#[inline(never)]
+pub(crate) fn step_once(
+    machine: &mut Machine,
+    alloc: Global,
+    arguments: &[Value],
+) -> anyhow::Result<(Outcome, u64)> {
+    let call = Event::Call {
+        worker: 0,
+        site: 0,
+        arguments: Listing::from_vec(owned(alloc, arguments)?),
+    };
+    match machine.step(call) {
+        Reply::Called { outcome, steps } => Ok((outcome, steps)),
+        Reply::Refused(refusal) => anyhow::bail!("{refusal}"),
+        _ => anyhow::bail!("another reply"),
+    }
+}
+
+/// The arguments of one call, in room for just so many.
+fn owned(alloc: Global, arguments: &[Value]) -> anyhow::Result<Vec<Value>>
+    ensures value { IfOk result (λ v. v.items ≡ arguments.now) }
+{
+    let mut values = Vec::with_capacity(alloc, arguments.len())?;
+    for argument in arguments {
+        values.push(argument.share()?)?;
+    }
+    Ok(values)
+}
+
+/// A flush of the worker.
+fn flush(machine: &mut Machine) -> anyhow::Result<()> {
+    match machine.step(Event::Flush { worker: 0 }) {
+        Reply::Done => Ok(()),
+        Reply::Refused(refusal) => anyhow::bail!("{refusal}"),
+        _ => anyhow::bail!("another reply"),
+    }
+}
+
+/// So many calls, of which no machine makes more than it may.
+pub(crate) fn step_rounds(
+    alloc: Global,
+    way: Way,
+    handle: &Handle,
+    arguments: &[Value],
+    rounds: u64,
+) -> anyhow::Result<Tally> {
+    let definition = define(alloc, way, handle, arguments)?;
+    let mut tally = Tally::new();
+    for history in 0..rounds.div_ceil(CALLS_OF_A_MACHINE) {
+        let made = history.saturating_mul(CALLS_OF_A_MACHINE);
+        let calls = rounds.saturating_sub(made).min(CALLS_OF_A_MACHINE);
+        let mut machine = open(alloc, &definition)?;
+        tally = tally.join(make_history(&mut machine, alloc, way, arguments, calls)?)?;
+    }
+    Ok(tally)
+}
+
+/// So many calls of one machine, with their flushes.
+fn make_history(
+    machine: &mut Machine,
+    alloc: Global,
+    way: Way,
+    arguments: &[Value],
+    calls: u64,
+) -> anyhow::Result<Tally> {
+    let mut tally = Tally::new();
+    for call in 0..calls {
+        let (outcome, steps) = step_once(machine, alloc, arguments)?;
+        tally = tally.count(&outcome, steps)?;
+        if way == Way::Flush && call % CALLS_OF_A_FLUSH == CALLS_OF_A_FLUSH - 1 {
+            flush(machine)?;
+        }
+    }
+    Ok(tally)
+}

@@ -1,0 +1,39 @@
+// Preloaded below a program: once it has written `opened`, the growth whose number stands in REFUSE_AT, from 1, is
+// refused. When the program ends, standard error has the number of all growths after `opened`.
+typedef unsigned long size;
+extern void *dlsym(void *, const char *);
+extern char *getenv(const char *);
+extern long atol(const char *);
+extern int memcmp(const void *, const void *, size);
+extern int dprintf(int, const char *, ...);
+
+#define NEXT ((void *)-1L)
+
+static int opened;
+static long growths;
+
+static int is_refused(void) {
+    const char *at = getenv("REFUSE_AT");
+    return opened && __sync_add_and_fetch(&growths, 1) == (at ? atol(at) : 0);
+}
+
+void *malloc(size bytes) {
+    static void *(*next)(size);
+    if (!next) next = (void *(*)(size))dlsym(NEXT, "malloc");
+    return is_refused() ? 0 : next(bytes);
+}
+
+void *realloc(void *block, size bytes) {
+    static void *(*next)(void *, size);
+    if (!next) next = (void *(*)(void *, size))dlsym(NEXT, "realloc");
+    return is_refused() ? 0 : next(block, bytes);
+}
+
+long write(int file, const void *bytes, size count) {
+    static long (*next)(int, const void *, size);
+    if (!next) next = (long (*)(int, const void *, size))dlsym(NEXT, "write");
+    if (count >= 6 && memcmp(bytes, "opened", 6) == 0) opened = 1;
+    return next(file, bytes, count);
+}
+
+__attribute__((destructor)) static void tell(void) { dprintf(2, "%ld\n", growths); }
