@@ -90,7 +90,7 @@ fn steps_are_read(rt: HostRuntime) -> Result<(), Fail> {
     assert_eq!(rt; *other, 1);
     assert_eq!(rt; tree.handle().size(), 1);
     assert_eq!(rt; points.as_slice(), [1, 2].as_slice());
-    assert_eq!(rt; planned.snapshot(), 7);
+    assert_eq!(rt; planned.number(), 7);
     Ok(())
 }
 

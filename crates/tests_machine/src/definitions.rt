@@ -1,10 +1,10 @@
 //! A definition and its world, each public call once.
 
 use mh_site::{
-    Control, Definition, DefinitionFault, Link, Listing, Name, Point, Points, Retargeting, Site,
-    World,
+    Control, Definition, DefinitionFault, Installation, Link, Listing, Name, Point, Points,
+    Relinking, Retargeting, Site, World,
 };
-use mh_tree::{Declared, Handle};
+use mh_tree::{Declared, Handle, Prepared};
 use mh_type::{Kind, MethodType, Op, Value};
 use std::alloc::Global;
 use std::test::Fail;
@@ -121,5 +121,25 @@ fn controls_change_the_world(rt: HostRuntime) -> Result<(), Fail> {
     assert!(rt; world.valid() == &[true, false][..]);
     world.absorb(Control::Target(Retargeting::new(0, tree_of(alloc, Op::Ineg)?)?));
     assert_eq!(rt; world.front(), 2);
+    Ok(())
+}
+
+#[test]
+fn a_relinked_site_runs_another_tree_over_its_base(rt: HostRuntime) -> Result<(), Fail> {
+    let alloc = rt.alloc();
+    let site = site_of(alloc, None, Vec::new(alloc))?;
+    let definition = of_one_site(alloc, site)??;
+    let mut world = World::open(alloc, &definition)?;
+    let linked = Prepared::new(tree_of(alloc, Op::Ineg)?.handle())?;
+    let relinking = Relinking::new(0, linked, Vec::from_slice(alloc, &[3])?);
+    assert_eq!(rt; relinking.site(), 0);
+    assert_eq!(rt; relinking.linked().handle().size(), 1);
+    assert!(rt; relinking.kept() == &[3][..]);
+    let mut changes = Vec::new(alloc);
+    changes.push(relinking)?;
+    let installation = Installation::new(changes);
+    assert_eq!(rt; installation.as_slice().len(), 1);
+    world.absorb(Control::Install(installation));
+    assert_eq!(rt; world.front(), 1);
     Ok(())
 }
