@@ -36,6 +36,17 @@ impl Retargeting {
         let linked = prepared(base.handle())?;
         Ok(Retargeting { site, base, linked })
     }
+
+    // Another owner of the trees.
+    fn share(&self) -> Result<Retargeting, NoMemory>
+        ensures value { IfOk result (λ r. r ≡ self.now) }
+    {
+        Ok(Retargeting {
+            site: self.site,
+            base: self.base.share().map_err(|_| NoMemory)?,
+            linked: shared(&self.linked)?,
+        })
+    }
 }
 
 // A tree with its code.
@@ -43,6 +54,13 @@ pub(crate) fn prepared(handle: &Handle) -> Result<Prepared, NoMemory>
     ensures value { IfOk result (λ p. p ≡ handle.now) }
 {
     Prepared::new(handle).map_err(|_| NoMemory)
+}
+
+// Another owner of a tree and of its code.
+fn shared(tree: &Prepared) -> Result<Prepared, NoMemory>
+    ensures value { IfOk result (λ p. p ≡ tree.now) }
+{
+    tree.share().map_err(|_| NoMemory)
 }
 
 /// Points that become invalid together, by their numbers (`SwitchPoint.invalidateAll`, Java SE 17).
@@ -73,6 +91,15 @@ impl Points {
         ensures value { result.now ≡ self.now }
     {
         self.points.as_slice()
+    }
+
+    // The same numbers.
+    fn copied(&self) -> Result<Points, NoMemory>
+        ensures value { IfOk result (λ p. p ≡ self.now) }
+    {
+        let alloc = *self.points.allocator();
+        let points = self.points.to_vec(alloc).map_err(|_| NoMemory)?;
+        Ok(Points { points })
     }
 }
 
@@ -122,6 +149,16 @@ impl Relinking {
     {
         self.kept.as_slice()
     }
+
+    // Another owner of the tree.
+    fn share(&self) -> Result<Relinking, NoMemory>
+        ensures value { IfOk result (λ r. r ≡ self.now) }
+    {
+        let alloc = *self.kept.allocator();
+        let kept = self.kept.to_vec(alloc).map_err(|_| NoMemory)?;
+        let linked = shared(&self.linked)?;
+        Ok(Relinking::new(self.site, linked, kept))
+    }
 }
 
 /// New linked trees of several sites, which change together.
@@ -155,6 +192,18 @@ impl Installation {
     {
         self.changes.as_slice()
     }
+
+    // Another owner of each tree.
+    fn share(&self) -> Result<Installation, NoMemory>
+        ensures value { IfOk result (λ i. i ≡ self.now) }
+    {
+        let mut changes = Vec::new(*self.changes.allocator());
+        for change in self.changes.as_slice() {
+            let owned = change.share()?;
+            changes.push(owned).map_err(|_| NoMemory)?;
+        }
+        Ok(Installation { changes })
+    }
 }
 
 /// What changes a world, with all the memory that the change takes.
@@ -167,4 +216,18 @@ pub enum Control {
     Invalidate(Points),
     /// Links sites to other trees over their bases, in order. A site past the last is left out.
     Install(Installation),
+}
+
+impl Control {
+    /// The same change on trees with another owner. Refused where a growth was refused, or a further owner
+    /// of a tree. O(points), or O(links that are kept).
+    pub fn share(&self) -> Result<Control, NoMemory>
+        ensures value { IfOk result (λ c. c ≡ self.now) }
+    {
+        Ok(match self {
+            Control::Target(retargeting) => Control::Target(retargeting.share()?),
+            Control::Invalidate(points) => Control::Invalidate(points.copied()?),
+            Control::Install(installation) => Control::Install(installation.share()?),
+        })
+    }
 }

@@ -1,6 +1,6 @@
 //! Worlds: the tables that calls read.
 
-ghost use Rattle.std.specs.Prelude.{◌≡◌, ◌<◌, ◌+◌, ◌^◌, length, map, fold, slice_set, slice_index_or, IfOk, List, ◌++◌, ◌∷◌, []};
+ghost use Rattle.std.specs.Prelude.{◌≡◌, ◌<◌, ◌+◌, ◌^◌, length, map, fold, slice_set, slice_index_or, IfOk, OnOk, OnErr, List, ◌++◌, ◌∷◌, []};
 ghost use Rattle.std.specs.List.{All};
 ghost use Rattle.mh_site.specs.Worlds.{WorldState, opened, opening, after, replay, state_at, no_state, retargeted, relinked, relink_site, clear_point};
 ghost use Rattle.mh_site.specs.SiteStates.{site_state};
@@ -132,6 +132,24 @@ impl World {
             Control::Invalidate(points) => clear(&mut self.valid, &points),
             Control::Install(installation) => relink_all(&mut self.sites, installation),
         }
+    }
+
+    /// Takes a control in, on trees of which it makes another owner first: what `absorb` does, of a control
+    /// that goes on to another world.
+    ///
+    /// Refused where a growth was refused, or a further owner of a tree, or where 2^64 - 1 controls were
+    /// absorbed, and then nothing changes.
+    pub fn try_absorb(&mut self, control: &Control) -> Result<(), NoMemory>
+        ensures step { OnOk result (self.new ≡ after self.old control.now) }
+        ensures replays { OnOk result ((w : WorldState) → (controls : List Control) → self.old ≡ replay w controls → self.new ≡ replay w (controls ++ control.now ∷ [])) }
+        ensures refused { OnErr result (self.new ≡ self.old) }
+    {
+        if self.front == u64::MAX {
+            return Err(NoMemory);
+        }
+        let owned = control.share()?;
+        self.absorb(owned);
+        Ok(())
     }
 }
 
