@@ -14,6 +14,8 @@ pub mod PlanTests
 pub mod BestPlans
 pub mod Caches
 pub mod Calls
+pub mod StandingTrees
+pub mod Changing
 pub mod Runs
 pub mod HitLinks
 pub mod CountedHits

@@ -20,7 +20,8 @@ use Rattle.mh_core.specs.Rows.{tests}
 use Rattle.mh_core.specs.Snapshots.{SnapshotState, snapshots_of}
 use Rattle.mh_core.specs.Tests.{Passes, Refuses}
 
--- its records, newest first, with what was made of them: the world, the totals, the snapshots and the plans, newest first
+-- its records, newest first, with what was made of them: the world, the totals, the snapshots and the plans, newest first;
+-- and for how many more records there is memory
 pub record BookState : Type 0 where
   pub definition : DefinitionData
   pub limits : LimitsData
@@ -29,11 +30,12 @@ pub record BookState : Type 0 where
   pub totals : TotalsState
   pub snapshots : List SnapshotState
   pub plans : List PublishedPlan
+  pub room : ℕ
 
 -- a book without records
 abbrev pub opened_book : DefinitionData → ℕ → LimitsData → BookState
 opened_book d workers l =
-    record { definition = d; limits = l; records = []; world = opened d; totals = opened_totals (length (links d)) workers l.total; snapshots = []; plans = [] }
+    record { definition = d; limits = l; records = []; world = opened d; totals = opened_totals (length (links d)) workers l.total; snapshots = []; plans = []; room = 0 }
 
 -- each record passed its tests, where so many events had been accepted
 abbrev pub Legal : DefinitionData → LimitsData → List Record → Type 0

@@ -21,10 +21,10 @@ coded_limits = code_by (ℕ × (ℕ × ℕ)) (coded× coded_ℕ (coded× coded_�
 
 abbrev pub coded_book : Coded BookState
 coded_book =
-    code_by ((DefinitionData × LimitsData) × ((List Record × WorldState) × (TotalsState × (List SnapshotState × List PublishedPlan))))
-    (coded× (coded× coded_definition coded_limits) (coded× (coded× (coded_list entry.the_row.coded) coded_world) (coded× coded_totals (coded× (coded_list coded_snapshot) (coded_list coded_published)))))
-    (λ b. ((b.definition, b.limits), ((b.records, b.world), (b.totals, (b.snapshots, b.plans)))))
-    (λ p. record { definition = p.0.0; limits = p.0.1; records = p.1.0.0; world = p.1.0.1; totals = p.1.1.0; snapshots = p.1.1.1.0; plans = p.1.1.1.1 }) (λ _. refl)
+    code_by ((DefinitionData × LimitsData) × ((List Record × WorldState) × ((TotalsState × ℕ) × (List SnapshotState × List PublishedPlan))))
+    (coded× (coded× coded_definition coded_limits) (coded× (coded× (coded_list entry.the_row.coded) coded_world) (coded× (coded× coded_totals coded_ℕ) (coded× (coded_list coded_snapshot) (coded_list coded_published)))))
+    (λ b. ((b.definition, b.limits), ((b.records, b.world), ((b.totals, b.room), (b.snapshots, b.plans)))))
+    (λ p. record { definition = p.0.0; limits = p.0.1; records = p.1.0.0; world = p.1.0.1; totals = p.1.1.0.0; snapshots = p.1.1.1.0; plans = p.1.1.1.1; room = p.1.1.0.1 }) (λ _. refl)
 
 abbrev pub coded_machine : Coded MachineState
 coded_machine =

@@ -13,6 +13,8 @@ pub mod Histories
 pub mod Legal
 pub mod Snapshots
 pub mod Books
+pub mod Pending
+pub mod Standing
 pub mod Codes
 pub mod BookViews
 pub mod MachineViews

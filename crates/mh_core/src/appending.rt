@@ -17,9 +17,8 @@ use crate::plan::{PublishedPlan, SharedPlan};
 use crate::record::Record;
 use crate::snapshot::Snapshot;
 use mh_ledger::Ledger;
-use mh_site::{Control, Installation, Listing, Points, Retargeting};
+use mh_site::Listing;
 use mh_tree::Declared;
-use std::alloc::Global;
 
 impl Book {
     pub(crate) fn append_flush(&mut self, calls: usize, ledger: &mut Ledger) -> Result<(), NoMemory>
@@ -52,11 +51,8 @@ impl Book {
         ensures totals { self.new.totals ≡ self.old.totals }
         ensures refused { OnErr result (self.new ≡ self.old) }
     {
-        let base = another(&tree)?;
-        let retargeting = Retargeting::new(site, base)?;
-        self.records.reserve(1)?;
-        self.records.push_reserved(Record::Targeted { site, tree });
-        self.world.absorb(Control::Target(retargeting));
+        let change = self.ready_target(calls, site, tree)?;
+        self.commit(change);
         Ok(())
     }
 
@@ -70,12 +66,8 @@ impl Book {
         ensures totals { self.new.totals ≡ self.old.totals }
         ensures refused { OnErr result (self.new ≡ self.old) }
     {
-        let recorded = copied(self.alloc, &points)?;
-        self.records.reserve(1)?;
-        let entry = Record::Invalidated { points: recorded };
-        self.records.push_reserved(entry);
-        let control = Points::new(points.into_vec());
-        self.world.absorb(Control::Invalidate(control));
+        let change = self.ready_points(calls, points)?;
+        self.commit(change);
         Ok(())
     }
 
@@ -131,27 +123,8 @@ impl Book {
         ensures totals { self.new.totals ≡ self.old.totals }
         ensures refused { OnErr result (self.new ≡ self.old) }
     {
-        let report = self.report(plan)?;
-        let changes = self.relinkings(plan)?;
-        self.records.reserve(1)?;
-        self.records.push_reserved(Record::Installed { plan });
-        let control = Installation::new(changes);
-        self.world.absorb(Control::Install(control));
+        let (change, report) = self.ready_install(calls, plan)?;
+        self.commit(change);
         Ok(report)
     }
-}
-
-// Another owner of a tree.
-fn another(tree: &Declared) -> Result<Declared, NoMemory>
-    ensures value { IfOk result (λ t. t ≡ tree.now) }
-{
-    tree.share().map_err(|_| NoMemory)
-}
-
-// The same numbers.
-fn copied(alloc: Global, numbers: &Listing<u32>) -> Result<Listing<u32>, NoMemory>
-    ensures value { IfOk result (λ copied. copied ≡ numbers.now) }
-{
-    let items = numbers.as_slice().to_vec(alloc)?;
-    Ok(Listing::from_vec(items))
 }

@@ -15,9 +15,9 @@ use mh_site::{Definition, Link, Listing};
 use mh_type::{Value, same_value};
 use std::alloc::Global;
 
-// The link that a call hits: the one of its site whose key is the argument at the key place. At most
-// four keys are compared.
-pub(crate) fn hit_link(definition: &Definition, site: usize, arguments: &[Value]) -> Option<usize>
+/// The link that a call hits: the one of its site whose key is the argument at the key place. At most
+/// four keys are compared.
+pub fn hit_link(definition: &Definition, site: usize, arguments: &[Value]) -> Option<usize>
     requires inside { site < length definition.now.sites }
     requires fits { Fits (site_at definition.now site).method_type arguments.now }
     ensures hit { IfSome result (λ j. (j < length (links_of definition.now)) × (is_hit definition.now site arguments.now j ≡ true)) }

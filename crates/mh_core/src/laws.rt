@@ -5,6 +5,7 @@ ghost use Rattle.mh_network.specs.Selection.{IsBest, member};
 ghost use Rattle.mh_cert.specs.Plans.{Matches};
 ghost use Rattle.mh_cert.specs.declared.plan.Plan.{Plan};
 ghost use Rattle.mh_site.specs.Defined.{DefinitionData};
+ghost use Rattle.mh_site.specs.Lawful.{IsDefinition};
 ghost use Rattle.mh_site.specs.Worlds.{state_at};
 ghost use Rattle.mh_core.specs.declared.record.Record.{Record};
 ghost use Rattle.mh_core.specs.declared.record.Record.TheVariants.{Published};
@@ -13,9 +14,12 @@ ghost use Rattle.mh_site.specs.Links.{links};
 ghost use Rattle.mh_core.specs.declared.event.Event.{Event};
 ghost use Rattle.mh_core.specs.Histories.{records};
 ghost use Rattle.mh_core.specs.Hits.{total_calls};
+ghost use Rattle.mh_core.specs.Books.{Legal};
 ghost use Rattle.mh_core.specs.Installations.{linked, kept};
+ghost use Rattle.mh_core.specs.Limits.{LimitsData};
 ghost use Rattle.mh_core.specs.Records.{base, total, version, valid_points};
 ghost use Rattle.mh_core.specs.Replayed.{world};
+ghost use Rattle.mh_core.specs.Standing.{AreStanding};
 
 use crate::book::Book;
 
@@ -25,6 +29,12 @@ pub fn records_look_back()
     ensures sites { (d : DefinitionData) → (r : List Record) → (s : ℕ) → s < length d.sites →
         state_at (world d r) s ≡ record { base = base d r s; linked = linked d r s; kept = kept d r s; version = version r s } }
     ensures points { (d : DefinitionData) → (r : List Record) → (world d r).valid ≡ valid_points d r }
+{}
+
+/// In the world after legal records the trees of each site have its type and name declared points alone, and
+/// the linked tree, which calls run, has the outcomes of the base tree.
+pub fn legal_worlds_stand()
+    ensures trees { (d : DefinitionData) → (l : LimitsData) → (r : List Record) → IsDefinition d → Legal d l r → AreStanding d (world d r) }
 {}
 
 /// The totals after the records of a history are its hits that a flush of the same worker follows.

@@ -15,6 +15,7 @@ mod installing;
 mod laws;
 mod limits;
 mod machine;
+mod pending;
 mod plan;
 mod problem;
 mod record;
@@ -27,12 +28,14 @@ pub use book::Book;
 pub use call::AcceptedCall;
 pub use event::Event;
 pub use fault::NoMemory;
+pub use hits::hit_link;
 pub use install_report::{InstallReport, Linkage, SiteLinkage};
-pub use laws::{published_plans_are_best, records_look_back, totals_are_sums};
+pub use laws::{legal_worlds_stand, published_plans_are_best, records_look_back, totals_are_sums};
 pub use limits::{
     LARGEST_LEDGER, LARGEST_TOTAL, LONGEST_HISTORY, Limits, MOST_PLANS, MOST_SNAPSHOTS,
 };
 pub use machine::Machine;
+pub use pending::PendingChange;
 pub use plan::SharedPlan;
 pub use record::Record;
 pub use refusal::Refusal;

@@ -1,0 +1,22 @@
+-- Worlds whose trees calls can run.
+use Rattle.std.specs.Prelude.{◌≡◌, ℕ, ◌<◌, ◌≤◌, Bool, List, length}
+use Rattle.mh_type.specs.declared.value.Value.{Value}
+use Rattle.mh_type.specs.Fits.{Fits}
+use Rattle.mh_tree.specs.Limits.{point_bound}
+use Rattle.mh_tree.specs.Meaning.{mean}
+use Rattle.mh_tree.specs.Typing.{IsTyped}
+use Rattle.mh_site.specs.Defined.{DefinitionData, site_at}
+use Rattle.mh_site.specs.Worlds.{WorldState, state_at}
+
+-- the trees of a site have its type and name declared points alone, and the linked tree is faithful to the base tree:
+-- whichever points are valid, it has the same outcome on all arguments
+pub record IsStanding (d : DefinitionData) (w : WorldState) (s : ℕ) : Type 0 where
+  pub base_type : (state_at w s).base.signature ≡ (site_at d s).method_type
+  pub linked_type : (state_at w s).linked.signature ≡ (site_at d s).method_type
+  pub base_points : point_bound (state_at w s).base.tree ≤ length d.points
+  pub linked_points : point_bound (state_at w s).linked.tree ≤ length d.points
+  pub faithful : IsTyped (state_at w s).base.tree (site_at d s).method_type → (valid : List Bool) → (a : List Value) → Fits (site_at d s).method_type a
+      → mean valid (state_at w s).linked.tree a ≡ mean valid (state_at w s).base.tree a
+
+abbrev pub AreStanding : DefinitionData → WorldState → Type 0
+AreStanding d w = (s : ℕ) → s < length d.sites → IsStanding d w s
