@@ -1,0 +1,21 @@
+-- The ledgers and the passes of an opening.
+use Rattle.std.proofs.Common.{◌≡◌, ◌<◌, ℕ, List, [], ◌∷◌, ◌∙◌, ap, arith, length, map, refl}
+use Rattle.std.specs.List.{All, range_with_len}
+use Rattle.std.proofs.lemmas.List.{get_or-map, length-map, length-replicate}
+use Rattle.std.proofs.lemmas.Simd.{map-map}
+use Rattle.mh_ledger.specs.Ledgers.{LedgerState, opened_ledger}
+use Rattle.mh_site.specs.Defined.{DefinitionData}
+use Rattle.mh_site.specs.Links.{links}
+use Rattle.mh_live.specs.Passes.{PassState, new_pass, new_passes}
+
+pub opened_lengths : (count limit workers : ℕ) → All (λ (l : LedgerState). length l.unflushed ≡ count) (map (opened_ledger count limit) (range_with_len 0 workers))
+opened_lengths count limit workers i l h =
+    let inside : i < length (range_with_len 0 workers) = omega (arith, h, length-map (range_with_len 0 workers) (opened_ledger count limit)) in
+    ap (λ (m : LedgerState). length m.unflushed) (get_or-map (opened_ledger count limit) (range_with_len 0 workers) i 0 l inside) ∙ length-replicate count 0
+
+pub ledgers_back : (ls : List LedgerState) → map (λ (p : PassState). p.ledger) (map new_pass ls) ≡ ls
+ledgers_back [] = refl
+ledgers_back (l ∷ ls) = ap (λ (r : List LedgerState). l ∷ r) (ledgers_back ls)
+
+pub passes_are : (d : DefinitionData) (limit workers : ℕ) → map new_pass (map (opened_ledger (length (links d)) limit) (range_with_len 0 workers)) ≡ new_passes d limit workers
+passes_are d limit workers = map-map new_pass (opened_ledger (length (links d)) limit) (range_with_len 0 workers)

@@ -1,0 +1,11 @@
+pub mod Prefixes
+pub mod Adding
+pub mod Ruling
+pub mod Replays
+pub mod Opened
+pub mod Entered
+pub mod Fresh
+pub mod Showing
+pub mod Answering
+pub mod Receiving
+pub mod RollCalls

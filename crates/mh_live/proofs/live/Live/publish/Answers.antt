@@ -1,0 +1,9 @@
+use Rattle.std.proofs.lemmas.Result.{MatchResult-weaker}
+use Rattle.mh_core.specs.declared.record.Record.TheVariants.{Published}
+use Rattle.mh_live.proofs.Receiving.{refusal_of}
+use Rattle.mh_live.proofs.live.Live.publish.Goals as goal
+
+pub returns-clause-refused : goal.returns-clause-refused
+returns-clause-refused g c =
+    MatchResult-weaker c.publish.result c.publish.ensures.refused (λ _ always. always)
+    (λ told legal. refusal_of g.N.Name.definition _ (Published c.args.snapshot c.args.plan) told c.publish.ensures.office legal)

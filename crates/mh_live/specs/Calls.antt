@@ -1,0 +1,50 @@
+-- What a call of a pass answers, counts and is refused.
+use Rattle.std.specs.Prelude.{ℕ, ◌≡◌, ◌<◌, ◌≤◌, true, false, List, length}
+use Rattle.mh_type.specs.Fits.{Fits}
+use Rattle.mh_type.specs.declared.value.Value.{Value}
+use Rattle.mh_tree.specs.Meaning.{mean, steps}
+use Rattle.mh_eval.specs.Entered.{EntersPlain}
+use Rattle.mh_ledger.specs.Ledgers.{LedgerState, at, with_hit}
+use Rattle.mh_site.specs.Defined.{DefinitionData, site_at}
+use Rattle.mh_site.specs.Worlds.{state_at}
+use Rattle.mh_site.specs.declared.control.Control.{Control}
+use Rattle.mh_core.specs.Hits.{hits}
+use Rattle.mh_live.specs.Rules.{world_after}
+use Rattle.mh_live.specs.declared.call_fault.CallFault.{CallFault}
+use Rattle.mh_live.specs.declared.call_fault.CallFault.TheVariants.{NoSite, WrongType, LedgerFull, NotEntered, NoMemory}
+use Rattle.mh_live.specs.declared.pass.Answer.{Answer}
+
+-- all tests pass: the site is there, the arguments fit, and the ledger has room where the call hits a link
+pub record MayCall (d : DefinitionData) (l : LedgerState) (s : ℕ) (a : List Value) : Type 0 where
+  pub inside : s < length d.sites
+  pub fits : Fits (site_at d s).method_type a
+  pub room : (j : ℕ) → hits d s a j ≡ true → at l.unflushed j < l.limit
+
+-- by the world after one list of controls: what the base tree gives, the nodes of the linked tree that were entered, and how long the list is
+pub record AnswersBy (d : DefinitionData) (controls : List Control) (s : ℕ) (a : List Value) (answer : Answer) : Type 0 where
+  pub value : let w = world_after d controls in answer.outcome ≡ mean w.valid (state_at w s).base.tree a
+  pub entered : let w = world_after d controls in answer.steps ≡ steps w.valid (state_at w s).linked.tree a
+  pub count : answer.front ≡ length controls
+
+-- the link that is hit has one more hit, and no other
+pub record Counts (d : DefinitionData) (s : ℕ) (a : List Value) (l new : LedgerState) : Type 0 where
+  pub hit : (j : ℕ) → hits d s a j ≡ true → new ≡ with_hit l j
+  pub none : ((j : ℕ) → hits d s a j ≡ false) → new ≡ l
+
+-- the first test that fails is told; one of the last two, where none does
+abbrev pub RefusesCall : DefinitionData → LedgerState → ℕ → List Value → CallFault → Type 0
+RefusesCall d l s a NoSite = length d.sites ≤ s
+RefusesCall d l s a WrongType = (s < length d.sites) × (Fits (site_at d s).method_type a → ⊥)
+RefusesCall d l s a LedgerFull = (s < length d.sites) × Fits (site_at d s).method_type a × ((j : ℕ) × (hits d s a j ≡ true) × (at l.unflushed j ≡ l.limit))
+RefusesCall d l s a NotEntered = MayCall d l s a
+RefusesCall d l s a NoMemory = MayCall d l s a
+
+-- it was refused before a world was entered
+abbrev pub IsUntried : CallFault → Type 0
+IsUntried NotEntered = ⊥
+IsUntried NoMemory = ⊥
+IsUntried _ = Unit {0}
+
+-- by the world after these controls the linked tree enters no node that has String in its type, so that it takes no memory
+abbrev pub TakesNoMemory : DefinitionData → List Control → ℕ → List Value → Type 0
+TakesNoMemory d controls s a = let w = world_after d controls in EntersPlain w.valid (state_at w s).linked.tree a

@@ -1,0 +1,11 @@
+pub mod Pasts
+pub mod Rules
+pub mod Steps
+pub mod Passes
+pub mod Calls
+pub mod Openings
+pub mod Offices
+pub mod Receipts
+pub mod Settled
+pub mod Codes
+pub mod Faults

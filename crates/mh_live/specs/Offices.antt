@@ -1,0 +1,40 @@
+-- What contracts see of an office and of its receipts.
+use Rattle.std.specs.Prelude.{◌≡◌, Bool, false, List, [], fold, reverse}
+use mathlib.Core.List.{IsPrefix}
+use Rattle.logbook.specs.Pages.{Book}
+use Rattle.mh_site.specs.Defined.{DefinitionData}
+use Rattle.mh_site.specs.declared.control.Control.{Control}
+use Rattle.mh_core.specs.Books.{BookState}
+use Rattle.mh_core.specs.Replayed.{controls}
+use Rattle.mh_core.specs.declared.reply.Reply.{Reply}
+use Rattle.mh_live.specs.Rules.{Stands}
+use Rattle.mh_live.specs.Steps.{stepped}
+use Rattle.mh_live.specs.declared.published.Published.{Published}
+use Rattle.mh_live.specs.declared.published.Step.{Step}
+
+-- the book, the list of controls that passes read now, oldest first, and whether a publication was refused
+pub record OfficeState : Type 0 where
+  pub book : BookState
+  pub published : List Control
+  pub closed : Bool
+
+-- the controls of a book's records, oldest first
+abbrev pub list_of : BookState → List Control
+list_of b = reverse (controls b.definition b.records)
+
+-- The list that is published is that of the records. Nothing is pending while the office is open
+pub record InStep (name : Book) (d : DefinitionData) (shown : Published) (pending : List Step) (front : List Control) (b : BookState) (closed : Bool) : Type 0 where
+  pub stands : Stands name d shown
+  pub published : shown.past.log ≡ list_of b
+  pub known : front ≡ list_of b
+  pub still : closed ≡ false → pending ≡ []
+  pub definition : b.definition ≡ d
+
+-- what is pending leads to a world that may be published
+abbrev pub CanShow : Book → DefinitionData → Published → List Step → Type 0
+CanShow name d shown pending = (next : Published) → next ≡ fold stepped shown pending → Stands name d next × IsPrefix shown.past.log next.past.log
+
+-- what was answered, and the list of controls up to it
+pub record ReceiptState : Type 0 where
+  pub reply : Reply
+  pub front : List Control

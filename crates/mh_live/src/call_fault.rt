@@ -1,0 +1,42 @@
+//! Why calls are refused.
+
+ghost use Rattle.std.specs.Prelude.{◌≡◌};
+ghost use Rattle.mh_live.specs.Faults.{call_fault_number};
+
+use thiserror::Error;
+
+/// Why a call was refused: the first test that failed, in the order of their numbers, of which `NoMemory`
+/// comes last. A refused call counts no hit.
+#[derive(Clone, Copy, Debug, PartialEq, Eq, Error)]
+pub enum CallFault {
+    /// A growth or a further owner of a text was refused.
+    #[error("1 NoMemory")]
+    NoMemory,
+    /// A site that is not there.
+    #[error("3 NoSite")]
+    NoSite,
+    /// Arguments that do not fit the site's type.
+    #[error("5 WrongType")]
+    WrongType,
+    /// The call hits a link of which the pass holds as many unflushed hits as it may.
+    #[error("11 LedgerFull")]
+    LedgerFull,
+    /// The office is gone, or the published world was behind what the pass has seen.
+    #[error("15 NotEntered")]
+    NotEntered,
+}
+
+impl CallFault {
+    /// The fault's number.
+    pub fn number(self) -> u8
+        ensures value { result ≡ call_fault_number self }
+    {
+        match self {
+            CallFault::NoMemory => 1,
+            CallFault::NoSite => 3,
+            CallFault::WrongType => 5,
+            CallFault::LedgerFull => 11,
+            CallFault::NotEntered => 15,
+        }
+    }
+}

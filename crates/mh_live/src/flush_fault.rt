@@ -1,0 +1,30 @@
+//! Why flushes are refused.
+
+ghost use Rattle.std.specs.Prelude.{◌≡◌};
+ghost use Rattle.mh_live.specs.Faults.{flush_fault_number};
+
+use mh_core::Refusal;
+use thiserror::Error;
+
+/// Why the hits of a pass were not flushed. Nothing changed.
+#[derive(Clone, Copy, Debug, PartialEq, Eq, Error)]
+pub enum FlushFault {
+    /// The totals do not hold the ledger. It is told before all others.
+    #[error("16 NotHeld")]
+    NotHeld,
+    /// The book refused the flush.
+    #[error("{0}")]
+    Refused(Refusal),
+}
+
+impl FlushFault {
+    /// The fault's number: 16, or that of the refusal.
+    pub fn number(self) -> u8
+        ensures value { result ≡ flush_fault_number self }
+    {
+        match self {
+            FlushFault::NotHeld => 16,
+            FlushFault::Refused(refusal) => refusal.number(),
+        }
+    }
+}

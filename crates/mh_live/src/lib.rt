@@ -1,0 +1,40 @@
+//! Running threads over a book: many threads call at once without a lock, while one at a time, under a lock,
+//! changes the world.
+//!
+//! An `Opening` gives a `Live`, which all threads share, and a `Pass` for each worker. There are two copies of
+//! the world. Calls read one of them; a change is made in the other, which calls read from then on, and then
+//! in the first. So a call is answered by one world, and takes no lock, no memory for it and no owner of a
+//! tree.
+//!
+//! All that changes a world is in one list of controls, of which each published world is the replay of a
+//! beginning. What a pass has seen, and the receipt of a change, are beginnings of that list: a pass that has
+//! learnt a receipt answers by no world before it.
+#![tactic(auto)]
+
+mod call_fault;
+mod flush_fault;
+mod front;
+mod live;
+mod office;
+mod open_fault;
+mod opening;
+mod pass;
+mod published;
+mod publishing;
+mod receipt;
+mod roll_call;
+mod rule;
+mod settle_fault;
+mod settled;
+
+pub use call_fault::CallFault;
+pub use flush_fault::FlushFault;
+pub use front::{Front, Name};
+pub use live::Live;
+pub use office::Office;
+pub use open_fault::OpenFault;
+pub use opening::{MOST_WORKERS, Opening};
+pub use pass::{Answer, Pass};
+pub use receipt::Receipt;
+pub use settle_fault::SettleFault;
+pub use settled::{Settled, Unsettled};

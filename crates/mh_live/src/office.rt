@@ -1,0 +1,310 @@
+//! A book with the writer of the published world.
+
+ghost use Rattle.std.specs.Prelude.{◌≡◌, ◌⊎◌, ◌+◌, ◌<◌, ◌++◌, ◌∷◌, ◌^◌, [], ℕ, List, false, true, drop, fold, length, slice_set, IfErr, IfOk, MatchBool, MatchResult, OnErr, OnOk};
+ghost use Rattle.mh_ledger.specs.Ledgers.{AreHeld, Holds, LedgerState, settled};
+ghost use Rattle.mh_core.specs.Pending.{IsReady};
+ghost use Rattle.mh_core.specs.Records.{hits_in};
+ghost use Rattle.mh_core.specs.declared.record.Record.TheVariants.{Flushed, Installed, Invalidated, Published, Snapped, Targeted};
+ghost use Rattle.mh_live.specs.Offices.{list_of};
+ghost use Rattle.mh_core.specs.Problems.{IsTaken};
+ghost use Rattle.mh_live.specs.Receipts.{Accepts, IsLegalFault, IsLegalRefusal, IsOffice, IsUntouched, MayClose, reply_to};
+ghost use Rattle.mh_live.specs.Rules.{Stands};
+
+use crate::flush_fault::FlushFault;
+use crate::front::{Front, Head, Name};
+use crate::publishing::{Halt, show};
+use crate::receipt::Receipt;
+use crate::rule::WorldWriter;
+use mh_core::{Book, PendingChange, Refusal, Reply, SharedPlan};
+use mh_ledger::Ledger;
+use mh_site::Listing;
+use mh_tree::Declared;
+use std::marker::Model;
+use std::mem::ManuallyDrop;
+use std::sync::Wait;
+
+/// A book with the writer of the published world. What changes the world is published in one step, and the
+/// book takes it after that. End it by `close`: a drop leaks the published world, since it may not wait for
+/// readers.
+pub struct Office<N: Name> {
+    book: Book,
+    head: Head<N>,
+    front: Front<N>,
+    writer: WorldWriter<N>,
+    closed: bool,
+}
+
+impl<N: Name> Model for Office<N> {
+    ghost use Rattle.std.specs.Prelude.{drop};
+    ghost use Rattle.mh_live.specs.Codes.{coded_office};
+    ghost use Rattle.mh_live.specs.Offices.{OfficeState, InStep};
+
+    ghost Value = { OfficeState };
+
+    ghost coded = { coded_office };
+
+    ghost view = { λ o. record { book = o.book; published = o.writer.desk.shown.value.past.log; closed = o.closed } };
+
+    ghost invariant = { λ o. InStep N.book N.definition o.writer.desk.shown.value (drop o.writer.behind o.writer.log.items) o.front o.book o.closed };
+}
+
+impl<N: Name> Drop for Office<N> {
+    fn drop(self) {
+        let Self {
+            book: _,
+            head: _,
+            front: _,
+            writer,
+            closed: _,
+        } = self;
+        leak(writer);
+    }
+}
+
+/// Gives a writer up with no wait. Its two worlds are leaked.
+pub fn leak<N: Name>(writer: WorldWriter<N>) {
+    let _leaked = unsafe { ManuallyDrop::new_unchecked(writer) };
+}
+
+impl<N: Name> Office<N> {
+    /// The office of a book without records, and of the world before any control.
+    pub(crate) fn new(
+        book: Book,
+        head: Head<N>,
+        front: Front<N>,
+        writer: WorldWriter<N>,
+    ) -> Office<N>
+        requires book { (book.records ≡ []) × (book.definition ≡ N.definition) }
+        requires front { front ≡ [] }
+        requires writer { Stands N.book N.definition writer.desk.shown.value × (writer.desk.shown.value.past.log ≡ []) × (drop writer.behind writer.log.items ≡ []) }
+        ensures value { (result.book ≡ book) × (result.published ≡ []) × (result.closed ≡ false) }
+    {
+        Office {
+            book,
+            head,
+            front,
+            writer,
+            closed: false,
+        }
+    }
+
+    /// The book.
+    pub fn book(&self) -> &Book
+        ensures value { result.now ≡ self.now.book }
+        ensures office { IsOffice N.definition self.now }
+    {
+        // Read for what a book keeps.
+        let _records = self.book.records();
+        let _front = &self.front;
+        &self.book
+    }
+
+    /// The list of controls that passes read: that of the records.
+    pub fn front(&self) -> &Front<N>
+        ensures value { result.now ≡ self.now.published }
+    {
+        &self.front
+    }
+
+    /// Whether a publication was refused half way. From then on no control is accepted.
+    pub fn closed(&self) -> bool
+        ensures value { result ≡ self.now.closed }
+    {
+        self.closed
+    }
+
+    /// Adds the hits that a ledger has not flushed to the totals. It changes no world, and publishes nothing.
+    ///
+    /// Refused with `NotHeld` where the totals do not hold the ledger, and then as by the book; nothing changes.
+    pub fn flush(&mut self, ledger: &mut Ledger) -> Result<Receipt<N>, FlushFault>
+        ensures office { IsOffice N.definition self.old }
+        ensures held { OnOk result (Holds self.old.book.totals ledger.old) }
+        ensures accepted { IfOk result (λ r. Accepts self.old (Flushed ledger.old.worker (hits_in ledger.old.unflushed)) r self.new) }
+        ensures ledger { OnOk result (ledger.new ≡ settled ledger.old) }
+        ensures others { OnOk result ((ledgers : List LedgerState) → AreHeld self.old.book.totals ledgers → AreHeld self.new.book.totals (slice_set ledgers ledger.old.worker ledger.new)) }
+        ensures refused { IfErr result (IsLegalFault self.old.book ledger.old) }
+        ensures kept { OnErr result ((self.new ≡ self.old) × (ledger.new ≡ ledger.old)) }
+    {
+        // Read for what a book keeps.
+        let _records = self.book.records();
+        if !self.book.holds(ledger) {
+            return Err(FlushFault::NotHeld);
+        }
+        match self.book.flush(ledger) {
+            Ok(()) => Ok(Receipt::new(Reply::Done, self.front.copy())),
+            Err(refusal) => Err(FlushFault::Refused(refusal)),
+        }
+    }
+
+    /// Takes a snapshot, and answers its number, from 1. It changes no world, and publishes nothing.
+    ///
+    /// Refused as by the book; nothing changes.
+    #[tactic(auto, using(crate::proofs::Answering::snapshots_taken))]
+    pub fn snapshot(&mut self) -> Result<Receipt<N>, Refusal>
+        ensures office { IsOffice N.definition self.old }
+        ensures accepted { IfOk result (λ r. Accepts self.old Snapped r self.new) }
+        ensures totals { self.new.book.totals ≡ self.old.book.totals }
+        ensures refused { IfErr result (IsLegalRefusal self.old.book Snapped) }
+        ensures kept { OnErr result (self.new ≡ self.old) }
+    {
+        // Read for what a book keeps.
+        let _records = self.book.records();
+        let snapshot = self.book.snapshot()?;
+        Ok(Receipt::new(Reply::Taken { snapshot }, self.front.copy()))
+    }
+
+    /// Publishes a plan for the problem of a snapshot, and answers the plan and its number, from 1. It changes
+    /// no world, and passes read what they read before.
+    ///
+    /// Refused as by the book; nothing changes.
+    #[tactic(auto, using(crate::proofs::Answering::plans_published))]
+    pub fn publish(&mut self, snapshot: usize, plan: SharedPlan) -> Result<Receipt<N>, Refusal>
+        ensures office { IsOffice N.definition self.old }
+        ensures accepted { IfOk result (λ r. Accepts self.old (Published snapshot plan) r self.new) }
+        ensures totals { self.new.book.totals ≡ self.old.book.totals }
+        ensures refused { IfErr result (IsLegalRefusal self.old.book (Published snapshot plan)) }
+        ensures kept { OnErr result (self.new ≡ self.old) }
+    {
+        // Read for what a book keeps.
+        let _records = self.book.records();
+        let Ok(recorded) = plan.share() else {
+            return Err(unshared(&self.book, snapshot));
+        };
+        let number = self.book.publish(snapshot, recorded)?;
+        Ok(Receipt::new(Reply::Published { number, plan }, self.front.copy()))
+    }
+
+    /// Retargets a site (`MutableCallSite.setTarget`), by one publication.
+    ///
+    /// Refused as by the book, and with `NoMemory` where no test fails and the office is closed, or what passes
+    /// read cannot be changed. Records and what passes read stay as they are.
+    pub fn target<R: Wait>(
+        &mut self,
+        rt: &R,
+        site: usize,
+        tree: Declared,
+    ) -> Result<Receipt<N>, Refusal>
+        ensures office { IsOffice N.definition self.old }
+        ensures accepted { IfOk result (λ r. Accepts self.old (Targeted site tree) r self.new) }
+        ensures open { OnOk result (self.old.closed ≡ false) }
+        ensures totals { self.new.book.totals ≡ self.old.book.totals }
+        ensures refused { IfErr result (IsLegalRefusal self.old.book (Targeted site tree)) }
+        ensures kept { OnErr result (IsUntouched self.old self.new) }
+        ensures closed { IfErr result (λ told. MayClose self.old told self.new) }
+    {
+        // Read for what a book keeps.
+        let _records = self.book.records();
+        let change = self.book.prepare_target(site, tree)?;
+        self.accept(rt, change, Reply::Done)
+    }
+
+    /// Invalidates points (`SwitchPoint.invalidateAll`), by one publication.
+    ///
+    /// Refused as by the book, and with `NoMemory` where no test fails and the office is closed, or what passes
+    /// read cannot be changed. Records and what passes read stay as they are.
+    pub fn invalidate<R: Wait>(
+        &mut self,
+        rt: &R,
+        points: Listing<u32>,
+    ) -> Result<Receipt<N>, Refusal>
+        ensures office { IsOffice N.definition self.old }
+        ensures accepted { IfOk result (λ r. Accepts self.old (Invalidated points) r self.new) }
+        ensures open { OnOk result (self.old.closed ≡ false) }
+        ensures totals { self.new.book.totals ≡ self.old.book.totals }
+        ensures refused { IfErr result (IsLegalRefusal self.old.book (Invalidated points)) }
+        ensures kept { OnErr result (IsUntouched self.old self.new) }
+        ensures closed { IfErr result (λ told. MayClose self.old told self.new) }
+    {
+        // Read for what a book keeps.
+        let _records = self.book.records();
+        let change = self.book.prepare_invalidation(points)?;
+        self.accept(rt, change, Reply::Done)
+    }
+
+    /// Installs the newest plan, by one publication, and answers what became of the sites.
+    ///
+    /// Refused as by the book, and with `NoMemory` where no test fails and the office is closed, or what passes
+    /// read cannot be changed. Records and what passes read stay as they are.
+    pub fn install<R: Wait>(&mut self, rt: &R, plan: usize) -> Result<Receipt<N>, Refusal>
+        ensures office { IsOffice N.definition self.old }
+        ensures accepted { IfOk result (λ r. Accepts self.old (Installed plan) r self.new) }
+        ensures open { OnOk result (self.old.closed ≡ false) }
+        ensures totals { self.new.book.totals ≡ self.old.book.totals }
+        ensures refused { IfErr result (IsLegalRefusal self.old.book (Installed plan)) }
+        ensures kept { OnErr result (IsUntouched self.old self.new) }
+        ensures closed { IfErr result (λ told. MayClose self.old told self.new) }
+    {
+        // Read for what a book keeps.
+        let _records = self.book.records();
+        let (change, report) = self.book.prepare_installation(plan)?;
+        self.accept(rt, change, Reply::Installed(report))
+    }
+
+    // Publishes a prepared control, and then commits it. What is refused after the control is pending closes
+    // the office.
+    fn accept<R: Wait>(
+        &mut self,
+        rt: &R,
+        change: PendingChange,
+        reply: Reply,
+    ) -> Result<Receipt<N>, Refusal>
+        requires ready { IsReady self.old.book change }
+        requires calls { change.calls ≡ 0 }
+        requires reply { reply ≡ reply_to self.old.book.definition self.old.book.records change.entry }
+        ensures accepted { IfOk result (λ r. Accepts self.old change.entry r self.new) }
+        ensures open { OnOk result (self.old.closed ≡ false) }
+        ensures totals { self.new.book.totals ≡ self.old.book.totals }
+        ensures refused { IfErr result (λ told. (told ≡ Refusal.NoMemory) × (self.new.book ≡ self.old.book) × (self.new.published ≡ self.old.published)) }
+        ensures closed { IfErr result (λ told. MayClose self.old told self.new) }
+    {
+        // Read for what a book keeps.
+        let _records = self.book.records();
+        if self.closed {
+            return Err(Refusal::NoMemory);
+        }
+        let Ok(control) = change.control() else {
+            return Err(Refusal::NoMemory);
+        };
+        match show(rt, &mut self.writer, &self.head, &self.front, control) {
+            Ok(front) => {
+                self.book.commit(change);
+                self.front = front;
+                Ok(Receipt::new(reply, self.front.copy()))
+            }
+            Err(Halt::Before) => Err(Refusal::NoMemory),
+            Err(Halt::Midway) => {
+                self.closed = true;
+                Err(Refusal::NoMemory)
+            }
+        }
+    }
+
+    /// Waits for the readers, and gives the book and the list of its controls.
+    pub(crate) fn close<R: Wait>(self, rt: &R) -> (Book, Front<N>)
+        ensures office { IsOffice N.definition self }
+        ensures book { result.0 ≡ self.book }
+        ensures front { result.1 ≡ self.published }
+    {
+        // Read for what a book keeps.
+        let _records = self.book.records();
+        let Office {
+            book,
+            head: _,
+            front,
+            writer,
+            closed: _,
+        } = self;
+        writer.take(rt);
+        (book, front)
+    }
+}
+
+// What is told of a plan of which no further owner could be made.
+fn unshared(book: &Book, snapshot: usize) -> Refusal
+    ensures value { ((result ≡ Refusal.NoSnapshot) × (IsTaken book.now.records snapshot → ⊥)) ⊎ ((result ≡ Refusal.NoMemory) × IsTaken book.now.records snapshot) }
+{
+    match book.problem(snapshot) {
+        Ok(_) => Refusal::NoMemory,
+        Err(refusal) => refusal,
+    }
+}

@@ -1,0 +1,60 @@
+//! Why nothing is opened.
+
+ghost use Rattle.std.specs.Prelude.{◌≡◌};
+ghost use Rattle.mh_live.specs.Faults.{open_fault_number};
+
+use std::alloc::{AllocError, AllocFailed};
+use thiserror::Error;
+
+/// Why an office was not opened.
+#[derive(Clone, Copy, Debug, PartialEq, Eq, Error)]
+pub enum OpenFault {
+    /// A growth was refused, or a further owner of a tree.
+    #[error("1 NoMemory")]
+    NoMemory,
+    /// No more readers of the published world can be made.
+    #[error("2 NoReader")]
+    NoReader,
+}
+
+impl OpenFault {
+    /// The fault's number.
+    pub fn number(self) -> u8
+        ensures value { result ≡ open_fault_number self }
+    {
+        match self {
+            OpenFault::NoMemory => 1,
+            OpenFault::NoReader => 2,
+        }
+    }
+}
+
+impl From<AllocError> for OpenFault {
+    fn from(_refused: AllocError) -> OpenFault {
+        OpenFault::NoMemory
+    }
+}
+
+impl<T: Drop> From<AllocFailed<T>> for OpenFault {
+    fn from(_refused: AllocFailed<T>) -> OpenFault {
+        OpenFault::NoMemory
+    }
+}
+
+impl From<mh_core::NoMemory> for OpenFault {
+    fn from(_refused: mh_core::NoMemory) -> OpenFault {
+        OpenFault::NoMemory
+    }
+}
+
+impl From<mh_site::NoMemory> for OpenFault {
+    fn from(_refused: mh_site::NoMemory) -> OpenFault {
+        OpenFault::NoMemory
+    }
+}
+
+impl From<mh_eval::NoMemory> for OpenFault {
+    fn from(_refused: mh_eval::NoMemory) -> OpenFault {
+        OpenFault::NoMemory
+    }
+}

@@ -1,0 +1,172 @@
+//! What an office and its passes are made of.
+
+ghost use Rattle.std.specs.Prelude.{◌≡◌, ◌+◌, ◌<◌, ◌≤◌, [], length, map, drop, IfOk};
+ghost use Rattle.std.specs.Arc.{arc_value};
+ghost use Rattle.std.specs.List.{All};
+ghost use Rattle.mh_ledger.specs.Ledgers.{AreHeld};
+ghost use Rattle.mh_site.specs.Lawful.{IsDefinition};
+ghost use Rattle.mh_site.specs.Links.{links};
+ghost use Rattle.mh_site.specs.Worlds.{opened};
+ghost use Rattle.mh_core.specs.Books.{opened_book};
+ghost use Rattle.mh_live.specs.Passes.{new_pass, new_passes};
+ghost use Rattle.mh_live.specs.Rules.{Stands};
+
+use crate::front::{Front, Name, Unnamed};
+use crate::live::Live;
+use crate::office::{Office, leak};
+use crate::open_fault::OpenFault;
+use crate::pass::Pass;
+use crate::published::Published;
+use crate::rule::WorldWriter;
+use mh_core::{Book, Limits};
+use mh_eval::Stack;
+use mh_ledger::Ledger;
+use mh_site::{Definition, World};
+use std::alloc::{AllocError, Global};
+use std::marker::Model;
+use std::sync::Arc;
+
+/// The most workers of an opening.
+pub const MOST_WORKERS: u32 = 64;
+
+/// What an office and its passes are made of. It makes a list of controls, which still has to get its name.
+#[derive(Drop)]
+pub struct Opening {
+    list: Unnamed,
+    book: Book,
+    ledgers: Vec<Ledger>,
+    first: World,
+    second: World,
+    definition: Arc<Definition>,
+    workers: u32,
+    alloc: Global,
+}
+
+impl Model for Opening {
+    ghost use Rattle.std.specs.Prelude.{◌≡◌, ◌<◌, ◌≤◌};
+    ghost use Rattle.std.specs.Arc.{arc_value};
+    ghost use Rattle.mh_live.specs.Codes.{coded_opening};
+    ghost use Rattle.mh_live.specs.Openings.{OpeningState, IsOpening};
+
+    ghost Value = { OpeningState };
+
+    ghost coded = { coded_opening };
+
+    ghost view = { λ o. record { name = o.list.past.book; definition = o.book.definition; workers = o.workers; limits = o.book.limits } };
+
+    ghost invariant = { λ o. IsOpening record { name = o.list.past.book; definition = o.book.definition; workers = o.workers; limits = o.book.limits } o.book o.ledgers.items o.first o.second (arc_value o.definition) };
+}
+
+impl Opening {
+    /// What the office of a definition and the passes of so many workers, 1 to 64, are made of. Refused where
+    /// a growth was refused, or a further owner of a tree.
+    pub fn new(
+        alloc: Global,
+        definition: &Definition,
+        workers: u32,
+        limits: Limits,
+    ) -> Result<Opening, OpenFault>
+        requires workers { (0 < workers) × (workers ≤ 64) }
+        ensures definition { IfOk result (λ o. o.definition ≡ definition.now) }
+        ensures workers { IfOk result (λ o. o.workers ≡ workers) }
+        ensures limits { IfOk result (λ o. o.limits ≡ limits) }
+    {
+        // Read for what a definition keeps.
+        let _sites = definition.sites();
+        let shared = Arc::new(alloc, definition.share(alloc)?)?;
+        let first = World::open(alloc, definition)?;
+        let second = World::open(alloc, definition)?;
+        let (book, ledgers) = Book::open(alloc, definition, workers, limits)?;
+        Ok(Opening {
+            list: Unnamed::new(),
+            book,
+            ledgers,
+            first,
+            second,
+            definition: shared,
+            workers,
+            alloc,
+        })
+    }
+
+    /// The office, and a pass for each worker, in order. N names this opening: its book, and its definition.
+    ///
+    /// Refused with `NoMemory`, and with `NoReader` where no reader of the published world can be made.
+    pub fn open<N: Name>(self) -> Result<(Live<N>, Vec<Pass<N>>), OpenFault>
+        requires name { self.name ≡ N.book }
+        requires definition { self.definition ≡ N.definition }
+        ensures passes { IfOk result (λ t. t.1.items ≡ new_passes self.definition self.limits.ledger self.workers) }
+        ensures held { IfOk result (λ t. AreHeld (opened_book self.definition self.workers self.limits).totals (map (λ p. p.ledger) t.1.items)) }
+    {
+        let Opening {
+            list,
+            book,
+            ledgers,
+            first,
+            second,
+            definition,
+            workers,
+            alloc,
+        } = self;
+        let (head, front) = list.named::<N>();
+        let writer = desk(alloc, first, second, &front, workers as usize)?;
+        match seats(alloc, &writer, &front, ledgers, &definition) {
+            Ok(passes) => Ok((Live::new(Office::new(book, head, front, writer)), passes)),
+            Err(fault) => {
+                leak(writer);
+                Err(fault)
+            }
+        }
+    }
+}
+
+// The writer of the published world, with no control.
+fn desk<N: Name>(
+    alloc: Global,
+    first: World,
+    second: World,
+    front: &Front<N>,
+    workers: usize,
+) -> Result<WorldWriter<N>, AllocError>
+    requires worlds { (first ≡ opened N.definition) × (second ≡ opened N.definition) }
+    requires lawful { IsDefinition N.definition }
+    requires front { front.now ≡ [] }
+    requires workers { (0 < workers) × (workers ≤ 64) }
+    ensures writer { IfOk result (λ w. Stands N.book N.definition w.desk.shown.value × (w.desk.shown.value.past.log ≡ []) × (drop w.behind w.log.items ≡ [])) }
+{
+    let past = front.past();
+    let first = Published {
+        world: first,
+        past: past.again(),
+    };
+    let second = Published {
+        world: second,
+        past,
+    };
+    WorldWriter::<N>::new(alloc, first, second, workers)
+}
+
+// A pass for each ledger, in order.
+fn seats<N: Name>(
+    alloc: Global,
+    writer: &WorldWriter<N>,
+    front: &Front<N>,
+    ledgers: Vec<Ledger>,
+    definition: &Arc<Definition>,
+) -> Result<Vec<Pass<N>>, OpenFault>
+    requires front { front.now ≡ [] }
+    requires definition { arc_value definition.now ≡ N.definition }
+    requires ledgers { All (λ l. length l.unflushed ≡ length (links N.definition)) ledgers.items }
+    ensures passes { IfOk result (λ v. v.items ≡ map new_pass ledgers.items) }
+{
+    let mut passes = Vec::new(alloc);
+    for ledger in ledgers {
+        let Ok(reader) = writer.factory().reader() else {
+            return Err(OpenFault::NoReader);
+        };
+        let stack = Stack::new(alloc)?;
+        let definition = Arc::try_clone(definition)?;
+        passes.push(Pass::new(reader, front.copy(), ledger, stack, definition))?;
+    }
+    Ok(passes)
+}

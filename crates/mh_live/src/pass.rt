@@ -1,0 +1,309 @@
+//! What one worker calls through, without a lock.
+
+ghost use Rattle.std.specs.Prelude.{◌≡◌, ◌+◌, ◌<◌, ◌≤◌, ◌⊎◌, ℕ, [], length, true, false, IfOk, IfErr, IfSome, IfNone, IsOk, OnOk, OnErr};
+ghost use Rattle.std.specs.Arc.{arc_value};
+ghost use mathlib.Core.List.{IsPrefix};
+ghost use Rattle.mh_type.specs.Fits.{Fits};
+ghost use Rattle.mh_tree.specs.Meaning.{mean, steps};
+ghost use Rattle.mh_ledger.specs.Ledgers.{at, made, with_hit};
+ghost use Rattle.mh_site.specs.Defined.{site_at};
+ghost use Rattle.mh_site.specs.Links.{links};
+ghost use Rattle.mh_site.specs.Worlds.{state_at};
+ghost use Rattle.mh_core.specs.Hits.{hits};
+ghost use Rattle.mh_live.specs.Calls.{MayCall, AnswersBy, Counts, RefusesCall, IsUntried, TakesNoMemory};
+ghost use Rattle.mh_live.specs.Rules.{Stands, world_after};
+
+use crate::call_fault::CallFault;
+use crate::front::{Front, Name};
+use crate::published::Published;
+use crate::receipt::Receipt;
+use crate::rule::{Sees, WorldReader};
+use core::mem::replace_with;
+use mh_core::hit_link;
+use mh_eval::{NoMemory, Stack, fits, run};
+use mh_ledger::Ledger;
+use mh_site::Definition;
+use mh_type::{Outcome, Value};
+use std::marker::Model;
+use std::sync::Arc;
+
+/// What one worker calls through. A call takes no lock and waits for no other thread.
+///
+/// A pass that is inside a call holds up the next change of the world, and what waits behind it; a pass
+/// between calls holds up nobody.
+#[derive(Drop)]
+pub struct Pass<N: Name> {
+    reader: WorldReader<N>,
+    front: Front<N>,
+    pub(crate) ledger: Ledger,
+    stack: Stack,
+    definition: Arc<Definition>,
+}
+
+impl<N: Name> Model for Pass<N> {
+    ghost use Rattle.std.specs.Prelude.{◌≡◌, length};
+    ghost use Rattle.std.specs.Arc.{arc_value};
+    ghost use Rattle.mh_site.specs.Links.{links};
+    ghost use Rattle.mh_live.specs.Codes.{coded_pass};
+    ghost use Rattle.mh_live.specs.Passes.{PassState};
+
+    ghost Value = { PassState };
+
+    ghost coded = { coded_pass };
+
+    ghost view = { λ p. record { seen = p.front; ledger = p.ledger } };
+
+    ghost invariant = { λ p. (arc_value p.definition ≡ N.definition) × (length p.ledger.unflushed ≡ length (links N.definition)) };
+}
+
+/// What a call gave.
+#[derive(Drop)]
+pub struct Answer {
+    /// A value, or a throw.
+    pub outcome: Outcome,
+    /// The number of nodes that were entered.
+    pub steps: u64,
+    /// The number of controls of the list by whose world it was answered.
+    pub front: u64,
+}
+
+// What is called, and the stack that it is evaluated on.
+#[derive(Drop)]
+struct Request<'a> {
+    stack: &'a mut Stack,
+    site: usize,
+    arguments: &'a [Value],
+}
+
+// The list whose world was entered, and what the site gave there.
+#[derive(Drop)]
+struct Visited<N: Name> {
+    front: Front<N>,
+    given: Result<(Outcome, u64), NoMemory>,
+}
+
+// What a site gives by a published world, of which its linked tree runs.
+fn evaluate<N: Name>(request: Request<'_>, entered: &Published) -> Result<(Outcome, u64), NoMemory>
+    requires stands { Stands N.book N.definition entered.now }
+    requires inside { request.site < length N.definition.sites }
+    requires fits { Fits (site_at N.definition request.site).method_type request.arguments.now }
+    ensures outcome { IfOk result (λ r. let w = world_after N.definition entered.now.past.log in r.0 ≡ mean w.valid (state_at w request.entry.site).base.tree request.entry.arguments.now) }
+    ensures steps { IfOk result (λ r. let w = world_after N.definition entered.now.past.log in r.1 ≡ steps w.valid (state_at w request.entry.site).linked.tree request.entry.arguments.now) }
+    ensures memory { TakesNoMemory N.definition entered.now.past.log request.entry.site request.entry.arguments.now → IsOk result }
+{
+    let Request {
+        stack,
+        site,
+        arguments,
+    } = request;
+    let world = &entered.world;
+    // Read for what a tree keeps.
+    let _type = world.base(site).handle().method_type();
+    run(stack, world.valid(), world.prepared(site), arguments)
+}
+
+// Enters once, evaluates by the one world that is found there, and leaves. None where the world could not be
+// entered.
+fn visit<N: Name>(
+    reader: WorldReader<N>,
+    request: Request<'_>,
+) -> (WorldReader<N>, Option<Visited<N>>)
+    requires inside { request.site < length N.definition.sites }
+    requires fits { Fits (site_at N.definition request.site).method_type request.arguments.now }
+    ensures outcome { IfSome result.1 (λ v. IfOk v.given (λ r. let w = world_after N.definition v.front in r.0 ≡ mean w.valid (state_at w request.entry.site).base.tree request.entry.arguments.now)) }
+    ensures steps { IfSome result.1 (λ v. IfOk v.given (λ r. let w = world_after N.definition v.front in r.1 ≡ steps w.valid (state_at w request.entry.site).linked.tree request.entry.arguments.now)) }
+    ensures memory { IfSome result.1 (λ v. TakesNoMemory N.definition v.front request.entry.site request.entry.arguments.now → IsOk v.given) }
+{
+    match reader.enter_as::<Sees<N>>() {
+        Ok(reading) => {
+            let entered = reading.get();
+            let front = Front::of(&entered.past, entered.world.front());
+            let given = evaluate::<N>(request, entered);
+            (reading.leave(), Some(Visited { front, given }))
+        }
+        Err(reader) => (reader, None),
+    }
+}
+
+// Tests a call, and gives the link that it hits.
+fn test_call(
+    definition: &Definition,
+    ledger: &Ledger,
+    site: usize,
+    arguments: &[Value],
+) -> Result<Option<usize>, CallFault>
+    requires links { length ledger.now.unflushed ≡ length (links definition.now) }
+    ensures passes { OnOk result (MayCall definition.now ledger.now site arguments.now) }
+    ensures hit { IfOk result (λ found. IfSome found (λ j. (hits definition.now site arguments.now j ≡ true) × (j < length ledger.now.unflushed) × ((i : ℕ) → hits definition.now site arguments.now i ≡ true → i ≡ j))) }
+    ensures none { IfOk result (λ found. IfNone found ((j : ℕ) → hits definition.now site arguments.now j ≡ false)) }
+    ensures refused { IfErr result (λ told. RefusesCall definition.now ledger.now site arguments.now told × IsUntried told) }
+{
+    if site >= definition.sites().len() {
+        return Err(CallFault::NoSite);
+    }
+    if !fits(definition.method_type(site), arguments) {
+        return Err(CallFault::WrongType);
+    }
+    let hit = hit_link(definition, site, arguments);
+    if let Some(link) = hit {
+        // Read for what a ledger keeps.
+        let _limit = ledger.limit();
+        if ledger.is_full(link) {
+            return Err(CallFault::LedgerFull);
+        }
+    }
+    Ok(hit)
+}
+
+// Counts the hit of a call that passed its tests.
+fn count_hit(ledger: &mut Ledger, hit: Option<usize>)
+    requires room { IfSome hit (λ j. (j < length ledger.old.unflushed) × (at ledger.old.unflushed j < ledger.old.limit)) }
+    ensures hit { IfSome hit (λ j. ledger.new ≡ with_hit ledger.old j) }
+    ensures none { IfNone hit (ledger.new ≡ ledger.old) }
+{
+    if let Some(link) = hit {
+        // The ledger has room, so this is not refused.
+        let _counted = ledger.hit(link);
+    }
+}
+
+impl<N: Name> Pass<N> {
+    /// The pass of a worker, which has seen no control.
+    pub(crate) fn new(
+        reader: WorldReader<N>,
+        front: Front<N>,
+        ledger: Ledger,
+        stack: Stack,
+        definition: Arc<Definition>,
+    ) -> Pass<N>
+        requires definition { arc_value definition ≡ N.definition }
+        requires links { length ledger.unflushed ≡ length (links N.definition) }
+        ensures value { result ≡ record { seen = front; ledger = ledger } }
+    {
+        Pass {
+            reader,
+            front,
+            ledger,
+            stack,
+            definition,
+        }
+    }
+
+    /// The number of its worker, from 0.
+    pub fn worker(&self) -> usize
+        ensures value { result ≡ self.now.ledger.worker }
+    {
+        self.ledger.worker()
+    }
+
+    /// The number of links.
+    pub fn links(&self) -> usize
+        ensures count { result ≡ length self.now.ledger.unflushed }
+        ensures links { result ≡ length (links N.definition) }
+    {
+        self.ledger.links()
+    }
+
+    /// All hits of a link that its calls made, flushed or not.
+    pub fn made(&self, link: usize) -> u64
+        requires inside { link < length self.now.ledger.unflushed }
+        ensures value { result ≡ made self.now.ledger link }
+    {
+        self.ledger.made(link)
+    }
+
+    /// The hits of a link since its last flush.
+    pub fn unflushed(&self, link: usize) -> u64
+        requires inside { link < length self.now.ledger.unflushed }
+        ensures value { result ≡ at self.now.ledger.unflushed link }
+    {
+        self.ledger.unflushed(link)
+    }
+
+    /// The list of controls that it has seen or learnt.
+    pub fn front(&self) -> &Front<N>
+        ensures value { result.now ≡ self.now.seen }
+    {
+        &self.front
+    }
+
+    /// Its worker's ledger.
+    pub fn ledger(&self) -> &Ledger
+        ensures value { result.now ≡ self.now.ledger }
+    {
+        &self.ledger
+    }
+
+    /// Calls a site (`MutableCallSite.dynamicInvoker`), without a lock and with no wait.
+    ///
+    /// It is answered by one world, the one after a single list of controls that begins with all that this
+    /// pass has seen or learnt: the outcome is that of the site's base tree, and the steps are those of its
+    /// linked tree. Where the argument at the site's key place is the key of one of its links, the ledger
+    /// counts a hit of that link.
+    ///
+    /// Refused with `NoSite`, with `WrongType` where the arguments do not fit the site's type, with
+    /// `LedgerFull`, with `NotEntered` where the office is gone, and then with
+    /// `NoMemory`, which is not told where no node that is entered has String in its type; no hit is
+    /// counted. At the last two the pass may have seen more controls than before.
+    pub fn call(&mut self, site: usize, arguments: &[Value]) -> Result<Answer, CallFault>
+        ensures passes { OnOk result (MayCall N.definition self.old.ledger site arguments.now) }
+        ensures answer { IfOk result (λ answer. AnswersBy N.definition self.new.seen site arguments.now answer) }
+        ensures seen { IsPrefix self.old.seen self.new.seen }
+        ensures counted { OnOk result (Counts N.definition site arguments.now self.old.ledger self.new.ledger) }
+        ensures refused { IfErr result (λ told. RefusesCall N.definition self.old.ledger site arguments.now told) }
+        ensures kept { OnErr result (self.new.ledger ≡ self.old.ledger) }
+        ensures untried { IfErr result (λ told. IsUntried told → self.new ≡ self.old) }
+        ensures memory { IfErr result (λ told. told ≡ CallFault.NoMemory → TakesNoMemory N.definition self.new.seen site arguments.now → ⊥) }
+    {
+        let hit = test_call(&self.definition, &self.ledger, site, arguments)?;
+        let (outcome, steps) = self.enter(site, arguments)?;
+        count_hit(&mut self.ledger, hit);
+        Ok(Answer {
+            outcome,
+            steps,
+            front: self.front.len(),
+        })
+    }
+
+    // What the site gives by one world that is not behind what was seen.
+    fn enter(&mut self, site: usize, arguments: &[Value]) -> Result<(Outcome, u64), CallFault>
+        requires inside { site < length N.definition.sites }
+        requires fits { Fits (site_at N.definition site).method_type arguments.now }
+        ensures outcome { IfOk result (λ r. let w = world_after N.definition self.new.seen in r.0 ≡ mean w.valid (state_at w site).base.tree arguments.now) }
+        ensures steps { IfOk result (λ r. let w = world_after N.definition self.new.seen in r.1 ≡ steps w.valid (state_at w site).linked.tree arguments.now) }
+        ensures seen { IsPrefix self.old.seen self.new.seen }
+        ensures ledger { self.new.ledger ≡ self.old.ledger }
+        ensures told { IfErr result (λ told. (told ≡ CallFault.NotEntered) ⊎ (told ≡ CallFault.NoMemory)) }
+        ensures memory { IfErr result (λ told. told ≡ CallFault.NoMemory → TakesNoMemory N.definition self.new.seen site arguments.now → ⊥) }
+    {
+        let request = Request {
+            stack: &mut self.stack,
+            site,
+            arguments,
+        };
+        let Some(visited) = replace_with(&mut self.reader, request, visit::<N>) else {
+            return Err(CallFault::NotEntered);
+        };
+        let Visited { front, given } = visited;
+        if front.len() < self.front.len() {
+            return Err(CallFault::NotEntered);
+        }
+        self.front.compare(&front);
+        self.front = front;
+        match given {
+            Ok(answered) => Ok(answered),
+            Err(_) => Err(CallFault::NoMemory),
+        }
+    }
+
+    /// From now on it answers by no list that is shorter than the receipt's, and so sees what the receipt
+    /// is of.
+    pub fn learn(&mut self, receipt: &Receipt<N>)
+        ensures one { (self.new.seen ≡ self.old.seen) ⊎ (self.new.seen ≡ receipt.now.front) }
+        ensures seen { IsPrefix self.old.seen self.new.seen }
+        ensures learnt { IsPrefix receipt.now.front self.new.seen }
+        ensures ledger { self.new.ledger ≡ self.old.ledger }
+    {
+        self.front = self.front.longer(receipt.front());
+    }
+}

@@ -1,0 +1,62 @@
+//! What passes read: a world, and the list whose replay it is.
+
+use crate::front::Past;
+use left_right::Absorb;
+use mh_site::{Control, World};
+use std::alloc::AllocError;
+use std::collections::LinkedList;
+
+/// A world and its list of controls. There are two, of which calls read one.
+#[derive(Drop)]
+pub struct Published {
+    pub world: World,
+    pub past: Past,
+}
+
+/// A control, and the list that has it at its end: the two steps of a change.
+#[derive(Drop)]
+pub enum Step {
+    Change(Control),
+    Stamp(Past),
+}
+
+/// What a reader has seen. No value of it is made.
+pub struct View {
+    pub seen: LinkedList<Control>,
+}
+
+impl Absorb<Step> for Published {
+    ghost use Rattle.mh_live.specs.Steps.{stepped};
+
+    type State = Published;
+
+    ghost state = { λ p. p };
+
+    ghost applied = { stepped };
+
+    fn absorb_first(&mut self, operation: &Step, _other: &Published) -> Result<(), AllocError> {
+        match operation {
+            Step::Change(control) => self.world.try_absorb(control).map_err(|_| AllocError),
+            Step::Stamp(past) => {
+                self.past = past.again();
+                Ok(())
+            }
+        }
+    }
+
+    fn absorb_second(&mut self, operation: Step, _other: &Published) -> Result<(), Step> {
+        match operation {
+            Step::Change(control) => {
+                if self.world.front() == u64::MAX {
+                    return Err(Step::Change(control));
+                }
+                self.world.absorb(control);
+                Ok(())
+            }
+            Step::Stamp(past) => {
+                self.past = past;
+                Ok(())
+            }
+        }
+    }
+}

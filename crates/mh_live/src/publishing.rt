@@ -1,0 +1,83 @@
+//! How a control reaches the published world.
+
+ghost use Rattle.std.specs.Prelude.{◌≡◌, ◌++◌, ◌∷◌, ◌<◌, ◌^◌, [], drop, fold, length, IfErr, IfOk, MatchBool, MatchResult, OnOk};
+ghost use Rattle.mh_core.specs.Standing.{AreStanding};
+ghost use Rattle.mh_site.specs.Worlds.{after};
+ghost use Rattle.mh_live.specs.Offices.{CanShow};
+ghost use Rattle.mh_live.specs.Rules.{Stands};
+ghost use Rattle.mh_live.specs.Steps.{stepped};
+
+use crate::front::{Front, Head, Name};
+use crate::published::Step;
+use crate::rule::{Sees, WorldWriter};
+use core::mem::replace_with;
+use mh_site::Control;
+use std::alloc::AllocError;
+use std::sync::Wait;
+
+// How far a control came that was not published.
+#[derive(Clone, Copy, PartialEq, Eq)]
+pub(crate) enum Halt {
+    // Nothing of it is left.
+    Before,
+    // It is pending, so nothing more can be published.
+    Midway,
+}
+
+// Shows what is pending, in one step.
+fn publish<N: Name, R: Wait>(
+    writer: WorldWriter<N>,
+    rt: &R,
+) -> (WorldWriter<N>, Result<(), AllocError>)
+    requires pending { CanShow N.book N.definition writer.desk.shown.value (drop writer.behind writer.log.items) }
+    ensures shown { MatchResult result.1
+        (λ _. (result.0.desk.shown.value ≡ fold stepped writer.desk.shown.value (drop writer.behind writer.log.items)) × (drop result.0.behind result.0.log.items ≡ []))
+        (λ _. result.0.desk.shown.value ≡ writer.desk.shown.value) }
+{
+    writer.publish_as::<Sees<N>, R>(rt)
+}
+
+// Makes a step pending, and says whether there was memory for it.
+fn append<N: Name>(writer: &mut WorldWriter<N>, step: Step) -> bool
+    ensures desk { writer.new.desk ≡ writer.old.desk }
+    ensures pending { MatchBool result (drop writer.new.behind writer.new.log.items ≡ drop writer.old.behind writer.old.log.items ++ step ∷ []) (drop writer.new.behind writer.new.log.items ≡ drop writer.old.behind writer.old.log.items) }
+{
+    match writer.append(step) {
+        Ok(()) => true,
+        Err(_) => false,
+    }
+}
+
+// Adds a control to the list and to the published world.
+pub(crate) fn show<N: Name, R: Wait>(
+    rt: &R,
+    writer: &mut WorldWriter<N>,
+    head: &Head<N>,
+    front: &Front<N>,
+    control: Control,
+) -> Result<Front<N>, Halt>
+    requires stands { Stands N.book N.definition writer.old.desk.shown.value }
+    requires list { writer.old.desk.shown.value.past.log ≡ front.now }
+    requires still { drop writer.old.behind writer.old.log.items ≡ [] }
+    requires few { length front.now < 2 ^ 62 }
+    requires standing { AreStanding N.definition (after writer.old.desk.shown.value.world control) }
+    ensures list { IfOk result (λ f. (f ≡ front.now ++ control ∷ []) × (writer.new.desk.shown.value.past.log ≡ f)) }
+    ensures stands { Stands N.book N.definition writer.new.desk.shown.value }
+    ensures still { OnOk result (drop writer.new.behind writer.new.log.items ≡ []) }
+    ensures halted { IfErr result (λ halt. (writer.new.desk.shown.value ≡ writer.old.desk.shown.value) × (halt ≡ Halt.Before → drop writer.new.behind writer.new.log.items ≡ [])) }
+{
+    let intent = front.intend(&control);
+    if !append(writer, Step::Change(control)) {
+        return Err(Halt::Before);
+    }
+    let Some(longer) = front.extended(head, intent) else {
+        return Err(Halt::Midway);
+    };
+    if !append(writer, Step::Stamp(longer.past())) {
+        return Err(Halt::Midway);
+    }
+    match replace_with(writer, rt, publish::<N, R>) {
+        Ok(()) => Ok(longer),
+        Err(_) => Err(Halt::Midway),
+    }
+}

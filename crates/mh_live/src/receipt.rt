@@ -1,0 +1,48 @@
+//! What the office answers.
+
+ghost use Rattle.std.specs.Prelude.{◌≡◌};
+
+use crate::front::{Front, Name};
+use mh_core::Reply;
+use std::marker::Model;
+
+/// The reply to an event that was accepted, and the list of controls up to it. Contracts see both.
+#[derive(Drop)]
+pub struct Receipt<N: Name> {
+    reply: Reply,
+    front: Front<N>,
+}
+
+impl<N: Name> Model for Receipt<N> {
+    ghost use Rattle.mh_live.specs.Offices.{ReceiptState};
+    ghost use Rattle.mh_live.specs.Codes.{coded_receipt};
+
+    ghost Value = { ReceiptState };
+
+    ghost coded = { coded_receipt };
+
+    ghost view = { λ r. record { reply = r.reply; front = r.front } };
+}
+
+impl<N: Name> Receipt<N> {
+    /// The receipt of a reply.
+    pub(crate) fn new(reply: Reply, front: Front<N>) -> Receipt<N>
+        ensures value { result ≡ record { reply = reply; front = front } }
+    {
+        Receipt { reply, front }
+    }
+
+    /// What was answered.
+    pub fn reply(&self) -> &Reply
+        ensures value { result.now ≡ self.now.reply }
+    {
+        &self.reply
+    }
+
+    /// The list of controls up to the event, with that of the event itself where it is a control.
+    pub fn front(&self) -> &Front<N>
+        ensures value { result.now ≡ self.now.front }
+    {
+        &self.front
+    }
+}

@@ -1,0 +1,102 @@
+//! Which passes are back, and what they have not flushed.
+
+ghost use Rattle.std.specs.Prelude.{◌≡◌, ◌<◌, ◌==◌, ◌↔◌, ◌≤◌, ◌^◌, ℕ, length, map, IfErr, IfOk, IsTrue, OnOk};
+ghost use Rattle.std.specs.List.{All, count_by, range_with_len};
+ghost use Rattle.mh_ledger.specs.Ledgers.{Holds, IsTotals};
+ghost use Rattle.mh_live.specs.Settled.{AreBack, IsWithin, unflushed_by};
+
+use crate::front::{Front, Name};
+use crate::office::Office;
+use crate::pass::Pass;
+use crate::settle_fault::SettleFault;
+use mh_ledger::Totals;
+use std::alloc::Global;
+
+// The hits of each link that the passes have not flushed, where all passes are back.
+pub(crate) fn unflushed_hits<N: Name>(
+    alloc: Global,
+    office: &Office<N>,
+    passes: &[Pass<N>],
+) -> Result<Vec<u128>, SettleFault>
+    ensures totals { IsTotals office.now.book.totals }
+    ensures back { OnOk result (AreBack office.now.book.totals passes.now) }
+    ensures value { IfOk result (λ v. v.items ≡ map (unflushed_by passes.now) (range_with_len 0 (length office.now.book.totals.total))) }
+    ensures within { IfOk result (λ v. All (λ n. n ≤ 2 ^ 126) v.items) }
+    ensures missing { (result ≡ Err SettleFault.MissingPass) ↔ (AreBack office.now.book.totals passes.now → ⊥) }
+{
+    let totals = office.book().totals();
+    // Read for what totals keep.
+    let _links = totals.links();
+    if !are_back(totals, passes) {
+        return Err(SettleFault::MissingPass);
+    }
+    let mut hits = Vec::new(alloc);
+    for link in 0..totals.links() {
+        if hits.push(unflushed_of(totals, passes, link)).is_err() {
+            return Err(SettleFault::NoMemory);
+        }
+    }
+    Ok(hits)
+}
+
+// The hits of a link that the passes have not flushed.
+fn unflushed_of<N: Name>(totals: &Totals, passes: &[Pass<N>], link: usize) -> u128
+    requires back { AreBack totals.now passes.now }
+    requires inside { link < length totals.now.total }
+    ensures value { result ≡ unflushed_by passes.now link }
+    ensures within { result ≤ 2 ^ 126 }
+{
+    // Read for what totals keep.
+    let _links = totals.links();
+    let mut hits = 0u128;
+    for pass in passes {
+        let ledger = pass.ledger();
+        // Read for what a ledger keeps.
+        let _links = ledger.links();
+        hits += u128::from(ledger.unflushed(link));
+    }
+    hits
+}
+
+// Whether each worker has one pass among these, and the totals hold the ledgers of all.
+fn are_back<N: Name>(totals: &Totals, passes: &[Pass<N>]) -> bool
+    ensures decides { IsTrue result ↔ AreBack totals.now passes.now }
+{
+    let once = has_each_once(totals.workers(), passes);
+    once && are_held(totals, passes)
+}
+
+// Whether each worker has one pass.
+fn has_each_once<N: Name>(workers: usize, passes: &[Pass<N>]) -> bool
+    ensures decides { IsTrue result ↔ ((w : ℕ) → w < workers → count_by (λ p. p.ledger.worker == w) passes.now ≡ 1) }
+{
+    for worker in 0..workers {
+        if passes_of(worker, passes) != 1 {
+            return false;
+        }
+    }
+    true
+}
+
+// How many passes a worker has.
+fn passes_of<N: Name>(worker: usize, passes: &[Pass<N>]) -> usize
+    ensures value { result ≡ count_by (λ p. p.ledger.worker == worker) passes.now }
+{
+    passes.iter().filter(|pass| pass.worker() == worker).count()
+}
+
+// Whether the totals hold the ledgers of all passes.
+fn are_held<N: Name>(totals: &Totals, passes: &[Pass<N>]) -> bool
+    ensures decides { IsTrue result ↔ All (λ p. Holds totals.now p.ledger) passes.now }
+{
+    passes.iter().all(|pass| totals.holds(pass.ledger()))
+}
+
+// What each pass has seen begins the list, or is longer.
+pub(crate) fn compare_all<N: Name>(passes: &[Pass<N>], front: &Front<N>)
+    ensures within { All (IsWithin front.now) passes.now }
+{
+    for pass in passes {
+        pass.front().compare(front);
+    }
+}

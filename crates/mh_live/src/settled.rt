@@ -1,0 +1,114 @@
+//! What stands once all passes are back.
+
+ghost use Rattle.std.specs.Prelude.{◌≡◌, ◌+◌, ◌<◌, ◌≤◌, ◌^◌, length};
+ghost use Rattle.std.specs.List.{All};
+ghost use Rattle.mh_ledger.specs.Ledgers.{at};
+ghost use Rattle.mh_site.specs.Links.{links};
+ghost use Rattle.mh_core.specs.Books.{IsBook};
+ghost use Rattle.mh_live.specs.Offices.{list_of};
+ghost use Rattle.mh_live.specs.Settled.{IsSettled};
+
+use crate::front::{Front, Name};
+use crate::live::Live;
+use crate::pass::Pass;
+use crate::settle_fault::SettleFault;
+use mh_core::Book;
+use std::marker::Model;
+
+/// What running threads leave once all their passes are back: the book, and for each link how often the
+/// passes hit it.
+#[derive(Drop)]
+pub struct Settled<N: Name> {
+    book: Book,
+    unflushed: Vec<u128>,
+    front: Front<N>,
+}
+
+impl<N: Name> Model for Settled<N> {
+    ghost use Rattle.mh_live.specs.Codes.{coded_settled};
+    ghost use Rattle.mh_live.specs.Settled.{SettledState, IsSettled};
+
+    ghost Value = { SettledState };
+
+    ghost coded = { coded_settled };
+
+    ghost view = { λ s. record { book = s.book; unflushed = s.unflushed.items; front = s.front } };
+
+    ghost invariant = { λ s. IsSettled N.definition record { book = s.book; unflushed = s.unflushed.items; front = s.front } };
+}
+
+impl<N: Name> Settled<N> {
+    /// The book of an office with the list of its controls, and for each link the hits that were not flushed.
+    pub(crate) fn new(book: Book, unflushed: Vec<u128>, front: Front<N>) -> Settled<N>
+        requires settled { IsSettled N.definition record { book = book; unflushed = unflushed.items; front = front } }
+        ensures value { result ≡ record { book = book; unflushed = unflushed.items; front = front } }
+    {
+        Settled {
+            book,
+            unflushed,
+            front,
+        }
+    }
+
+    /// The number of links.
+    pub fn links(&self) -> usize
+        ensures count { result ≡ length (links N.definition) }
+        ensures settled { IsSettled N.definition self.now }
+    {
+        self.unflushed.len()
+    }
+
+    /// All hits of a link that the passes made, flushed or not.
+    pub fn made(&self, link: usize) -> u128
+        requires inside { link < length (links N.definition) }
+        ensures value { result ≡ at self.now.book.totals.total link + at self.now.unflushed link }
+    {
+        u128::from(self.total(link)) + self.unflushed(link)
+    }
+
+    /// The hits of a link that the passes flushed.
+    pub fn total(&self, link: usize) -> u64
+        requires inside { link < length (links N.definition) }
+        ensures value { result ≡ at self.now.book.totals.total link }
+        ensures within { result ≤ 2 ^ 62 }
+    {
+        let totals = self.book.totals();
+        // Read for what totals keep.
+        let _links = totals.links();
+        totals.total(link)
+    }
+
+    /// The hits of a link that no pass flushed.
+    pub fn unflushed(&self, link: usize) -> u128
+        requires inside { link < length (links N.definition) }
+        ensures value { result ≡ at self.now.unflushed link }
+        ensures within { result ≤ 2 ^ 126 }
+    {
+        self.unflushed[link]
+    }
+
+    /// The list of all controls.
+    pub fn front(&self) -> &Front<N>
+        ensures value { result.now ≡ self.now.front }
+    {
+        &self.front
+    }
+
+    /// The book, with all records.
+    pub fn book(&self) -> &Book
+        ensures value { result.now ≡ self.now.book }
+    {
+        &self.book
+    }
+}
+
+/// What could not be settled, as it was.
+#[derive(Drop)]
+pub struct Unsettled<N: Name> {
+    /// The office that threads share.
+    pub live: Live<N>,
+    /// The passes, as they were handed in.
+    pub passes: Vec<Pass<N>>,
+    /// Why it was not settled.
+    pub fault: SettleFault,
+}
