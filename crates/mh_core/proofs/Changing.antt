@@ -1,5 +1,5 @@
 -- A record that changes a world changes nothing else that a book keeps.
-use Rattle.std.proofs.Common.{◌≡◌, ℕ, ◌+◌, List, ◌∷◌, length, refl, ap, arith}
+use Rattle.std.proofs.Common.{◌≡◌, ℕ, List, ◌∷◌, length, refl, ap, arith}
 use Rattle.mh_site.specs.declared.control.Control.{Control}
 use Rattle.mh_site.specs.Defined.{DefinitionData}
 use Rattle.mh_core.specs.declared.record.Record.{Record}

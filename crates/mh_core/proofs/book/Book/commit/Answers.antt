@@ -1,7 +1,6 @@
-use Rattle.std.proofs.Common.{◌≡◌, ◌<◌, ◌-◌, ◌++◌, ◌∷◌, [], List, length, refl, ap, sym, subst, ◌∙◌, arith}
+use Rattle.std.proofs.Common.{◌≡◌, ◌∷◌, refl, sym, subst, ◌∙◌, arith}
 use Rattle.std.specs.Prelude.{reverse}
 use Rattle.mh_site.specs.Worlds.{opened}
-use Rattle.mh_core.specs.declared.record.Record.{Record}
 use Rattle.mh_core.specs.Books.{BookState, IsBook}
 use Rattle.mh_core.specs.BookViews.{book_state}
 use Rattle.mh_core.specs.Pending.{IsReady, PendingState}
