@@ -1,0 +1,5 @@
+use Rattle.tests_live.proofs.worked_row.seven_events_fill_the_history.Given as goal
+
+-- the list and the definition that were just opened
+abbrev pub ghosts-fills_the_history : goal.ghosts-fills_the_history
+ghosts-fills_the_history g a = record { book = a.opening.name; definition = a.opening.definition }

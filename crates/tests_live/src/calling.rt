@@ -1,0 +1,81 @@
+//! Calls of the site 0 with one whole number.
+
+use mh_live::{Answer, CallFault, Live, Name, Pass, Receipt, Settled};
+use mh_type::{Outcome, Value};
+use std::sync::Wait;
+use std::test::Fail;
+
+/// What a call gave: a whole number, or None for any other outcome; the steps; and the number of controls.
+#[derive(Clone, Copy, Debug, PartialEq, Eq)]
+pub(crate) struct CallAnswer {
+    value: Option<i32>,
+    steps: u64,
+    front: u64,
+}
+
+impl CallAnswer {
+    /// The number of controls by whose world it was answered.
+    pub(crate) fn front(&self) -> u64 {
+        self.front
+    }
+}
+
+/// What a call is to give.
+pub(crate) fn given(value: i32, steps: u64, front: u64) -> CallAnswer {
+    CallAnswer {
+        value: Some(value),
+        steps,
+        front,
+    }
+}
+
+/// What an answer says.
+fn read(answer: &Answer) -> CallAnswer {
+    let value = match &answer.outcome {
+        Outcome::Value(Value::Int(value)) => Some(*value),
+        _ => None,
+    };
+    CallAnswer {
+        value,
+        steps: answer.steps,
+        front: answer.front,
+    }
+}
+
+/// Calls the site with this argument.
+pub(crate) fn call<N: Name>(pass: &mut Pass<N>, argument: i32) -> Result<CallAnswer, CallFault> {
+    let arguments = [Value::Int(argument)];
+    let answer = pass.call(0, &arguments)?;
+    Ok(read(&answer))
+}
+
+/// The hits of the link 0, unflushed and ever.
+pub(crate) fn hits<N: Name>(pass: &Pass<N>) -> Option<(u64, u64)> {
+    if pass.links() == 0 {
+        return None;
+    }
+    Some((pass.unflushed(0), pass.made(0)))
+}
+
+/// The hits of the link 0: made, flushed, and not flushed.
+pub(crate) fn sums<N: Name>(settled: &Settled<N>) -> Option<(u128, u64, u128)> {
+    if settled.links() == 0 {
+        return None;
+    }
+    Some((settled.made(0), settled.total(0), settled.unflushed(0)))
+}
+
+/// Flushes a pass, and answers how long the list of its receipt is.
+pub(crate) fn flush<N: Name, R: Wait>(
+    rt: &R,
+    live: &Live<N>,
+    pass: &mut Pass<N>,
+) -> Result<u64, Fail> {
+    Ok(live.flush(rt, pass)?.front().len())
+}
+
+/// Learns a receipt, and answers how long its list is.
+pub(crate) fn learn<N: Name>(pass: &mut Pass<N>, receipt: &Receipt<N>) -> u64 {
+    pass.learn(receipt);
+    receipt.front().len()
+}

@@ -1,0 +1,127 @@
+//! What the tests open, and the trees that they give a site.
+
+ghost use Rattle.std.specs.Prelude.{◌<◌, ◌≤◌};
+
+use mh_core::Limits;
+use mh_live::Opening;
+use mh_site::{Definition, Link, Listing, Name, Point, Site};
+use mh_tree::{Declared, Handle};
+use mh_type::{Kind, MethodType, Op, Value};
+use std::alloc::Global;
+use std::test::Fail;
+
+/// The argument negated: 1 step.
+pub(crate) fn negation(alloc: Global) -> Result<Declared, Fail> {
+    Ok(Declared::new(&Handle::op(alloc, Op::Ineg)?)?)
+}
+
+/// One more than the argument: 2 steps.
+pub(crate) fn successor(alloc: Global) -> Result<Declared, Fail> {
+    Ok(Declared::new(&with_one(alloc, Op::Iadd)?)?)
+}
+
+/// A tree of the type (int,int)int.
+pub(crate) fn sum(alloc: Global) -> Result<Declared, Fail> {
+    Ok(Declared::new(&Handle::op(alloc, Op::Iadd)?)?)
+}
+
+/// An operation behind the argument 1.
+fn with_one(alloc: Global, op: Op) -> Result<Handle, Fail> {
+    let mut one = Vec::new(alloc);
+    one.push(Value::Int(1))?;
+    Ok(Handle::insert(alloc, &Handle::op(alloc, op)?, 1, &one)?)
+}
+
+/// While the point 0 is valid, 100 for 1 and one more for any other; else the argument negated.
+fn guarded(alloc: Global) -> Result<Declared, Fail> {
+    let hundred = Handle::constant(alloc, &Value::Int(100))?;
+    let hundred = Handle::drop(alloc, &hundred, 0, &[Kind::Int])?;
+    let equal = with_one(alloc, Op::Ieq)?;
+    let guard = Handle::guard(alloc, &equal, &hundred, &with_one(alloc, Op::Iadd)?)?;
+    let point = Handle::point(alloc, 0, &guard, &Handle::op(alloc, Op::Ineg)?)?;
+    Ok(Declared::new(&point)?)
+}
+
+/// The calls with this key gain so much each, and need these points.
+fn link(alloc: Global, key: i32, weight: u64, needs: &[u32]) -> Result<Link, Fail> {
+    Ok(Link {
+        when: Value::Int(key),
+        weight,
+        needs: Listing::from_vec(Vec::from_slice(alloc, needs)?),
+    })
+}
+
+fn point(alloc: Global, name: &str, cost: u64) -> Result<Point, Fail> {
+    Ok(Point {
+        name: Name::new(alloc, name)?,
+        cost,
+    })
+}
+
+/// A site f of the type (int)int with these links, behind its only argument.
+fn site_of(alloc: Global, target: Declared, links: Vec<Link>) -> Result<Listing<Site>, Fail> {
+    let mut sites = Listing::from_vec(Vec::new(alloc));
+    sites.push(Site {
+        name: Name::new(alloc, "f")?,
+        method_type: MethodType::new(Kind::Int, &[Kind::Int])?,
+        key: Some(0),
+        target,
+        links: Listing::from_vec(links),
+    })?;
+    Ok(sites)
+}
+
+/// No point, and the negation with a link for 1 that gains 3.
+fn plain(alloc: Global) -> Result<Definition, Fail> {
+    let mut links = Vec::new(alloc);
+    links.push(link(alloc, 1, 3, &[])?)?;
+    let sites = site_of(alloc, negation(alloc)?, links)?;
+    let made = Definition::new(alloc, Listing::from_vec(Vec::new(alloc)), sites)?;
+    Ok(made)
+}
+
+/// The points `a` of cost 5 and `b` of cost 7.
+fn points(alloc: Global) -> Result<Listing<Point>, Fail> {
+    let mut points = Listing::from_vec(Vec::new(alloc));
+    points.push(point(alloc, "a", 5)?)?;
+    points.push(point(alloc, "b", 7)?)?;
+    Ok(points)
+}
+
+/// Two points, and the guarded tree with a link for 1, that needs `a`, and one for 2, that needs both.
+fn pointed(alloc: Global) -> Result<Definition, Fail> {
+    let mut links = Vec::new(alloc);
+    links.push(link(alloc, 1, 3, &[0])?)?;
+    links.push(link(alloc, 2, 1, &[0, 1])?)?;
+    let sites = site_of(alloc, guarded(alloc)?, links)?;
+    let made = Definition::new(alloc, points(alloc)?, sites)?;
+    Ok(made)
+}
+
+/// These limits.
+fn limits(history: u64, ledger: u64, total: u64) -> Result<Limits, Fail> {
+    match Limits::new(history, ledger, total) {
+        Some(limits) => Ok(limits),
+        None => Err(Fail::from("the limits are out of range")),
+    }
+}
+
+/// Opens the negation for so many workers, with room for so many events and unflushed hits.
+pub(crate) fn open_plain(
+    alloc: Global,
+    workers: u32,
+    history: u64,
+    ledger: u64,
+) -> Result<Opening, Fail>
+    requires some { 0 < workers }
+    requires few { workers ≤ 64 }
+{
+    let limits = limits(history, ledger, 1 << 30)?;
+    Ok(Opening::new(alloc, &plain(alloc)?, workers, limits)?)
+}
+
+/// Opens the guarded tree for two workers, with room for so many events.
+pub(crate) fn open_pointed(alloc: Global, history: u64) -> Result<Opening, Fail> {
+    let limits = limits(history, 9, 9)?;
+    Ok(Opening::new(alloc, &pointed(alloc)?, 2, limits)?)
+}

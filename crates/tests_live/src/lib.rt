@@ -1,0 +1,17 @@
+//! Tests of running threads: what no clause says, and each public call once with ample memory.
+#![tactic(auto)]
+
+#[cfg(test)]
+mod beside;
+#[cfg(test)]
+mod calling;
+#[cfg(test)]
+mod definitions;
+#[cfg(test)]
+mod offices;
+#[cfg(test)]
+mod opened;
+#[cfg(test)]
+mod settling;
+#[cfg(test)]
+mod worked_row;
