@@ -1,5 +1,5 @@
 -- The texts of faults.
-use Rattle.std.specs.Prelude.{ℕ, List, [], ◌∷◌, ◌++◌, codes}
+use Rattle.std.specs.Prelude.{ℕ, Bool, true, false, List, [], ◌∷◌, ◌++◌, codes, if◌then◌else◌}
 use Rattle.std.specs.Fmt.{decimal}
 use Rattle.mh_type.specs.Faults as type_fault
 use Rattle.mh_tree.specs.Faults as tree_fault
@@ -7,7 +7,7 @@ use Rattle.mh_site.specs.Definitions as definition_fault
 use Rattle.mh_network.specs.Problems as problem_fault
 use Rattle.mh_text.specs.declared.fault.Fault.{Fault}
 use Rattle.mh_text.specs.declared.fault.TextFault.{TextFault}
-use Rattle.mh_text.specs.declared.fault.TextFault.TheVariants.{NoMemory, TooLong, NotJson, BadShape, BadValue, UnknownShared, Tree, Definition, Problem, ReadFailed, WriteFailed, BadType}
+use Rattle.mh_text.specs.declared.fault.TextFault.TheVariants.{NoMemory, TooLong, NotJson, BadShape, BadValue, UnknownShared, Tree, Definition, Problem, ReadFailed, WriteFailed, BadType, NoReader}
 
 -- the number, the name, and the number of the cause
 abbrev pub kind_text : TextFault → List ℕ
@@ -23,10 +23,16 @@ kind_text (Problem cause) = codes "9 Problem " ++ decimal (problem_fault.fault_n
 kind_text ReadFailed = codes "10 ReadFailed"
 kind_text WriteFailed = codes "11 WriteFailed"
 kind_text (BadType cause) = codes "12 BadType " ++ decimal (type_fault.fault_number cause)
+kind_text NoReader = codes "NoReader"
+
+-- a fault that no event and no part of an input has
+abbrev pub is_nowhere : TextFault → Bool
+is_nowhere NoReader = true
+is_nowhere _ = false
 
 -- a fault, and where it is
 abbrev pub fault_text : Fault → List ℕ
-fault_text e = codes "fault " ++ kind_text e.kind ++ codes " at " ++ decimal e.at
+fault_text e = codes "fault " ++ kind_text e.kind ++ (if is_nowhere e.kind then [] else codes " at " ++ decimal e.at)
 
 -- the same, and the byte 0x0A
 abbrev pub fault_line : Fault → List ℕ

@@ -1,6 +1,7 @@
 //! Why an input could not be read or its lines not be written.
 ghost use Rattle.std.specs.Prelude.{◌≡◌};
 ghost use Rattle.mh_text.specs.declared.fault.TextFault.TheVariants as text;
+ghost use Rattle.mh_text.specs.Faults.{is_nowhere};
 ghost use Rattle.mh_text.specs.Gives.{of_tree, of_type, of_definition, of_problem, told};
 
 use mh_core::NoMemory;
@@ -141,6 +142,17 @@ pub enum TextFault {
     WriteFailed,
     /// A text is no method type.
     BadType(TypeFault),
+    /// No more readers of a published world can be made. It is no fault of an input, and has no number.
+    NoReader,
+}
+
+impl TextFault {
+    /// Whether no event and no part of an input has it.
+    fn is_nowhere(self) -> bool
+        ensures value { result ≡ is_nowhere self }
+    {
+        matches!(self, TextFault::NoReader)
+    }
 }
 
 impl fmt::Display for TextFault {
@@ -163,6 +175,7 @@ impl fmt::Display for TextFault {
             TextFault::ReadFailed => write!(f, "10 ReadFailed"),
             TextFault::WriteFailed => write!(f, "11 WriteFailed"),
             TextFault::BadType(cause) => write!(f, "12 BadType {}", cause.number()),
+            TextFault::NoReader => write!(f, "NoReader"),
         }
     }
 }
@@ -210,7 +223,11 @@ impl fmt::Display for Fault {
     ghost output = { λ fault. Some (fault_text fault) };
 
     fn fmt<W: fmt::Write>(&self, f: &mut fmt::Formatter<W>) -> fmt::Result {
-        write!(f, "fault {} at {}", self.kind, self.at)
+        if self.kind.is_nowhere() {
+            write!(f, "fault {}", self.kind)
+        } else {
+            write!(f, "fault {} at {}", self.kind, self.at)
+        }
     }
 }
 

@@ -98,8 +98,8 @@ fn plan_problem<T: Threads + Sync>(
     Ok(render(alloc, options, problem, &plan, &phases)?)
 }
 
-/// Writes the lines, or a beginning of them.
-fn write_lines<W: Write>(lines: String, writer: &mut Watched<W>) -> Result<(), Fault>
+/// Writes the lines, or a beginning of them where a write fails, which is told at 0.
+pub fn write_lines<W: Write>(lines: String, writer: &mut Watched<W>) -> Result<(), Fault>
     ensures lines { MatchResult result
         (λ _. Appends (W.contents writer.old.inner) (W.contents writer.new.inner) (string_bytes lines))
         (λ e. IsCutShort (W.contents writer.old.inner) (W.contents writer.new.inner)

@@ -93,8 +93,10 @@ fn run_steps<T: Threads + Sync, W: Write>(
     Ok(())
 }
 
-/// The script that the reader gives.
-fn read_whole<R: Read>(alloc: Global, reader: &mut Watched<R>) -> Result<Script, Fault>
+/// The script that the reader gives, or its first fault in the order of reading (see `read_script`).
+///
+/// The input is read to its end, or to the first byte past 1,048,576.
+pub fn read_script_from<R: Read>(alloc: Global, reader: &mut Watched<R>) -> Result<Script, Fault>
     ensures ok { IfOk result (λ script. IfSome (R.remaining reader.old.inner) (λ input. script_of_input input ≡ Ok script)) }
     ensures kept { OnOk result (reader.new.failures ≡ reader.old.failures) }
     ensures failed { IfErr result (IsUnread EndsReading (R.remaining reader.old.inner)
@@ -150,6 +152,6 @@ pub fn run_bytes<T: Threads + Sync, R: Read, W: Write>(
     ensures reads { OnOk result (reader.new.failures ≡ reader.old.failures) }
     ensures writes { OnOk result (writer.new.failures ≡ writer.old.failures) }
 {
-    let script = read_whole(alloc, reader)?;
+    let script = read_script_from(alloc, reader)?;
     run_script(rt, alloc, script, writer)
 }

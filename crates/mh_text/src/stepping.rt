@@ -57,11 +57,13 @@ fn make_plan<T: Threads + Sync>(
 {
     let problem = machine.book().problem(snapshot)?;
     let workers = (machine.workers() as usize).clamp(1, MOST_WORKERS);
-    solve(rt, alloc, &problem, workers)
+    best_plan(rt, alloc, &problem, workers)
 }
 
-/// The best plan of a problem, with the fewest links.
-fn solve<T: Threads + Sync>(
+/// The best plan of a problem, with the fewest links, made by so many workers, from 1 to 64.
+///
+/// Refused with `NoMemory` alone, where a growth was refused.
+pub fn best_plan<T: Threads + Sync>(
     rt: &T,
     alloc: Global,
     problem: &Problem,
