@@ -4,6 +4,7 @@ ghost use Rattle.std.specs.Prelude.{◌≡◌, ◌<◌, ◌↔◌, length, IsTru
 use crate::case::Case;
 use mh_command::{Watched, command};
 use std::alloc::Global;
+use std::sync::Wait;
 use std::thread::Threads;
 
 /// What a command line wrote, and its exit status.
@@ -16,7 +17,7 @@ pub(crate) struct Ran {
 
 impl Ran {
     /// Runs the command line of a case on its input.
-    pub(crate) fn of<T: Threads + Sync>(rt: &T, alloc: Global, case: &Case<'_>) -> Ran {
+    pub(crate) fn of<T: Threads + Wait + Sync>(rt: &T, alloc: Global, case: &Case<'_>) -> Ran {
         let mut reader = Watched::new(case.input.as_bytes());
         let mut out = Watched::new(Vec::new(alloc));
         let mut err = Watched::new(Vec::new(alloc));

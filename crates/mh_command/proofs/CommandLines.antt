@@ -1,5 +1,5 @@
 -- What words are taken for.
-use Rattle.std.proofs.Common.{◌≡◌, ◌⊎◌, inl, inr, ◌∙◌, sym, ap, subst, refl, ◌&&◌, ℕ, List, [], ◌∷◌, Option, Some, None, true, codes, option_map, IfOk}
+use Rattle.std.proofs.Common.{◌≡◌, ◌⊎◌, inl, inr, ◌∙◌, sym, ap, subst, refl, ◌&&◌, ℕ, List, [], ◌∷◌, Option, true, codes}
 use Rattle.clap.specs.Simple.{built, entered, names_of}
 use Rattle.clap.specs.Faults.{built_fault}
 use Rattle.clap.specs.Takes.{built_takes}
@@ -10,11 +10,10 @@ use Rattle.clap.specs.declared.error.Error.{Error}
 use Rattle.clap.specs.declared.error.kind.ErrorKind.{ErrorKind}
 use Rattle.clap.specs.declared.error.kind.ErrorKind.TheVariants.{DisplayHelp, DisplayVersion, OutOfMemory}
 use Rattle.clap.specs.declared.parser.matches.ArgMatches.{ArgMatches}
-use Rattle.clap.specs.declared.parser.matches.ArgMatches.TheViews.{out-ArgMatches}
 use Rattle.clap.proofs.OnLiterals.{clap_on_literals}
 use Rattle.mh_command.specs.CommandLine.{program, AsksFor, AsksHelp, AsksVersion, IsNamed}
 use Rattle.mh_command.specs.declared.request.Request.{Request}
-use Rattle.mh_command.specs.declared.request.Request.TheVariants.{Run, Check, Plan}
+use Rattle.mh_command.specs.declared.request.Request.TheVariants.{Run, Check, Plan, Stress}
 
 is_plain : is_simple program ≡ true
 unfolding clap_on_literals
@@ -33,6 +32,7 @@ pub is_taken : (request : Request) (words : List (List ℕ)) → AsksFor request
 is_taken Run words is = subst (λ after. is_simple program && built_takes (built program) nothing_held after ≡ true) (sym is) taken_run
 is_taken Check words is = subst (λ after. is_simple program && built_takes (built program) nothing_held after ≡ true) (sym is) taken_check
 is_taken (Plan options) words is = is.0
+is_taken (Stress options) words is = is.0
 
 abbrev entered_by : List (List ℕ) → Option (Text × List Row)
 entered_by after = entered (built program) (stop_after (built program).top.rules (names_of (built program)) after)
@@ -49,6 +49,7 @@ is_named : (request : Request) (words : List (List ℕ)) → AsksFor request wor
 is_named Run words is = subst (λ after. IsNamed Run (entered_by after)) (sym is) named_run
 is_named Check words is = subst (λ after. IsNamed Check (entered_by after)) (sym is) named_check
 is_named (Plan options) words is = is.1
+is_named (Stress options) words is = is.1
 
 module _ (c : Command) (words : List (List ℕ)) (made : app_of c ≡ program) where
   -- matches of these words are those of the subcommand

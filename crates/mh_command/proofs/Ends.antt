@@ -1,12 +1,10 @@
 -- How a request ends: its work, the last flush, and what is told.
-use Rattle.std.proofs.Common.{◌≡◌, ◌≢◌, ◌⊎◌, ◌<◌, ◌≤◌, ◌+◌, ◌%◌, ◌^◌, inl, inr, refl, sym, ap, ◌∙◌, subst, ℕ, List, [], ◌++◌, append-nil, Option, Some, None, Result, Ok, Err, IfOk, IfErr, OnOk, IfSome, arith}
+use Rattle.std.proofs.Common.{◌≡◌, ◌≢◌, ◌⊎◌, ◌<◌, ◌≤◌, inl, inr, refl, sym, ap, ◌∙◌, subst, ℕ, List, [], ◌++◌, append-nil, Option, Some, None, Result, Ok, Err, IfOk, IfErr, OnOk, IfSome, arith}
 use Rattle.std.proofs.KnownBytes.{Appends-kept, Keeps-refl, Keeps-trans}
 use Rattle.std.specs.Io.KnownBytes.{Appends, Keeps}
 use Rattle.mh_core.specs.Legal.{MachineState}
 use Rattle.mh_text.specs.declared.step.Step.{Step}
 use Rattle.mh_text.specs.Bytes.{HasFailed, one_more}
-use Rattle.mh_text.specs.Checks.{FailsCheck}
-use Rattle.mh_text.specs.Planning.{FailsPlan}
 use Rattle.mh_text.specs.Faults.{fault_line}
 use Rattle.mh_text.specs.Gives.{IsEndOf}
 use Rattle.mh_text.specs.Lines.{lines_of}
@@ -14,13 +12,13 @@ use Rattle.mh_text.specs.Output as output
 use Rattle.mh_text.specs.Output.{first, outside, EndsEarly, Failed}
 use Rattle.mh_text.specs.declared.fault.Fault.{Fault}
 use Rattle.mh_text.specs.declared.fault.TextFault.{TextFault}
-use Rattle.mh_text.specs.declared.fault.TextFault.TheVariants.{NoMemory, TooLong, NotJson, BadShape, BadValue, UnknownShared, Tree, Definition, Problem, ReadFailed, WriteFailed, BadType}
+use Rattle.mh_text.specs.declared.fault.TextFault.TheVariants.{NoMemory, TooLong, NotJson, BadShape, BadValue, UnknownShared, Tree, Definition, Problem, ReadFailed, WriteFailed, BadType, NoReader}
 use Rattle.mh_text.specs.declared.script.Script.{Script}
-use Rattle.mh_command.specs.Answers.{Answer, Answers, EndsIn, FailsIn, IsAnswerTo, Works, output_alone, turned_down}
+use Rattle.mh_command.specs.Answers.{Answers, EndsIn, FailsIn, IsAnswerTo, Works, output_alone, turned_down}
 use Rattle.mh_command.specs.Statuses.{status_told}
-use Rattle.mh_command.specs.Streams.{IsDone, IsKeptBack, IsTold}
+use Rattle.mh_command.specs.Streams.{IsDone, IsTold}
 use Rattle.mh_command.specs.declared.request.Request.{Request}
-use Rattle.mh_command.specs.declared.request.Request.TheVariants.{Run, Check, Plan}
+use Rattle.mh_command.specs.declared.request.Request.TheVariants.{Run, Check, Plan, Stress}
 
 pub one_more_fails : (n : ℕ) → HasFailed n (one_more n)
 one_more_fails n = omega arith
@@ -35,6 +33,7 @@ pub nothing_done : (request : Request) (input old : Option (List ℕ)) (A B : Ty
 nothing_done Run input old A B = inl (Keeps-refl old, inl refl)
 nothing_done Check input old A B = inl (Keeps-refl old, inl refl)
 nothing_done (Plan options) input old A B = inl (Keeps-refl old, inl refl)
+nothing_done (Stress options) input old A B = inl (Keeps-refl old, inl (inl refl))
 
 -- the statuses of faults
 pub told_range : (k : TextFault) → (0 < status_told k) × (status_told k ≤ 4) × (status_told k ≢ 2)
@@ -50,6 +49,7 @@ told_range (Problem cause) = (omega arith, omega arith, omega arith)
 told_range ReadFailed = (omega arith, omega arith, omega arith)
 told_range WriteFailed = (omega arith, omega arith, omega arith)
 told_range (BadType cause) = (omega arith, omega arith, omega arith)
+told_range NoReader = (omega arith, omega arith, omega arith)
 
 -- the status 3 is that of a stream that failed
 stream_failed : (A B : Type 0) (k : TextFault) → status_told k ≡ 3 → IsEndOf A B k → A ⊎ B
@@ -65,6 +65,7 @@ stream_failed A B (Problem cause) three end = absurd (omega (arith, three))
 stream_failed A B ReadFailed three end = inl end
 stream_failed A B WriteFailed three end = inr end
 stream_failed A B (BadType cause) three end = absurd (omega (arith, three))
+stream_failed A B NoReader three end = absurd (omega (arith, three))
 
 -- what was left written stands after a flush, which keeps it
 module _ (old mid new : Option (List ℕ)) (kept : Keeps mid new) where
@@ -86,6 +87,9 @@ module _ (old mid new : Option (List ℕ)) (kept : Keeps mid new) where
   fails_kept (Plan options) input A B e (inl (same, unread)) = inl (Keeps-trans old mid new same kept, unread)
   fails_kept (Plan options) input A B e (inr (text, planned, (is, failed, (front, rest, split, begun)))) =
       inr (text, planned, (is, failed, (front, rest, split, Appends-kept old mid new front begun kept)))
+  fails_kept (Stress options) input A B e (inl (same, unread)) = inl (Keeps-trans old mid new same kept, unread)
+  fails_kept (Stress options) input A B e (inr (text, stressed, (is, failed, (front, rest, split, begun)))) =
+      inr (text, stressed, (is, failed, (front, rest, split, Appends-kept old mid new front begun kept)))
 
   works_kept : (request : Request) (input : Option (List ℕ)) (status : ℕ) → Works request input old mid status → Works request input old new status
   works_kept request None status known = known
@@ -119,6 +123,12 @@ module _ (old new : Option (List ℕ)) (A B : Type 0) (e : Fault) (small : statu
   refuses_input (Plan options) (Some bytes) (inl (kept, inr (inl (read, failed)))) = absurd (not_outside ReadFailed (omega arith) read)
   refuses_input (Plan options) (Some bytes) (inl (kept, inr (inr fault))) = (inr (e, fault, refl), kept)
   refuses_input (Plan options) (Some bytes) (inr (text, planned, (is, failed, begun))) = absurd (not_outside WriteFailed (omega arith) is)
+  refuses_input (Stress options) (Some bytes) (inl (kept, inl (inl memory))) = absurd (not_outside NoMemory (omega arith) memory)
+  refuses_input (Stress options) (Some bytes) (inl (kept, inl (inr (inl (read, failed))))) = absurd (not_outside ReadFailed (omega arith) read)
+  refuses_input (Stress options) (Some bytes) (inl (kept, inl (inr (inr (inl fault))))) = (inr (e, fault, refl), kept)
+  refuses_input (Stress options) (Some bytes) (inl (kept, inl (inr (inr (inr (memory, reached)))))) = absurd (not_of NoMemory (omega arith) memory)
+  refuses_input (Stress options) (Some bytes) (inl (kept, inr reader)) = absurd (not_outside NoReader (omega arith) reader)
+  refuses_input (Stress options) (Some bytes) (inr (text, stressed, (is, failed, begun))) = absurd (not_outside WriteFailed (omega arith) is)
 
 -- The work of a request from the output o to m, a flush to n, and what is told from the errors e to f.
 -- The numbers are the failures of the output and of the errors.

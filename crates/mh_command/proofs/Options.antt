@@ -1,20 +1,29 @@
 -- What the words after `plan` say, as it is read.
-use Rattle.std.proofs.Common.{◌≡◌, ◌≤◌, ◌<◌, ◌^◌, ◌∙◌, refl, sym, ap, subst, arith, ℕ, Bool, true, false, List, Option, Some, None, Result, Ok, Err, codes}
+use Rattle.std.proofs.Common.{◌≡◌, ◌≤◌, ◌<◌, ◌^◌, ◌∙◌, refl, sym, ap, subst, arith, ℕ, Bool, true, false, List, Option, Some, None, Result, Ok, Err, codes, IfSome}
 use Rattle.std.specs.Str.Parse.{ParsesUnsigned}
 use Rattle.clap.specs.Words.{ReadsOne, one_text, rows_of}
 use Rattle.clap.specs.declared.parser.matches.Found.{Found}
 use Rattle.clap.proofs.WalkLemmas.{one_text-rows}
 use Rattle.mh_text.specs.declared.planning.PlanOptions.{PlanOptions}
-use Rattle.mh_command.specs.CommandLine.{AreOptions, IsNumber, truth_text}
+use Rattle.mh_stress.specs.declared.stress.StressOptions.{StressOptions}
+use Rattle.mh_command.specs.CommandLine.{AreOptions, AreStressed, IsNumber, MayBeNumber, truth_text}
 
--- a number of at most 64 is read as what it is
-number_read : {E : Type 0} (G : List ℕ → Result ℕ E → Type 0) → ((t : List ℕ) (x : Result ℕ E) → G t x → ParsesUnsigned 8 10 t x)
-    → (o : Option (List ℕ)) (n : ℕ) (r : Option ℕ) → ((t : List ℕ) → o ≡ Some t → ReadsOne G t r) → IsNumber o n → n ≤ 64 → r ≡ Some n
-number_read G only None n r reads number small = absurd number
-number_read G only (Some t) n (Some v) reads (numeral, is) small = ap Some ((only t (Ok v) (reads t refl)).1 ∙ is)
-number_read G only (Some t) n None reads (numeral, is) small =
+-- a number that has so many bits is read as what it is
+number_read : {E : Type 0} (bits : ℕ) (G : List ℕ → Result ℕ E → Type 0) → ((t : List ℕ) (x : Result ℕ E) → G t x → ParsesUnsigned bits 10 t x)
+    → (o : Option (List ℕ)) (n : ℕ) (r : Option ℕ) → ((t : List ℕ) → o ≡ Some t → ReadsOne G t r) → IsNumber o n → n < 2 ^ bits → r ≡ Some n
+number_read bits G only None n r reads number small = absurd number
+number_read bits G only (Some t) n (Some v) reads (numeral, is) small = ap Some ((only t (Ok v) (reads t refl)).1 ∙ is)
+number_read bits G only (Some t) n None reads (numeral, is) small =
     let failed = reads t refl in
-    absurd (only t (Err failed.0) failed.1 (numeral, subst (λ k. k < 2 ^ 8) (sym is) (omega (arith, small))))
+    absurd (only t (Err failed.0) failed.1 (numeral, subst (λ k. k < 2 ^ bits) (sym is) small))
+
+-- one that may be left out, too
+may_be_read : {E : Type 0} (bits : ℕ) (G : List ℕ → Result ℕ E → Type 0) → ((t : List ℕ) (x : Result ℕ E) → G t x → ParsesUnsigned bits 10 t x)
+    → (o : Option (List ℕ)) (n : Option ℕ) (r : Option ℕ) → (o ≡ None → r ≡ None) → ((t : List ℕ) → o ≡ Some t → ReadsOne G t r) → MayBeNumber o n → IfSome n (λ k. k < 2 ^ bits) → r ≡ n
+may_be_read bits G only None None r none reads number small = none refl
+may_be_read bits G only (Some t) (Some n) r none reads number small = number_read bits G only (Some t) n r reads number small
+may_be_read bits G only None (Some n) r none reads number small = absurd number
+may_be_read bits G only (Some t) None r none reads number small = absurd number
 
 -- a word that is there or not is read as that
 flag_read : (o : Option (List ℕ)) (b : Bool) (r : Bool) → (o ≡ Some (codes "true") → r ≡ true) → (o ≡ Some (codes "false") → r ≡ false) → o ≡ Some (truth_text b) → r ≡ b
@@ -24,8 +33,8 @@ flag_read o false r on off is = off is
 module _ (f : Found) (options : PlanOptions) (are : AreOptions options (rows_of f)) where
   pub workers_are : {E : Type 0} (G : List ℕ → Result ℕ E → Type 0) → ((t : List ℕ) (x : Result ℕ E) → G t x → ParsesUnsigned 8 10 t x)
       → (r : Option ℕ) → ((t : List ℕ) → one_text f (codes "workers") ≡ Some t → ReadsOne G t r) → r ≡ Some options.workers
-  workers_are G only r reads = number_read G only (one_text f (codes "workers")) options.workers r reads
-      (subst (λ o. IsNumber o options.workers) (sym (one_text-rows f (codes "workers"))) are.workers) are.few
+  workers_are G only r reads = number_read 8 G only (one_text f (codes "workers")) options.workers r reads
+      (subst (λ o. IsNumber o options.workers) (sym (one_text-rows f (codes "workers"))) are.workers) (omega (arith, are.few))
 
   pub certificate_is : (r : Bool) → (one_text f (codes "certificate") ≡ Some (codes "true") → r ≡ true)
       → (one_text f (codes "certificate") ≡ Some (codes "false") → r ≡ false) → r ≡ options.certificate
@@ -34,3 +43,19 @@ module _ (f : Found) (options : PlanOptions) (are : AreOptions options (rows_of 
   pub phases_are : (r : Bool) → (one_text f (codes "phases") ≡ Some (codes "true") → r ≡ true)
       → (one_text f (codes "phases") ≡ Some (codes "false") → r ≡ false) → r ≡ options.phases
   phases_are r on off = flag_read _ options.phases r on off (one_text-rows f (codes "phases") ∙ are.phases)
+
+-- what the words after `stress` say
+module _ (f : Found) (options : StressOptions) (are : AreStressed options (rows_of f)) where
+  in_byte : (n : Option ℕ) → IfSome n (λ k. (0 < k) × (k ≤ 64)) → IfSome n (λ k. k < 2 ^ 8)
+  in_byte None small = tt
+  in_byte (Some n) small = let few = small.1 in omega (arith, few)
+
+  pub callers_are : {E : Type 0} (G : List ℕ → Result ℕ E → Type 0) → ((t : List ℕ) (x : Result ℕ E) → G t x → ParsesUnsigned 8 10 t x)
+      → (r : Option ℕ) → (one_text f (codes "workers") ≡ None → r ≡ None) → ((t : List ℕ) → one_text f (codes "workers") ≡ Some t → ReadsOne G t r) → r ≡ options.workers
+  callers_are G only r none reads = may_be_read 8 G only (one_text f (codes "workers")) options.workers r none reads
+      (subst (λ o. MayBeNumber o options.workers) (sym (one_text-rows f (codes "workers"))) are.workers) (in_byte options.workers are.lawful.workers)
+
+  pub rounds_are : {E : Type 0} (G : List ℕ → Result ℕ E → Type 0) → ((t : List ℕ) (x : Result ℕ E) → G t x → ParsesUnsigned 32 10 t x)
+      → (r : Option ℕ) → ((t : List ℕ) → one_text f (codes "rounds") ≡ Some t → ReadsOne G t r) → r ≡ Some options.rounds
+  rounds_are G only r reads = number_read 32 G only (one_text f (codes "rounds")) options.rounds r reads
+      (subst (λ o. IsNumber o options.rounds) (sym (one_text-rows f (codes "rounds"))) are.rounds) (let few = are.lawful.few in omega (arith, few))

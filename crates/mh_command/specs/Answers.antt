@@ -13,6 +13,8 @@ use Rattle.mh_text.specs.declared.script.Script.{Script}
 use Rattle.mh_text.specs.Steps.{Told, Run}
 use Rattle.mh_text.specs.declared.verdict.Verdict.{Verdict}
 use Rattle.mh_text.specs.declared.fault.TextFault.TheVariants.{WriteFailed}
+use Rattle.mh_stress.specs.Stress.{FailsStress, IsStressed}
+use Rattle.mh_stress.specs.declared.stress.StressOptions.{StressOptions}
 use Rattle.mh_command.specs.Statuses.{status_found}
 use Rattle.mh_command.specs.declared.request.Request.{Request}
 use Rattle.mh_command.specs.declared.request.Request.TheVariants as request
@@ -49,11 +51,18 @@ IsPlanAnswer options input answer =
     ((text : List ℕ) × IsPlanned options input text × (answer ≡ output_alone 0 text))
     ⊎ ((e : Fault) × IsProblemFault input e × (answer ≡ turned_down e))
 
+-- a script: the line of the sums of its workers; else its first fault
+abbrev pub IsStressAnswer : StressOptions → List ℕ → Answer → Type 0
+IsStressAnswer options input answer =
+    ((text : List ℕ) × IsStressed options input text × (answer ≡ output_alone 0 text))
+    ⊎ ((e : Fault) × IsScriptFault input e × (answer ≡ turned_down e))
+
 -- what a request is answered with where no stream fails and memory is to be had
 abbrev pub IsAnswerTo : Request → List ℕ → Answer → Type 0
 IsAnswerTo request.Run = IsRunAnswer
 IsAnswerTo request.Check = IsCheckAnswer
 IsAnswerTo (request.Plan options) = IsPlanAnswer options
+IsAnswerTo (request.Stress options) = IsStressAnswer options
 
 -- The status is that of such an answer to the input, and its texts were appended to both streams.
 abbrev pub Answers : Request → Option (List ℕ) → ℕ → Option (List ℕ) → Option (List ℕ) → Option (List ℕ) → Option (List ℕ) → Type 0
@@ -75,6 +84,7 @@ abbrev pub FailsIn : Request → Option (List ℕ) → Option (List ℕ) → Opt
 FailsIn request.Run = Failed
 FailsIn request.Check = FailsCheck
 FailsIn (request.Plan options) = FailsPlan options
+FailsIn (request.Stress options) = FailsStress options
 
 -- A request ends in a fault: its own, or that of the last flush, and the whole answer is then written.
 abbrev pub EndsIn : Request → Option (List ℕ) → Option (List ℕ) → Option (List ℕ) → Type 0 → Type 0 → Fault → Type 0

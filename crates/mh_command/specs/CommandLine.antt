@@ -7,9 +7,11 @@ use Rattle.clap.specs.declared.builder.action.ArgAction.TheVariants.{SetTrue}
 use Rattle.clap.specs.declared.builder.value_parser.ValueParser.TheVariants.{Signed}
 use Rattle.clap.specs.declared.error.kind.ErrorKind.{ErrorKind}
 use Rattle.mh_text.specs.declared.planning.PlanOptions.{PlanOptions}
+use Rattle.mh_stress.specs.Stress.{AreLawful}
+use Rattle.mh_stress.specs.declared.stress.StressOptions.{StressOptions}
 use Rattle.mh_command.specs.Statuses.{status_answered}
 use Rattle.mh_command.specs.declared.request.Request.{Request}
-use Rattle.mh_command.specs.declared.request.Request.TheVariants.{Run, Check, Plan}
+use Rattle.mh_command.specs.declared.request.Request.TheVariants.{Run, Check, Plan, Stress}
 
 -- the program before its subcommands: it has a version, and one of its subcommands is required
 abbrev pub root_app : App
@@ -24,6 +26,19 @@ workers_rule = record (new_rule (codes "workers")) {
   parser = Some (Signed (pos 1) (pos 64));
 }
 
+-- the same, and the script's where it is not given
+abbrev pub callers_rule : Rule
+callers_rule = record (new_rule (codes "workers")) { long = Some (codes "workers"); value_names = 1; parser = Some (Signed (pos 1) (pos 64)) }
+
+-- `--rounds N`, N from 1 to 1,000,000, and 1 where it is not given
+abbrev pub rounds_rule : Rule
+rounds_rule = record (new_rule (codes "rounds")) {
+  long = Some (codes "rounds");
+  value_names = 1;
+  defaults = codes "1" ∷ [];
+  parser = Some (Signed (pos 1) (pos 1000000));
+}
+
 -- a word that is there or not
 abbrev pub flag_rule : List ℕ → Rule
 flag_rule name = record (new_rule name) { long = Some name; action = Some SetTrue }
@@ -31,13 +46,21 @@ flag_rule name = record (new_rule name) { long = Some name; action = Some SetTru
 abbrev pub plan_app : App
 plan_app = with_rule (with_rule (with_rule (new_app (codes "plan")) workers_rule) (flag_rule (codes "certificate"))) (flag_rule (codes "phases"))
 
+abbrev pub stress_app : App
+stress_app = with_rule (with_rule (new_app (codes "stress")) callers_rule) rounds_rule
+
+-- the program with its subcommands that have no options
+abbrev pub plain_app : App
+plain_app = with_subcommand (with_subcommand root_app (new_app (codes "run")).top) (new_app (codes "check")).top
+
 -- the program
 abbrev pub program : App
-program = with_subcommand (with_subcommand (with_subcommand root_app (new_app (codes "run")).top) (new_app (codes "check")).top) plan_app.top
+program = with_subcommand (with_subcommand plain_app plan_app.top) stress_app.top
 
--- there are from 1 to 64 workers
+-- there are from 1 to 64 workers, and some rounds
 abbrev pub HasWorkers : Request → Type 0
 HasWorkers (Plan options) = (0 < options.workers) × (options.workers ≤ 64)
+HasWorkers (Stress options) = AreLawful options
 HasWorkers _ = ⊤
 
 -- a text is a number in decimal digits
@@ -57,19 +80,33 @@ pub record AreOptions (options : PlanOptions) (rows : List Row) : Type 0 where
   pub certificate : one_of (codes "certificate") rows ≡ Some (truth_text options.certificate)
   pub phases : one_of (codes "phases") rows ≡ Some (truth_text options.phases)
 
+-- a number that may be left out
+abbrev pub MayBeNumber : Option (List ℕ) → Option ℕ → Type 0
+MayBeNumber (Some text) (Some n) = IsNumber (Some text) n
+MayBeNumber None None = ⊤
+MayBeNumber _ _ = ⊥
+
+-- what was found after `stress` says these options
+pub record AreStressed (options : StressOptions) (rows : List Row) : Type 0 where
+  pub workers : MayBeNumber (one_of (codes "workers") rows) options.workers
+  pub rounds : IsNumber (one_of (codes "rounds") rows) options.rounds
+  pub lawful : AreLawful options
+
 -- the subcommand of a request, with what was found after it
 abbrev pub IsNamed : Request → Option (List ℕ × List Row) → Type 0
 IsNamed Run (Some (name, rows)) = name ≡ codes "run"
 IsNamed Check (Some (name, rows)) = name ≡ codes "check"
 IsNamed (Plan options) (Some (name, rows)) = (name ≡ codes "plan") × AreOptions options rows
+IsNamed (Stress options) (Some (name, rows)) = (name ≡ codes "stress") × AreStressed options rows
 IsNamed request None = ⊥
 
 -- The words, the program's name first, are those of this request: `mhlink run`; or, in any order that clap takes,
--- `mhlink plan --workers 2 --certificate`.
+-- `mhlink plan --workers 2 --certificate` and `mhlink stress --rounds 3`.
 abbrev pub AsksFor : Request → List (List ℕ) → Type 0
 AsksFor Run words = drop 1 words ≡ codes "run" ∷ []
 AsksFor Check words = drop 1 words ≡ codes "check" ∷ []
 AsksFor (Plan options) words = (takes program words ≡ true) × IsNamed (Plan options) (subcommand_of program words)
+AsksFor (Stress options) words = (takes program words ≡ true) × IsNamed (Stress options) (subcommand_of program words)
 
 -- those of `mhlink --help`, or of `mhlink -h`
 abbrev pub AsksHelp : List (List ℕ) → Type 0

@@ -5,11 +5,12 @@ use Rattle.clap.specs.declared.error.kind.ErrorKind.TheVariants.{DisplayHelp, Di
 use Rattle.mh_text.specs.declared.verdict.Verdict.{Verdict}
 use Rattle.mh_text.specs.declared.verdict.Verdict.TheVariants.{Accepted, Refused}
 use Rattle.mh_text.specs.declared.fault.TextFault.{TextFault}
-use Rattle.mh_text.specs.declared.fault.TextFault.TheVariants.{NoMemory, ReadFailed, WriteFailed}
+use Rattle.mh_text.specs.declared.fault.TextFault.TheVariants.{NoMemory, NoReader, ReadFailed, WriteFailed}
 
--- of a fault: 4 where memory ran out, 3 where a read or a write failed, 1 where the input is refused
+-- of a fault: 4 where memory ran out or no reader could be made, 3 where a read or a write failed, 1 where the input is refused
 abbrev pub status_told : TextFault → ℕ
 status_told NoMemory = 4
+status_told NoReader = 4
 status_told ReadFailed = 3
 status_told WriteFailed = 3
 status_told _ = 1

@@ -1,5 +1,5 @@
 -- What happens to the streams of a command line.
-use Rattle.std.specs.Prelude.{◌≡◌, ◌≢◌, ◌⊎◌, ℕ, List, Option}
+use Rattle.std.specs.Prelude.{◌≡◌, ◌⊎◌, ℕ, List, Option}
 use Rattle.std.specs.Io.KnownBytes.{Appends, Keeps}
 use Rattle.mh_text.specs.Bytes.{HasFailed}
 use Rattle.mh_text.specs.Faults.{fault_line}

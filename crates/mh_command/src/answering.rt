@@ -15,13 +15,15 @@ use crate::request::Request;
 use crate::status::{COMMAND_LINE, DONE, IO_FAILED, NO_MEMORY, status_of_fault, status_of_verdict};
 use clap::Error;
 use clap::error::ErrorKind;
+use mh_stress::stress_bytes;
 use mh_text::{Fault, TextFault, Watched, check_bytes, plan_bytes, run_bytes};
 use std::alloc::Global;
 use std::io::{Read, Write};
+use std::sync::Wait;
 use std::thread::Threads;
 
 /// Does what the request asks, up to the last flush, and gives its status.
-pub(crate) fn work<T: Threads + Sync, R: Read, W: Write>(
+pub(crate) fn work<T: Threads + Wait + Sync, R: Read, W: Write>(
     rt: &T,
     alloc: Global,
     request: Request,
@@ -51,6 +53,10 @@ pub(crate) fn work<T: Threads + Sync, R: Read, W: Write>(
         }
         Request::Plan(options) => {
             plan_bytes(rt, alloc, options, reader, out)?;
+            Ok(DONE)
+        }
+        Request::Stress(options) => {
+            stress_bytes(rt, alloc, options, reader, out)?;
             Ok(DONE)
         }
     }

@@ -17,10 +17,11 @@ use mh_text::Watched;
 use std::alloc::Global;
 use std::convert::AsStr;
 use std::io::{Read, Write};
+use std::sync::Wait;
 use std::thread::Threads;
 
 /// Does what is asked, and gives the status.
-fn perform<T: Threads + Sync, R: Read, W: Write, E: Write>(
+fn perform<T: Threads + Wait + Sync, R: Read, W: Write, E: Write>(
     rt: &T,
     alloc: Global,
     request: Request,
@@ -53,10 +54,13 @@ fn perform<T: Threads + Sync, R: Read, W: Write, E: Write>(
 /// `mhlink run` reads a script from `reader`, and writes the line of each reply to `out`. `mhlink
 /// check` reads a problem and a plan, and writes to `out` whether the plan is accepted. `mhlink plan`
 /// reads a problem, and writes its best plan to `out`; it takes `--workers N`, N from 1 to 64,
-/// `--certificate` and `--phases`, and starts threads by `rt`. A fault is one line on `err`. The statuses: 0 done, also help and the version, which go to `out`; 1 the input
-/// is refused, or its plan; 2 the command line is wrong, and nothing is read; 3 a read, a write or a
-/// flush failed; 4 memory ran out outside an event.
-pub fn command<T: Threads + Sync, S: AsStr, R: Read, W: Write, E: Write>(
+/// `--certificate` and `--phases`, and starts threads by `rt`. `mhlink stress` reads a script, runs its
+/// calls in threads, and writes the sums of their hits to `out`; it takes `--workers N`, N from 1 to 64,
+/// and `--rounds N`, N from 1 to 1,000,000. A fault is one line on `err`. The statuses: 0 done, also help
+/// and the version, which go to `out`; 1 the input is refused, or its plan; 2 the command line is wrong,
+/// and nothing is read; 3 a read, a write or a flush failed; 4 memory ran out outside an event, or
+/// readers of a published world.
+pub fn command<T: Threads + Wait + Sync, S: AsStr, R: Read, W: Write, E: Write>(
     rt: &T,
     alloc: Global,
     words: &[S],

@@ -3,9 +3,12 @@ ghost use Rattle.std.specs.Prelude.{◌≡◌, ◌<◌, ◌≤◌, ◌⊎◌, []
 ghost use Rattle.clap.specs.Words.{app_of, fault_of, found_of, kind_of, new_app, rows_of, rule_of, subcommand_rows_of, with_rule};
 ghost use Rattle.clap.specs.declared.builder.command.Command.TheViews.{out-Command};
 ghost use Rattle.clap.specs.declared.error.kind.ErrorKind.{ErrorKind};
-ghost use Rattle.mh_command.specs.CommandLine.{root_app, plan_app, program, workers_rule, flag_rule, AreOptions, AsksFor, HasWorkers, IsNamed};
+ghost use Rattle.mh_stress.specs.Stress.{AreLawful};
+ghost use Rattle.mh_stress.specs.declared.stress.StressOptions.{StressOptions};
+ghost use Rattle.mh_command.specs.CommandLine.{root_app, plain_app, plan_app, stress_app, program, workers_rule, callers_rule, rounds_rule, flag_rule, AreOptions, AreStressed, AsksFor, HasWorkers, IsNamed};
 
 use clap::{Arg, ArgAction, ArgMatches, Command, Error, value_parser};
+use mh_stress::{MOST_ROUNDS, StressOptions};
 use mh_text::PlanOptions;
 use std::alloc::{AllocError, Global};
 use std::convert::AsStr;
@@ -19,6 +22,8 @@ pub enum Request {
     Check,
     /// `mhlink plan`: the best plan of a problem.
     Plan(PlanOptions),
+    /// `mhlink stress`: the sums of a script on running threads.
+    Stress(StressOptions),
 }
 
 /// What `mhlink --help` ends with.
@@ -27,9 +32,10 @@ Examples:
   mhlink run < examples/first-calls.json
   mhlink check < examples/check-shared-point.json
   mhlink plan --certificate < examples/plan-shared-point.json
+  mhlink stress --rounds 1000 < examples/stress-calls.json
 
 Statuses: 0 done, 1 the input or its plan is refused, 2 the command line is wrong,
-3 a read or a write failed, 4 memory ran out.
+3 a read or a write failed, 4 memory ran out, or readers of the published world.
 Formats are described in docs/FORMATS.md, faults and refusals in docs/FAULTS.md.";
 
 /// What `mhlink run --help` ends with.
@@ -56,6 +62,15 @@ line of its plan: links, points, value, and the sum of the flow that shows it to
 
 Example:
   mhlink plan --workers 4 --certificate < examples/plan-shared-point.json";
+
+/// What `mhlink stress --help` ends with.
+const AFTER_STRESS: &str = "\
+Reads a script from standard input, as `mhlink run` does. Each worker makes its calls, in a
+thread of its own, and flushes, as many times as there are rounds. Meanwhile the other
+events but flushes are made once. Then the hits of all links are added up.
+
+Example:
+  mhlink stress --workers 2 --rounds 1000 < examples/stress-calls.json";
 
 fn run_command<'a>(alloc: Global) -> Command<'a>
     ensures app { app_of result ≡ new_app (codes "run") }
@@ -131,6 +146,43 @@ fn plan_command<'a>(alloc: Global) -> Result<Command<'a>, AllocError>
     Ok(command)
 }
 
+/// How many workers call.
+fn callers_option<'a>(alloc: Global) -> Arg<'a>
+    ensures rule { rule_of result ≡ callers_rule }
+    ensures own { result.global ≡ false }
+{
+    Arg::new(alloc, "workers")
+        .long("workers")
+        .value_name("N")
+        .value_parser(value_parser!(u8).range(1..=64))
+        .help("How many workers call, from 1 to 64; as many as the script has, if not given")
+}
+
+/// How often they call.
+fn rounds_option<'a>(alloc: Global) -> Arg<'a>
+    ensures rule { rule_of result ≡ rounds_rule }
+    ensures own { result.global ≡ false }
+{
+    Arg::new(alloc, "rounds")
+        .long("rounds")
+        .value_name("N")
+        .default_value("1")
+        .value_parser(value_parser!(u32).range(1..=1_000_000))
+        .help("How often each worker makes its calls, from 1 to 1000000")
+}
+
+fn stress_command<'a>(alloc: Global) -> Result<Command<'a>, AllocError>
+    ensures app { IfOk result (λ c. app_of c ≡ stress_app) }
+    ensures local { IfOk result (λ c. (out-Command c).has_globals ≡ false) }
+{
+    let command = Command::new(alloc, "stress")
+        .about("Runs the calls of the script on standard input in threads, and adds them up")
+        .after_help(AFTER_STRESS);
+    let command = with_option(command, callers_option(alloc))?;
+    let command = with_option(command, rounds_option(alloc))?;
+    Ok(command)
+}
+
 /// The program before its subcommands.
 fn root_command<'a>(alloc: Global) -> Command<'a>
     ensures app { app_of result ≡ root_app }
@@ -142,14 +194,22 @@ fn root_command<'a>(alloc: Global) -> Command<'a>
         .subcommand_required(true)
 }
 
+/// The program with its subcommands that have no options.
+fn plain_command<'a>(alloc: Global) -> Result<Command<'a>, AllocError>
+    ensures app { IfOk result (λ c. app_of c ≡ plain_app) }
+{
+    root_command(alloc)
+        .subcommand(run_command(alloc))?
+        .subcommand(check_command(alloc))
+}
+
 /// The command lines that the program takes.
 fn build<'a>(alloc: Global) -> Result<Command<'a>, AllocError>
     ensures app { IfOk result (λ c. app_of c ≡ program) }
 {
-    root_command(alloc)
-        .subcommand(run_command(alloc))?
-        .subcommand(check_command(alloc))?
-        .subcommand(plan_command(alloc)?)
+    plain_command(alloc)?
+        .subcommand(plan_command(alloc)?)?
+        .subcommand(stress_command(alloc)?)
 }
 
 /// The options of the words after `plan`; none where there are not from 1 to 64 workers, which clap
@@ -170,6 +230,42 @@ fn options_of(matches: &ArgMatches) -> Option<PlanOptions>
     })
 }
 
+/// The number as one of 32 bits.
+fn widened(number: Option<u8>) -> Option<u32>
+    ensures value { result ≡ number }
+{
+    match number {
+        Some(number) => Some(u32::from(number)),
+        None => None,
+    }
+}
+
+/// The options, where both numbers are in their ranges.
+fn lawful(options: StressOptions) -> Option<StressOptions>
+    ensures same { AreLawful options → result ≡ Some options }
+    ensures lawful { IfSome result AreLawful }
+{
+    if let Some(workers) = options.workers {
+        if workers == 0 || workers > 64 {
+            return None;
+        }
+    }
+    if options.rounds == 0 || options.rounds > MOST_ROUNDS {
+        return None;
+    }
+    Some(options)
+}
+
+/// The options of the words after `stress`; none where a number is out of its range, which clap refuses itself.
+fn stress_options_of(matches: &ArgMatches) -> Option<StressOptions>
+    ensures value { (options : StressOptions) → AreStressed options (rows_of (found_of matches.now)) → result ≡ Some options }
+    ensures lawful { IfSome result AreLawful }
+{
+    let workers = widened(matches.get_one::<u8>("workers"));
+    let rounds = matches.get_one::<u32>("rounds")?;
+    lawful(StressOptions { workers, rounds })
+}
+
 /// The request of the subcommand that was used; none where none was, which clap refuses itself.
 fn request_of(matches: &ArgMatches) -> Option<Request>
     ensures value { (request : Request) → IsNamed request (subcommand_rows_of matches.now) → result ≡ Some request }
@@ -179,6 +275,7 @@ fn request_of(matches: &ArgMatches) -> Option<Request>
         ("run", _) => Some(Request::Run),
         ("check", _) => Some(Request::Check),
         ("plan", options) => Some(Request::Plan(options_of(options)?)),
+        ("stress", options) => Some(Request::Stress(stress_options_of(options)?)),
         _ => None,
     }
 }

@@ -16,7 +16,7 @@ pub const COMMAND_LINE: u8 = 2;
 /// The exit status where a read, a write or a flush failed.
 pub const IO_FAILED: u8 = 3;
 
-/// The exit status where memory ran out outside an event.
+/// The exit status where memory ran out outside an event, or readers of a published world.
 pub const NO_MEMORY: u8 = 4;
 
 /// The status that a fault ends with.
@@ -24,7 +24,7 @@ pub(crate) fn status_of_fault(kind: TextFault) -> u8
     ensures value { result ≡ status_told kind }
 {
     match kind {
-        TextFault::NoMemory => NO_MEMORY,
+        TextFault::NoMemory | TextFault::NoReader => NO_MEMORY,
         TextFault::ReadFailed | TextFault::WriteFailed => IO_FAILED,
         _ => REFUSED,
     }

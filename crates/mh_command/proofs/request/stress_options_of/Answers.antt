@@ -1,0 +1,26 @@
+use Rattle.std.proofs.Common.{◌≡◌, ◌∙◌, refl, sym, subst, ap, ℕ, Option, Some}
+use Rattle.std.specs.Str.Parse.{ParsesUnsigned, ExplainsUnsignedError, HasUnsignedDigitsIfOk}
+use Rattle.clap.specs.Words.{found_of}
+use Rattle.mh_stress.specs.Stress.{AreLawful}
+use Rattle.mh_stress.specs.declared.stress.StressOptions.{StressOptions}
+use Rattle.mh_command.proofs.Options.{callers_are, rounds_are}
+use Rattle.mh_command.proofs.request.stress_options_of.Goals as goal
+
+pub returns-in_err-rounds-clause-value : goal.returns-in_err-rounds-clause-value
+returns-in_err-rounds-clause-value c = λ options are.
+    let read = rounds_are (found_of c.args.matches.now) options are (λ bs r. ParsesUnsigned 32 10 bs r × ExplainsUnsignedError 10 bs r × HasUnsignedDigitsIfOk bs r) (λ t x g. g.0) c.get_one-2.result c.get_one-2.ensures.value in
+    let none = c.in_err-rounds.was in
+    cc
+
+made_of : (workers : Option ℕ) (rounds : ℕ) (options : StressOptions) → workers ≡ options.workers → rounds ≡ options.rounds → record { workers = workers; rounds = rounds } ≡ options
+made_of workers rounds options w r = rw (w, r) refl
+
+pub returns-clause-value : goal.returns-clause-value
+returns-clause-value c = λ options are.
+    let read = rounds_are (found_of c.args.matches.now) options are (λ bs r. ParsesUnsigned 32 10 bs r × ExplainsUnsignedError 10 bs r × HasUnsignedDigitsIfOk bs r) (λ t x g. g.0) c.get_one-2.result c.get_one-2.ensures.value in
+    let is = c.in_ok-rounds.was in
+    let rounds : c.in_ok-rounds.rounds ≡ options.rounds = cc in
+    let callers = callers_are (found_of c.args.matches.now) options are (λ bs r. ParsesUnsigned 8 10 bs r × ExplainsUnsignedError 10 bs r × HasUnsignedDigitsIfOk bs r) (λ t x g. g.0) c.get_one.result c.get_one.ensures.none c.get_one.ensures.value in
+    let workers : c.widened-workers.result ≡ options.workers = c.widened-workers.ensures.value ∙ callers in
+    let made = made_of c.widened-workers.result c.in_ok-rounds.rounds options workers rounds in
+    c.lawful.ensures.same (subst AreLawful (sym made) are.lawful) ∙ ap (λ (o : StressOptions). Some o) made

@@ -1,0 +1,4 @@
+pub mod Hits
+pub mod WorkerSums
+pub mod Settling
+pub mod Sending

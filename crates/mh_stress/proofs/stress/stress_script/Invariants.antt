@@ -1,0 +1,5 @@
+use Rattle.mh_stress.proofs.stress.stress_script.Given as goal
+
+-- the list and the definition that were just opened
+abbrev pub ghosts-run_threads : goal.ghosts-run_threads
+ghosts-run_threads g a = record { book = a.opening.name; definition = a.opening.definition }

@@ -1,0 +1,76 @@
+-- What a stress of a script writes.
+use Rattle.std.specs.Prelude.{ℕ, ◌≡◌, ◌⊎◌, ◌+◌, ◌*◌, ◌<◌, ◌≤◌, List, [], ◌∷◌, ◌++◌, Option, Some, None, Ok, codes, length, max, min, IfSome}
+use Rattle.std.specs.Fmt.{decimal}
+use Rattle.std.specs.Io.KnownBytes.{Keeps}
+use Rattle.std.specs.List.{range_with_len, sum_by}
+use Rattle.mh_site.specs.Defined.{DefinitionData}
+use Rattle.mh_site.specs.Links.{links}
+use Rattle.mh_core.specs.Books.{Legal}
+use Rattle.mh_core.specs.Limits.{LimitsData}
+use Rattle.mh_core.specs.Records.{total}
+use Rattle.mh_core.specs.declared.record.Record.{Record}
+use Rattle.mh_text.specs.Output.{EndsReading, IsUnread, outside, script_of_input}
+use Rattle.mh_text.specs.Planning.{IsCutShort}
+use Rattle.mh_text.specs.declared.fault.Fault.{Fault}
+use Rattle.mh_text.specs.declared.fault.TextFault.TheVariants.{NoReader}
+use Rattle.mh_text.specs.declared.script.Script.{Script}
+use Rattle.mh_stress.specs.Divisions.{calls_in}
+use Rattle.mh_stress.specs.Rounds.{times_hit}
+use Rattle.mh_stress.specs.declared.division.Call.{Call}
+use Rattle.mh_stress.specs.declared.stress.StressOptions.{StressOptions}
+use Rattle.mh_stress.specs.declared.sums.Sums.{Sums}
+
+-- from 1 to 64 workers, where they are said, and from 1 to 1,000,000 rounds
+pub record AreLawful (options : StressOptions) : Type 0 where
+  pub workers : IfSome options.workers (λ n. (0 < n) × (n ≤ 64))
+  pub some : 0 < options.rounds
+  pub few : options.rounds ≤ 1000000
+
+-- those that are said, or the script's, which has from 1 to 64
+abbrev pub workers_of : Option ℕ → ℕ → ℕ
+workers_of (Some n) own = n
+workers_of None own = max 1 (min own 64)
+
+-- what was flushed and what was not, over the first links
+abbrev pub sums_over : ℕ → (ℕ → ℕ) → (ℕ → ℕ) → Sums
+sums_over n total unflushed =
+    let flushed = sum_by total (range_with_len 0 n) in
+    let rest = sum_by unflushed (range_with_len 0 n) in
+    record { made = flushed + rest; totals = flushed; unflushed = rest }
+
+-- how often all workers together hit a link in one round of these calls
+abbrev pub hits_of_round : DefinitionData → List Call → ℕ → ℕ → ℕ
+hits_of_round d calls workers j = sum_by (λ w. times_hit d calls w j) (range_with_len 0 workers)
+
+-- The totals are those of some legal records over the definition. No link has more hits than all rounds of the calls make.
+pub record IsSettlement (d : DefinitionData) (calls : List Call) (workers rounds : ℕ) (sums : Sums) : Type 0 where
+  pub limits : LimitsData
+  pub records : List Record
+  pub legal : Legal d limits records
+  pub unflushed : ℕ → ℕ
+  pub within : (j : ℕ) → j < length (links d) → total records j + unflushed j ≤ rounds * hits_of_round d calls workers j
+  pub sums_are : sums ≡ sums_over (length (links d)) (total records) unflushed
+
+-- the same of a script
+abbrev pub IsSettlementOf : StressOptions → Script → Sums → Type 0
+IsSettlementOf options script =
+    IsSettlement script.definition (calls_in script.steps) (workers_of options.workers script.workers) options.rounds
+
+-- `settled made 9 totals 9 unflushed 0`
+abbrev pub settled_text : Sums → List ℕ
+settled_text sums = codes "settled made " ++ (decimal sums.made ++ (codes " totals " ++ (decimal sums.totals ++ (codes " unflushed " ++ decimal sums.unflushed))))
+
+-- the same, and the byte 0x0A
+abbrev pub settled_line : Sums → List ℕ
+settled_line sums = settled_text sums ++ 10 ∷ []
+
+-- the line of the script of an input
+abbrev pub IsStressed : StressOptions → List ℕ → List ℕ → Type 0
+IsStressed options input text =
+    (script : Script) × (sums : Sums) × (script_of_input input ≡ Ok script) × IsSettlementOf options script sums × (text ≡ settled_line sums)
+
+-- Where a fault leaves the writer: as it was, or with a beginning of the line.
+abbrev pub FailsStress : StressOptions → Option (List ℕ) → Option (List ℕ) → Option (List ℕ) → Type 0 → Type 0 → Fault → Type 0
+FailsStress options input old new ReadHasFailed WriteHasFailed e =
+    (Keeps old new × (IsUnread EndsReading input ReadHasFailed e ⊎ (e ≡ outside NoReader)))
+    ⊎ ((text : List ℕ) × IfSome input (λ bytes. IsStressed options bytes text) × IsCutShort old new WriteHasFailed e text)

@@ -1,0 +1,74 @@
+//! What the main thread does meanwhile.
+ghost use Rattle.std.specs.Prelude.{◌<◌, ◌≤◌};
+
+use mh_core::{Event, Refusal};
+use mh_live::{Live, Name, Receipt};
+use mh_text::{Step, best_plan};
+use std::alloc::Global;
+use std::sync::Wait;
+use std::thread::Threads;
+
+/// Makes the changes, one after another, each once. One that is refused is passed over.
+pub(crate) fn make_changes<N: Name, T: Threads + Wait + Sync>(
+    rt: &T,
+    alloc: Global,
+    live: &Live<N>,
+    changes: Vec<Step>,
+    workers: usize,
+)
+    requires some { 0 < workers }
+    requires few { workers ≤ 64 }
+{
+    for step in changes {
+        let _receipt = make_change(rt, alloc, live, step, workers);
+    }
+}
+
+/// Makes one change. None where the step is a call or a flush, which workers make.
+fn make_change<N: Name, T: Threads + Wait + Sync>(
+    rt: &T,
+    alloc: Global,
+    live: &Live<N>,
+    step: Step,
+    workers: usize,
+) -> Option<Result<Receipt<N>, Refusal>>
+    requires some { 0 < workers }
+    requires few { workers ≤ 64 }
+{
+    match step {
+        Step::Plan { snapshot } => Some(publish(rt, alloc, live, snapshot, workers)),
+        Step::Ask(event) => ask(rt, live, event),
+    }
+}
+
+/// Makes a plan for a snapshot, and publishes it.
+fn publish<N: Name, T: Threads + Wait + Sync>(
+    rt: &T,
+    alloc: Global,
+    live: &Live<N>,
+    snapshot: usize,
+    workers: usize,
+) -> Result<Receipt<N>, Refusal>
+    requires some { 0 < workers }
+    requires few { workers ≤ 64 }
+{
+    let problem = live.problem(rt, snapshot)?;
+    let plan = best_plan(rt, alloc, &problem, workers)?;
+    live.publish(rt, snapshot, plan)
+}
+
+/// What the office answers to an event.
+fn ask<N: Name, R: Wait>(
+    rt: &R,
+    live: &Live<N>,
+    event: Event,
+) -> Option<Result<Receipt<N>, Refusal>> {
+    match event {
+        Event::Call { .. } | Event::Flush { .. } => None,
+        Event::Target { site, tree } => Some(live.set_target(rt, site, tree)),
+        Event::Invalidate { points } => Some(live.invalidate(rt, points)),
+        Event::Snapshot => Some(live.snapshot(rt)),
+        Event::Publish { snapshot, plan } => Some(live.publish(rt, snapshot, plan)),
+        Event::Install { plan } => Some(live.install(rt, plan)),
+    }
+}

@@ -1,0 +1,60 @@
+//! What of a script the workers make, and what the main thread.
+ghost use Rattle.std.specs.Prelude.{◌≡◌, ◌++◌, IfOk, OnOk};
+ghost use Rattle.mh_stress.specs.Divisions.{calls_in, calls_of, changes_in, changes_of};
+
+use mh_core::Event;
+use mh_site::Listing;
+use mh_text::Step;
+use mh_type::Value;
+use std::alloc::{AllocError, Global};
+
+/// A call that a script has, and the worker that makes it.
+#[derive(Drop)]
+pub struct Call {
+    pub worker: u32,
+    pub site: usize,
+    pub arguments: Listing<Value>,
+}
+
+/// The calls of a script, and its other events but flushes, each in their order.
+#[derive(Drop)]
+pub struct Division {
+    pub calls: Vec<Call>,
+    pub changes: Vec<Step>,
+}
+
+/// The calls among these steps, and the changes.
+pub(crate) fn divide(alloc: Global, steps: Vec<Step>) -> Result<Division, AllocError>
+    ensures calls { IfOk result (λ d. d.calls.items ≡ calls_in steps.items) }
+    ensures changes { IfOk result (λ d. d.changes.items ≡ changes_in steps.items) }
+{
+    let mut calls = Vec::new(alloc);
+    let mut changes = Vec::new(alloc);
+    for step in steps {
+        sort_in(&mut calls, &mut changes, step)?;
+    }
+    Ok(Division { calls, changes })
+}
+
+/// Puts a step where it belongs.
+fn sort_in(calls: &mut Vec<Call>, changes: &mut Vec<Step>, step: Step) -> Result<(), AllocError>
+    ensures calls { OnOk result (calls.new.items ≡ calls.old.items ++ calls_of step) }
+    ensures changes { OnOk result (changes.new.items ≡ changes.old.items ++ changes_of step) }
+{
+    match step {
+        Step::Ask(
+            Event::Call {
+                worker,
+                site,
+                arguments,
+            },
+        ) => calls.push(Call {
+            worker,
+            site,
+            arguments,
+        })?,
+        Step::Ask(Event::Flush { .. }) => {}
+        other => changes.push(other)?,
+    }
+    Ok(())
+}

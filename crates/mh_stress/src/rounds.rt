@@ -1,0 +1,42 @@
+//! What one worker does.
+ghost use Rattle.std.specs.Prelude.{◌≡◌};
+ghost use Rattle.mh_stress.specs.Rounds.{HasCalled, HasWorked, MakesCall};
+
+use crate::division::Call;
+use mh_live::{Live, Name, Pass};
+use std::sync::Wait;
+
+/// Makes a call, where it names the pass's worker. One that is refused is passed over.
+fn make_call<N: Name>(pass: &mut Pass<N>, call: &Call)
+    ensures made { MakesCall N.definition call.now pass.old pass.new }
+{
+    if call.worker as usize == pass.worker() {
+        let _answer = pass.call(call.site, call.arguments.as_slice());
+    }
+}
+
+/// Makes its worker's calls among these, in their order.
+fn make_calls<N: Name>(pass: &mut Pass<N>, calls: &[Call])
+    ensures called { HasCalled N.definition calls.now pass.old pass.new }
+{
+    for call in calls {
+        make_call(pass, call);
+    }
+}
+
+/// Makes a worker's calls and flushes, so many times. A flush that is refused is passed over.
+pub(crate) fn make_rounds<N: Name, R: Wait>(
+    rt: &R,
+    live: &Live<N>,
+    mut pass: Pass<N>,
+    calls: &[Call],
+    rounds: u32,
+) -> Pass<N>
+    ensures worked { HasWorked N.definition calls.now rounds pass result }
+{
+    for _ in 0..rounds {
+        make_calls(&mut pass, calls);
+        let _receipt = live.flush(rt, &mut pass);
+    }
+    pass
+}

@@ -1,0 +1,158 @@
+//! A script in, the sums of its workers out.
+ghost use Rattle.std.specs.Prelude.{◌≡◌, ◌⊎◌, ◌<◌, ◌≤◌, ℕ, List, string_bytes, length, IfOk, IfErr, IfSome, OnOk};
+ghost use Rattle.std.specs.Io.KnownBytes.{Appends};
+ghost use Rattle.mh_text.specs.Bytes.{HasFailed};
+ghost use Rattle.mh_text.specs.Gives.{IsEndOf};
+ghost use Rattle.mh_text.specs.Output.{outside};
+ghost use Rattle.mh_text.specs.declared.fault.TextFault.TheVariants.{NoMemory, NoReader};
+ghost use Rattle.mh_stress.specs.Stress.{AreLawful, FailsStress, IsSettlement, IsSettlementOf, IsStressed, workers_of};
+ghost use Rattle.mh_stress.specs.Rounds.{AreFresh};
+
+use crate::division::{Division, divide};
+use crate::sums::{Sums, line, sums_of};
+use crate::threads::work_beside;
+use mh_live::{Live, MOST_WORKERS, Name, OpenFault, Opening, Pass};
+use mh_text::{Fault, Script, TextFault, Watched, read_script_from, write_lines};
+use std::alloc::Global;
+use std::io::{Read, Write};
+use std::marker::Brand;
+use std::sync::Wait;
+use std::thread::Threads;
+
+/// The most rounds of a stress.
+pub const MOST_ROUNDS: u32 = 1_000_000;
+
+/// How a script is stressed.
+#[derive(Clone, Copy, Debug, PartialEq, Eq)]
+pub struct StressOptions {
+    /// How many workers call, from 1 to 64; as many as the script has, where it is not said.
+    pub workers: Option<u32>,
+    /// How often each worker makes its calls, from 1 to 1,000,000.
+    pub rounds: u32,
+}
+
+/// What an office is not opened for, as a fault outside the events.
+fn fault_of(cause: OpenFault) -> Fault
+    ensures value { (result ≡ outside NoMemory) ⊎ (result ≡ outside NoReader) }
+{
+    match cause {
+        OpenFault::NoMemory => Fault::from(TextFault::NoMemory),
+        OpenFault::NoReader => Fault::from(TextFault::NoReader),
+    }
+}
+
+/// Has the workers make their rounds beside the changes, and settles.
+fn settle_rounds<N: Name + Send + Sync, T: Threads + Wait + Sync>(
+    rt: &T,
+    alloc: Global,
+    live: Live<N>,
+    passes: Vec<Pass<N>>,
+    division: Division,
+    rounds: u32,
+) -> Result<Sums, Fault>
+    requires fresh { AreFresh N.definition passes.items }
+    requires workers { (0 < length passes.items) × (length passes.items ≤ 64) }
+    requires rounds { rounds ≤ 1000000 }
+    ensures settled { IfOk result (IsSettlement N.definition division.calls.items (length passes.items) rounds) }
+    ensures told { IfErr result (λ e. e ≡ outside NoMemory) }
+{
+    let workers = passes.len();
+    let Some(passes) = work_beside(rt, alloc, &live, passes, division, rounds, workers) else {
+        return Err(Fault::from(TextFault::NoMemory));
+    };
+    match live.settle(rt, alloc, passes) {
+        Ok(settled) => Ok(sums_of(&settled)),
+        // No pass is missing that an opening made; so memory was.
+        Err(_) => Err(Fault::from(TextFault::NoMemory)),
+    }
+}
+
+/// Opens the office, has the workers make their rounds beside the changes, and settles.
+fn run_threads<N: Name + Send + Sync, T: Threads + Wait + Sync>(
+    rt: &T,
+    alloc: Global,
+    opening: Opening,
+    division: Division,
+    rounds: u32,
+) -> Result<Sums, Fault>
+    requires name { opening.name ≡ N.book }
+    requires definition { opening.definition ≡ N.definition }
+    requires workers { (0 < opening.workers) × (opening.workers ≤ 64) }
+    requires rounds { rounds ≤ 1000000 }
+    ensures settled { IfOk result (IsSettlement opening.definition division.calls.items opening.workers rounds) }
+    ensures told { IfErr result (λ e. (e ≡ outside NoMemory) ⊎ (e ≡ outside NoReader)) }
+{
+    match opening.open::<N>() {
+        Ok((live, passes)) => settle_rounds(rt, alloc, live, passes, division, rounds),
+        Err(cause) => Err(fault_of(cause)),
+    }
+}
+
+/// How many workers are asked for, or that the script has.
+fn workers_for(options: StressOptions, own: u32) -> u32
+    requires options { AreLawful options }
+    ensures value { result ≡ workers_of options.workers own }
+    ensures some { 0 < result }
+    ensures few { result ≤ 64 }
+{
+    match options.workers {
+        Some(workers) => workers,
+        None => own.clamp(1, MOST_WORKERS),
+    }
+}
+
+/// Stresses a script.
+fn stress_script<T: Threads + Wait + Sync>(
+    rt: &T,
+    alloc: Global,
+    options: StressOptions,
+    script: Script,
+) -> Result<Sums, Fault>
+    requires options { AreLawful options }
+    ensures settled { IfOk result (IsSettlementOf options script) }
+    ensures told { IfErr result (λ e. (e ≡ outside NoMemory) ⊎ (e ≡ outside NoReader)) }
+{
+    let Script {
+        definition,
+        workers,
+        limits,
+        steps,
+    } = script;
+    let workers = workers_for(options, workers);
+    let division = divide(alloc, steps.into_vec())?;
+    let opening = Opening::new(alloc, &definition, workers, limits).map_err(fault_of)?;
+    run_threads::<Brand, T>(rt, alloc, opening, division, options.rounds)
+}
+
+/// Stresses the script that the reader gives, and writes the line of its sums over all links: `settled made 9 totals 9
+/// unflushed 0`.
+///
+/// Each worker, in a thread of its own where one can be started, makes the script's calls that name it, in their order,
+/// and flushes, and does so again, as many times as there are rounds. Meanwhile this thread makes the other events but
+/// flushes, once and in their order. A call, a flush or an event that is refused is passed over. The calls of a worker past
+/// the last are not made. Then all that was made is added up.
+///
+/// The input is read to its end, or to the first byte past 1,048,576. A fault in it, of memory or of readers of the
+/// published world (`NoReader`) writes nothing. A failing write leaves a beginning of the line, and is told at 0.
+pub fn stress_bytes<T: Threads + Wait + Sync, R: Read, W: Write>(
+    rt: &T,
+    alloc: Global,
+    options: StressOptions,
+    reader: &mut Watched<R>,
+    writer: &mut Watched<W>,
+) -> Result<(), Fault>
+    requires options { AreLawful options }
+    ensures ok { OnOk result (IfSome (R.remaining reader.old.inner) (λ input. (text : List ℕ) × IsStressed options input text
+        × Appends (W.contents writer.old.inner) (W.contents writer.new.inner) text)) }
+    ensures failed { IfErr result (FailsStress options (R.remaining reader.old.inner)
+        (W.contents writer.old.inner) (W.contents writer.new.inner)
+        (HasFailed reader.old.failures reader.new.failures) (HasFailed writer.old.failures writer.new.failures)) }
+    ensures told { IfErr result (λ e. IsEndOf (HasFailed reader.old.failures reader.new.failures)
+        (HasFailed writer.old.failures writer.new.failures) e.kind) }
+    ensures reads { OnOk result (reader.new.failures ≡ reader.old.failures) }
+    ensures writes { OnOk result (writer.new.failures ≡ writer.old.failures) }
+{
+    let script = read_script_from(alloc, reader)?;
+    let sums = stress_script(rt, alloc, options, script)?;
+    write_lines(line(alloc, sums)?, writer)
+}

@@ -1,0 +1,56 @@
+//! The workers in threads of their own, and the changes beside them.
+ghost use Rattle.std.specs.Prelude.{◌<◌, ◌≤◌, IfOk, IfSome};
+ghost use Rattle.mh_stress.specs.Rounds.{HasWorked, HaveWorked};
+
+use crate::changes::make_changes;
+use crate::division::{Call, Division};
+use crate::rounds::make_rounds;
+use mh_live::{Live, Name, Pass};
+use std::alloc::{AllocError, Global};
+use std::sync::Wait;
+use std::thread;
+use std::thread::Threads;
+
+/// Has each worker make its rounds, in a thread of its own where one can be started, and gives the passes back in
+/// their order.
+fn work<N: Name + Send + Sync, T: Threads + Wait + Sync>(
+    rt: &T,
+    live: &Live<N>,
+    passes: Vec<Pass<N>>,
+    calls: &[Call],
+    rounds: u32,
+) -> Result<Vec<Pass<N>>, AllocError>
+    ensures worked { IfOk result (λ after. HaveWorked N.definition calls.now rounds passes.items after.items) }
+{
+    let share = |pass: Pass<N>| -> Pass<N>
+        ensures { HasWorked N.definition calls.entry.now rounds pass result }
+    { make_rounds(rt, live, pass, calls, rounds) };
+    thread::map_vec(rt, passes, &share)
+}
+
+/// Has the workers make their rounds, and makes the changes meanwhile. Where no thread can be started, the rounds are made
+/// after the changes. None where a growth was refused.
+pub(crate) fn work_beside<N: Name + Send + Sync, T: Threads + Wait + Sync>(
+    rt: &T,
+    alloc: Global,
+    live: &Live<N>,
+    passes: Vec<Pass<N>>,
+    division: Division,
+    rounds: u32,
+    workers: usize,
+) -> Option<Vec<Pass<N>>>
+    requires some { 0 < workers }
+    requires few { workers ≤ 64 }
+    ensures worked { IfSome result (λ after. HaveWorked N.definition division.calls.items rounds passes.items after.items) }
+{
+    let Division { calls, changes } = division;
+    let calls = calls.as_slice();
+    let (after, _) = thread::join(
+        rt,
+        || work(rt, live, passes, calls, rounds).ok(),
+        ||
+            requires { (0 < workers) × (workers ≤ 64) }
+        { make_changes(rt, alloc, live, changes, workers) },
+    );
+    after
+}
