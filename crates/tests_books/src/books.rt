@@ -135,3 +135,18 @@ fn a_plan_that_matches_is_published(rt: HostRuntime) -> Result<(), Fail> {
     assert_eq!(rt; book.publish(2, offered), Err(Refusal::NoSnapshot));
     Ok(())
 }
+
+#[test]
+fn an_installation_tells_which_sites_it_links(rt: HostRuntime) -> Result<(), Fail> {
+    let (mut book, mut ledger) = open(rt.alloc())?;
+    hit(&mut ledger, 0)?;
+    hit(&mut ledger, 0)?;
+    flush(&mut book, &mut ledger)?;
+    book.snapshot()?;
+    book.publish(1, plan(rt.alloc(), 1)?)?;
+    assert_eq!(rt; book.install(2).err(), Some(Refusal::NoPlan));
+    let report = book.install(1)?;
+    assert_eq!(rt; report.sites.as_slice().len(), 1);
+    assert_eq!(rt; report.left_out.as_slice().len(), 0);
+    Ok(())
+}
