@@ -16,7 +16,7 @@ use crate::fault::NoMemory;
 use crate::install_report::{InstallReport, Linkage, SiteLinkage};
 use crate::problem::{all_valid, link_of};
 use mh_pic::{Entry, prepared_chain};
-use mh_site::{Listing, Relinking};
+use mh_site::{KeptLinks, Listing, Relinking};
 use mh_tree::{Handle, Prepared};
 
 impl Book {
@@ -38,24 +38,23 @@ impl Book {
         let mut sites = Vec::new(self.alloc);
         for site in 0..self.definition.sites().len() {
             if self.is_concerned(plan, site) {
-                sites.push(self.site_linkage(plan, site)?)?;
+                sites.push(self.site_linkage(plan, site))?;
             }
         }
         Ok(Listing::from_vec(sites))
     }
 
-    fn site_linkage(&self, plan: usize, site: usize) -> Result<SiteLinkage, NoMemory>
+    fn site_linkage(&self, plan: usize, site: usize) -> SiteLinkage
         requires published { IsPublished self.now.records plan }
         requires inside { site < length self.now.definition.sites }
-        ensures value { IfOk result (λ told. told ≡ site_linkage self.now.definition self.now.records plan site) }
+        ensures value { result ≡ site_linkage self.now.definition self.now.records plan site }
     {
-        if !self.is_current(plan, site) {
-            let linkage = Linkage::Skipped;
-            return Ok(SiteLinkage { site, linkage });
-        }
-        let links = self.usable(plan, site)?;
-        let linkage = linkage(&links);
-        Ok(SiteLinkage { site, linkage })
+        let linkage = if self.is_current(plan, site) {
+            linkage(self.usable(plan, site).as_slice())
+        } else {
+            Linkage::Skipped
+        };
+        SiteLinkage { site, linkage }
     }
 
     fn left_out(&self, plan: usize) -> Result<Listing<u32>, NoMemory>
@@ -107,8 +106,8 @@ impl Book {
         requires inside { site < length self.now.definition.sites }
         ensures value { IfOk result (λ r. r ≡ relinked self.now.definition self.now.records plan site) }
     {
-        let kept = self.usable(plan, site)?;
-        let linked = self.cached(plan, site, &kept)?;
+        let kept = self.usable(plan, site);
+        let linked = self.cached(plan, site, kept.as_slice())?;
         Ok(Relinking::new(site, linked, kept))
     }
 
@@ -149,19 +148,19 @@ impl Book {
     }
 
     // The links of a site that a plan has and whose needs are all valid.
-    fn usable(&self, plan: usize, site: usize) -> Result<Vec<usize>, NoMemory>
+    fn usable(&self, plan: usize, site: usize) -> KeptLinks
         requires published { IsPublished self.now.records plan }
         requires inside { site < length self.now.definition.sites }
-        ensures value { IfOk result (λ v. v.items ≡ usable_of self.now.definition self.now.records plan site) }
+        ensures value { result.items ≡ usable_of self.now.definition self.now.records plan site }
     {
-        let mut usable = Vec::new(self.alloc);
+        let mut usable = KeptLinks::new();
         let first = self.definition.first_link(site);
         for link in first..first + self.definition.links(site).len() {
             if self.is_usable(plan, link) {
-                usable.push(link)?;
+                usable.push(link);
             }
         }
-        Ok(usable)
+        usable
     }
 
     // Whether a plan has a link, and its needs are all valid.

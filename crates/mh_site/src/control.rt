@@ -3,8 +3,13 @@
 ghost use Rattle.std.specs.Prelude.{◌≡◌, IfOk};
 
 use crate::fault::NoMemory;
+use arrayvec::ArrayVec;
 use mh_tree::{Declared, Handle, Prepared};
 use std::marker::Model;
+
+/// The links that the linked tree of a site holds, by number: at most four, since a site has no more, and in place, so
+/// that a world has the room for them from its opening.
+pub type KeptLinks = ArrayVec<usize, 4>;
 
 /// A site's new tree, and the linked tree with its code, so that a world can take both without memory.
 #[derive(Drop)]
@@ -108,7 +113,7 @@ impl Points {
 pub struct Relinking {
     pub(crate) site: usize,
     pub(crate) linked: Prepared,
-    pub(crate) kept: Vec<usize>,
+    pub(crate) kept: KeptLinks,
 }
 
 impl Model for Relinking {
@@ -123,7 +128,7 @@ impl Model for Relinking {
 
 impl Relinking {
     /// The tree that the calls of a site run from then on, and the links that it holds.
-    pub fn new(site: usize, linked: Prepared, kept: Vec<usize>) -> Relinking
+    pub fn new(site: usize, linked: Prepared, kept: KeptLinks) -> Relinking
         ensures value { result ≡ record { site = site; linked = linked; kept = kept.items } }
     {
         Relinking { site, linked, kept }
@@ -154,8 +159,7 @@ impl Relinking {
     fn share(&self) -> Result<Relinking, NoMemory>
         ensures value { IfOk result (λ r. r ≡ self.now) }
     {
-        let alloc = *self.kept.allocator();
-        let kept = self.kept.to_vec(alloc).map_err(|_| NoMemory)?;
+        let kept = KeptLinks::try_from(self.kept.as_slice()).map_err(|_| NoMemory)?;
         let linked = shared(&self.linked)?;
         Ok(Relinking::new(self.site, linked, kept))
     }
@@ -220,7 +224,7 @@ pub enum Control {
 
 impl Control {
     /// The same change on trees with another owner. Refused where a growth was refused, or a further owner
-    /// of a tree. O(points), or O(links that are kept).
+    /// of a tree. O(points), or O(sites that are linked).
     pub fn share(&self) -> Result<Control, NoMemory>
         ensures value { IfOk result (λ c. c ≡ self.now) }
     {

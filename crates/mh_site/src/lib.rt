@@ -18,7 +18,7 @@ mod site;
 mod site_tests;
 mod world;
 
-pub use control::{Control, Installation, Points, Relinking, Retargeting};
+pub use control::{Control, Installation, KeptLinks, Points, Relinking, Retargeting};
 pub use definition::Definition;
 pub use fault::{DefinitionFault, NoMemory};
 pub use laws::worlds_look_back;

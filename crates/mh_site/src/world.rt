@@ -6,7 +6,7 @@ ghost use Rattle.mh_site.specs.Worlds.{WorldState, opened, opening, after, repla
 ghost use Rattle.mh_site.specs.SiteStates.{site_state};
 ghost use Rattle.mh_site.specs.declared.control.Control.{Control};
 
-use crate::control::{Control, Installation, Points, Relinking, Retargeting, prepared};
+use crate::control::{Control, Installation, KeptLinks, Points, Relinking, Retargeting, prepared};
 use crate::definition::Definition;
 use crate::fault::NoMemory;
 use crate::site::Site;
@@ -19,7 +19,7 @@ use std::marker::Model;
 pub(crate) struct SiteWorld {
     base: Declared,
     linked: Prepared,
-    kept: Vec<usize>,
+    kept: KeptLinks,
     version: u64,
 }
 
@@ -159,19 +159,19 @@ fn open_sites(alloc: Global, sites: &[Site]) -> Result<Vec<SiteWorld>, NoMemory>
 {
     let mut opened = Vec::new(alloc);
     for site in sites {
-        let entry = open_site(alloc, site)?;
+        let entry = open_site(site)?;
         opened.push(entry).map_err(|_| NoMemory)?;
     }
     Ok(opened)
 }
 
-fn open_site(alloc: Global, site: &Site) -> Result<SiteWorld, NoMemory>
+fn open_site(site: &Site) -> Result<SiteWorld, NoMemory>
     ensures value { IfOk result (λ x. site_state x ≡ opening site.now) }
 {
     Ok(SiteWorld {
         base: site.target.share().map_err(|_| NoMemory)?,
         linked: prepared(site.target.handle())?,
-        kept: Vec::new(alloc),
+        kept: KeptLinks::new(),
         version: 0,
     })
 }
@@ -187,7 +187,7 @@ fn retarget(sites: &mut Vec<SiteWorld>, retargeting: Retargeting)
         let entry = &mut sites[site];
         entry.base = base;
         entry.linked = linked;
-        entry.kept.clear();
+        entry.kept = KeptLinks::new();
         entry.version += 1;
     }
 }

@@ -1,8 +1,8 @@
 //! A definition and its world, each public call once.
 
 use mh_site::{
-    Control, Definition, DefinitionFault, Installation, Link, Listing, Name, Point, Points,
-    Relinking, Retargeting, Site, World,
+    Control, Definition, DefinitionFault, Installation, KeptLinks, Link, Listing, Name, Point,
+    Points, Relinking, Retargeting, Site, World,
 };
 use mh_tree::{Declared, Handle, Prepared};
 use mh_type::{Kind, MethodType, Op, Value};
@@ -131,7 +131,9 @@ fn a_relinked_site_runs_another_tree_over_its_base(rt: HostRuntime) -> Result<()
     let definition = of_one_site(alloc, site)??;
     let mut world = World::open(alloc, &definition)?;
     let linked = Prepared::new(tree_of(alloc, Op::Ineg)?.handle())?;
-    let relinking = Relinking::new(0, linked, Vec::from_slice(alloc, &[3])?);
+    let mut kept = KeptLinks::new();
+    kept.push(3);
+    let relinking = Relinking::new(0, linked, kept);
     assert_eq!(rt; relinking.site(), 0);
     assert_eq!(rt; relinking.linked().handle().size(), 1);
     assert!(rt; relinking.kept() == &[3][..]);

@@ -19,6 +19,6 @@ returns-then-site-len c =
     let xs = map site_state c.args.sites.now.items in
     record {
       value = written c.args.sites.now.items c.retargeting.inside.site _ _ (retargeted t) (omega arith)
-          (same_state t c.retargeting.inside.linked c.clear.new.self.items _ c.retargeting.invariant c.clear.ensures.items ∙ ap (λ (x : SiteWorld). retargeted t (site_state x)) c.index_mut-entry.ensures.value)
+          (same_state t c.retargeting.inside.linked c.new-entry.result.items _ c.retargeting.invariant c.new-entry.ensures ∙ ap (λ (x : SiteWorld). retargeted t (site_state x)) c.index_mut-entry.ensures.value)
           ∙ ap (λ (r : Retargeted). slice_set xs r.site (retargeted r.tree (slice_index_or xs r.site no_state))) c.retargeting.view_is;
     }

@@ -1,19 +1,26 @@
-use Rattle.std.proofs.Common.{◌≡◌, ◌∙◌, ◌+◌, ◌-◌, ◌&&◌, ℕ, Bool, ap, length, refl, sym, arith}
+use Rattle.std.proofs.Common.{◌≡◌, ◌∙◌, ◌<◌, ◌+◌, ◌-◌, ◌&&◌, ℕ, Bool, ap, length, refl, sym, arith}
 use Rattle.std.proofs.lemmas.List.{map-id}
 use Rattle.mh_network.specs.Selection.{member}
-use Rattle.mh_site.specs.Defined.{site_at}
+use Rattle.mh_site.specs.Defined.{no_site, site_at}
 use Rattle.mh_site.specs.Links.{first_link}
 use Rattle.mh_core.specs.Books.{BookState}
 use Rattle.mh_core.specs.Installations.{own_links, plan_at}
 use Rattle.mh_core.specs.Problems.{is_eligible}
 use Rattle.mh_core.proofs.InstalledLinks.{filter_both, gather_pass, gather_skip, gathered}
 use Rattle.mh_core.proofs.LawfulLinks.{few_links}
-use Rattle.mh_core.proofs.book.Book.usable.Goals.{then-is_usable+in_ok-push, else-is_usable}
+use Rattle.mh_core.proofs.book.Book.usable.Goals.{then-is_usable, else-is_usable}
 use Rattle.mh_core.proofs.book.Book.usable.Goals as goal
 
 pub overflow_add-link-end : goal.overflow_add-link-end
 overflow_add-link-end c =
     omega (arith, c.first_link-first.ensures.within, ap length c.links.ensures.value, few_links c.self.inside.definition c.self.invariant.definition)
+
+pub push-requires : goal.push-requires
+push-requires c =
+    let sites = ap (λ (b : BookState). length b.definition.sites) c.self.view_is in
+    let few = (c.self.invariant.definition.sites c.args.site no_site (omega (arith, c.requires.inside, sites))).few in
+    let room : length c.loop-link.usable.items < 4 = omega (arith, c.loop-link.invariant.few, c.loop-link-test.true, ap length c.links.ensures.value, few) in
+    (omega arith, room)
 
 pub loop-link-preserved : goal.loop-link-preserved
 loop-link-preserved c =
@@ -25,10 +32,14 @@ loop-link-preserved c =
     let next : link + 1 - first ≡ link - first + 1 = omega (arith, c.loop-link.invariant.least) in
     record {
       least = omega (arith, c.loop-link.invariant.least);
+      few = elim c.if-is_usable.branch [
+        | then-is_usable w ↦ rw w.usable-is (omega (arith, c.loop-link.invariant.few, w.push.ensures.len))
+        | else-is_usable w ↦ rw w.usable-is (omega (arith, c.loop-link.invariant.few))
+      ];
       items = elim c.if-is_usable.branch [
-        | then-is_usable+in_ok-push w ↦
+        | then-is_usable w ↦
             rw w.usable-is
-            (gather_pass (λ j. j) passes first (link - first) link (link + 1 - first) _ _ link place next c.loop-link.invariant.items (sym c.is_usable.ensures.value ∙ w.if-is_usable.true) refl w.in_ok-push.ensures.items)
+            (gather_pass (λ j. j) passes first (link - first) link (link + 1 - first) _ _ link place next c.loop-link.invariant.items (sym c.is_usable.ensures.value ∙ w.if-is_usable.true) refl w.push.ensures.items)
         | else-is_usable w ↦
             rw w.usable-is (gather_skip (λ j. j) passes first (link - first) link (link + 1 - first) _ place next c.loop-link.invariant.items (sym c.is_usable.ensures.value ∙ w.if-is_usable.false))
       ];
