@@ -9,3 +9,4 @@ pub mod Showing
 pub mod Answering
 pub mod Receiving
 pub mod RollCalls
+pub mod Sending

@@ -23,7 +23,7 @@ use mh_network::Problem;
 use mh_site::Listing;
 use mh_tree::Declared;
 use std::alloc::Global;
-use std::sync::{Mutex, Wait};
+use std::sync::{Mutex, MutexGuard, Wait};
 
 /// An office that many threads share: one at a time, under a lock, changes the world that all passes read.
 ///
@@ -40,6 +40,14 @@ impl<N: Name> Live<N> {
         Live {
             office: Mutex::new(office),
         }
+    }
+
+    /// The office, which no other thread enters until what this gives is dropped: for what is asked of one state
+    /// of it, as its book, whether it is closed, or several changes with nothing between them. Its methods say
+    /// which records they append to. A thread that has it must call no method here that says `rt`, which would
+    /// wait for itself.
+    pub fn office<R: Wait>(&self, rt: &R) -> MutexGuard<'_, Office<N>> {
+        self.office.lock(rt)
     }
 
     /// Gives a site another tree (`MutableCallSite.setTarget`). The receipt's list ends with that control: a

@@ -9,16 +9,24 @@ use Rattle.mh_core.specs.Books.{Legal}
 use Rattle.mh_core.specs.Limits.{LimitsData}
 use Rattle.mh_core.specs.Records.{total}
 use Rattle.mh_core.specs.declared.record.Record.{Record}
+use Rattle.mh_live.specs.declared.open_fault.OpenFault.{OpenFault}
+use Rattle.mh_live.specs.declared.open_fault.OpenFault.TheVariants as opening
 use Rattle.mh_text.specs.Output.{EndsReading, IsUnread, outside, script_of_input}
 use Rattle.mh_text.specs.Planning.{IsCutShort}
 use Rattle.mh_text.specs.declared.fault.Fault.{Fault}
-use Rattle.mh_text.specs.declared.fault.TextFault.TheVariants.{NoReader}
+use Rattle.mh_text.specs.declared.fault.TextFault.{TextFault}
+use Rattle.mh_text.specs.declared.fault.TextFault.TheVariants.{NoMemory, NoReader}
 use Rattle.mh_text.specs.declared.script.Script.{Script}
 use Rattle.mh_stress.specs.Divisions.{calls_in}
 use Rattle.mh_stress.specs.Rounds.{times_hit}
 use Rattle.mh_stress.specs.declared.division.Call.{Call}
 use Rattle.mh_stress.specs.declared.stress.StressOptions.{StressOptions}
 use Rattle.mh_stress.specs.declared.sums.Sums.{Sums}
+
+-- what an office is not opened for, as a cause of a fault
+abbrev pub cause_of : OpenFault → TextFault
+cause_of opening.NoMemory = NoMemory
+cause_of opening.NoReader = NoReader
 
 -- from 1 to 64 workers, where they are said, and from 1 to 1,000,000 rounds
 pub record AreLawful (options : StressOptions) : Type 0 where

@@ -5,7 +5,7 @@ ghost use Rattle.mh_text.specs.Bytes.{HasFailed};
 ghost use Rattle.mh_text.specs.Gives.{IsEndOf};
 ghost use Rattle.mh_text.specs.Output.{outside};
 ghost use Rattle.mh_text.specs.declared.fault.TextFault.TheVariants.{NoMemory, NoReader};
-ghost use Rattle.mh_stress.specs.Stress.{AreLawful, FailsStress, IsSettlement, IsSettlementOf, IsStressed, workers_of};
+ghost use Rattle.mh_stress.specs.Stress.{AreLawful, FailsStress, cause_of, IsSettlement, IsSettlementOf, IsStressed, workers_of};
 ghost use Rattle.mh_stress.specs.Rounds.{AreFresh};
 
 use crate::division::{Division, divide};
@@ -33,7 +33,8 @@ pub struct StressOptions {
 
 /// What an office is not opened for, as a fault outside the events.
 fn fault_of(cause: OpenFault) -> Fault
-    ensures value { (result ≡ outside NoMemory) ⊎ (result ≡ outside NoReader) }
+    ensures value { result ≡ outside (cause_of cause) }
+    ensures one { (result ≡ outside NoMemory) ⊎ (result ≡ outside NoReader) }
 {
     match cause {
         OpenFault::NoMemory => Fault::from(TextFault::NoMemory),

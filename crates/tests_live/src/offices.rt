@@ -191,3 +191,29 @@ fn has_the_list_of_its_time<N: Name, R: Wait + Abort>(
     assert_eq!(rt; live.install(rt, 1).err(), Some(Refusal::HistoryFull));
     Ok(())
 }
+
+#[test]
+fn an_office_is_lent_to_one_thread(rt: HostRuntime) -> Result<(), Fail> {
+    let opening = open_plain(rt.alloc(), 1, 7, 2)?;
+    lends_its_office::<Brand, _>(&rt, rt.alloc(), opening)
+}
+
+fn lends_its_office<N: Name, R: Wait + Abort>(
+    rt: &R,
+    alloc: Global,
+    opening: Opening,
+) -> Result<(), Fail>
+    requires name { opening.name ≡ N.book }
+    requires definition { opening.definition ≡ N.definition }
+{
+    let (live, mut passes) = opening.open::<N>()?;
+    let mut pass = passes.pop().ok_or("there is no pass")?;
+    let mut office = live.office(rt);
+    let receipt = office.target(rt, 0, successor(alloc)?)?;
+    assert!(rt; !office.closed());
+    assert_eq!(rt; office.front().len(), 1);
+    drop(office);
+    assert_eq!(rt; learn(&mut pass, &receipt), 1);
+    assert_eq!(rt; call(&mut pass, 2), Ok(given(3, 2, 1)));
+    Ok(())
+}

@@ -2,7 +2,8 @@ use denote.Exit.{no}
 use denote.Param.{param}
 use denote.Param.Send.{IsSend, param_send, param_sync, arg_send, shr_send}
 use Rattle.tests_live.specs.contracts.beside.Called as Called
-use Rattle.tests_live.proofs.Sending.{pass_send, word_sync, captures_two, plain}
+use Rattle.mh_live.proofs.Sending.{pass_send, plain}
+use Rattle.tests_live.proofs.Sending.{captures_two, word_sync}
 use Rattle.tests_live.proofs.beside.call_by_one.Goals as goal
 
 pub join-requires-send-F : goal.join-requires-send-F
