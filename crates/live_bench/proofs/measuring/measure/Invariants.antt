@@ -1,0 +1,5 @@
+use Rattle.live_bench.proofs.measuring.measure.Given as goal
+
+-- the list and the definition that were just opened
+abbrev pub ghosts-measure_opened : goal.ghosts-measure_opened
+ghosts-measure_opened g a = record { book = a.opening.name; definition = a.opening.definition }

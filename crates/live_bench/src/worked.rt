@@ -1,0 +1,12 @@
+//! What a worker did.
+
+use crate::made::Made;
+use crate::work_fault::WorkFault;
+use mh_live::{Name, Pass};
+
+/// A worker's pass after its calls, and the calls, or why it stopped.
+#[derive(Drop)]
+pub(crate) struct Worked<N: Name> {
+    pub(crate) pass: Pass<N>,
+    pub(crate) made: Result<Made, WorkFault>,
+}
