@@ -4,11 +4,12 @@ ghost use Rattle.std.specs.Prelude.{◌≡◌, IfOk};
 
 use crate::request::Way;
 use crate::tally::Tally;
-use mh_core::{Event, Limits, Machine, Reply};
+use mh_core::{Arguments, Event, Limits, Machine, NoMemory, Refusal, Reply};
 use mh_site::{Definition, Link, Listing, Name, Point, Site};
 use mh_tree::{Declared, Handle};
 use mh_type::{Outcome, Value};
 use std::alloc::Global;
+use thiserror::Error;
 
 /// The calls of one machine, so that with their flushes they are at most 2^20 events.
 pub(crate) const CALLS_OF_A_MACHINE: u64 = 1_000_000;
@@ -65,34 +66,75 @@ pub(crate) fn open(alloc: Global, definition: &Definition) -> anyhow::Result<Mac
     Ok(machine)
 }
 
+/// Why a call of a machine gave no answer. It is small, so that a call copies no more than it has to.
+#[derive(Clone, Copy, Debug, PartialEq, Eq, Error)]
+pub(crate) enum Unanswered {
+    /// There was no memory for the call's arguments.
+    #[error("memory allocation failed")]
+    NoMemory,
+    /// The machine refused the call.
+    #[error("{0}")]
+    Refused(Refusal),
+    /// The machine's reply is none to a call.
+    #[error("another reply")]
+    OtherReply,
+}
+
 /// One call of the site, or why there was none.
 #[inline(never)]
 pub(crate) fn step_once(
     machine: &mut Machine,
     alloc: Global,
     arguments: &[Value],
-) -> anyhow::Result<(Outcome, u64)> {
+) -> Result<(Outcome, u64), Unanswered> {
+    let Ok(arguments) = owned(alloc, arguments) else {
+        return Err(Unanswered::NoMemory);
+    };
     let call = Event::Call {
         worker: 0,
         site: 0,
-        arguments: Listing::from_vec(owned(alloc, arguments)?),
+        arguments,
     };
     match machine.step(call) {
         Reply::Called { outcome, steps } => Ok((outcome, steps)),
-        Reply::Refused(refusal) => anyhow::bail!("{refusal}"),
-        _ => anyhow::bail!("another reply"),
+        Reply::Refused(refusal) => Err(Unanswered::Refused(refusal)),
+        _ => Err(Unanswered::OtherReply),
+    }
+}
+
+/// The arguments of one call. Two or fewer take no memory.
+fn owned(alloc: Global, arguments: &[Value]) -> Result<Arguments, NoMemory>
+    ensures value { IfOk result (λ a. a ≡ arguments.now) }
+{
+    match arguments {
+        [] => Ok(Arguments::none()),
+        [value] => Ok(Arguments::one(shared(value)?)),
+        [first, second] => Ok(Arguments::two(shared(first)?, shared(second)?)),
+        _ => listed(alloc, arguments).map(Arguments::from_vec),
     }
 }
 
 /// The arguments of one call, in room for just so many.
-fn owned(alloc: Global, arguments: &[Value]) -> anyhow::Result<Vec<Value>>
+fn listed(alloc: Global, arguments: &[Value]) -> Result<Vec<Value>, NoMemory>
     ensures value { IfOk result (λ v. v.items ≡ arguments.now) }
 {
-    let mut values = Vec::with_capacity(alloc, arguments.len())?;
+    let Ok(mut values) = Vec::with_capacity(alloc, arguments.len()) else {
+        return Err(NoMemory);
+    };
     for argument in arguments {
-        values.push(argument.share()?)?;
+        let value = shared(argument)?;
+        let Ok(()) = values.push(value) else {
+            return Err(NoMemory);
+        };
     }
     Ok(values)
+}
+
+/// Another owner of a value.
+fn shared(value: &Value) -> Result<Value, NoMemory>
+    ensures value { IfOk result (λ v. v ≡ value.now) }
+{
+    value.share().map_err(|_| NoMemory)
 }
 
 /// A flush of the worker.

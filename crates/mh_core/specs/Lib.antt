@@ -18,3 +18,4 @@ pub mod Standing
 pub mod Codes
 pub mod BookViews
 pub mod MachineViews
+pub mod ArgumentViews

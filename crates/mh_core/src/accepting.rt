@@ -12,6 +12,7 @@ ghost use Rattle.mh_core.specs.declared.reply.Reply.TheVariants.{Called};
 ghost use Rattle.mh_core.specs.Legal.{tests, answer, answer_of_call, extended, HasRoom};
 ghost use Rattle.mh_core.specs.Tests.{Passes};
 
+use crate::arguments::Arguments;
 use crate::book::Book;
 use crate::call::AcceptedCall;
 use crate::event::Event;
@@ -52,7 +53,7 @@ impl Machine {
         &mut self,
         worker: u32,
         site: usize,
-        arguments: Listing<Value>,
+        arguments: Arguments,
     ) -> Result<Reply, NoMemory>
         requires passes { Passes (tests self.old.setting self.old.history (Call worker site arguments)) }
         ensures reply { IfOk result (λ reply. reply ≡ answer self.old.setting self.old.history (Call worker site arguments)) }

@@ -7,12 +7,12 @@ ghost use Rattle.mh_core.specs.declared.event.Event.TheVariants.{Call, Flush};
 ghost use Rattle.mh_core.specs.Legal.{tests, HasRoom};
 ghost use Rattle.mh_core.specs.Tests.{Passes, Refuses};
 
+use crate::arguments::Arguments;
 use crate::event::Event;
 use crate::hits::hit_link;
 use crate::machine::Machine;
 use crate::refusal::Refusal;
 use mh_eval::fits;
-use mh_site::Listing;
 use mh_type::Value;
 
 impl Machine {
@@ -37,7 +37,7 @@ impl Machine {
         }
     }
 
-    fn test_call(&self, worker: u32, site: usize, arguments: &Listing<Value>) -> Result<(), Refusal>
+    fn test_call(&self, worker: u32, site: usize, arguments: &Arguments) -> Result<(), Refusal>
         ensures passes { OnOk result (Passes (tests self.now.setting self.now.history (Call worker site arguments.now))) }
         ensures refuses { IfErr result (λ told. Refuses (tests self.now.setting self.now.history (Call worker site arguments.now)) told) }
     {

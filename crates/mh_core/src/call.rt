@@ -1,7 +1,6 @@
 //! Calls that a machine accepted.
 
-use mh_site::Listing;
-use mh_type::Value;
+use crate::arguments::Arguments;
 
 /// An accepted call, and its place among the records of the machine's book.
 #[derive(Drop)]
@@ -13,5 +12,5 @@ pub struct AcceptedCall {
     /// The site that was called.
     pub site: usize,
     /// The arguments.
-    pub arguments: Listing<Value>,
+    pub arguments: Arguments,
 }

@@ -1,9 +1,9 @@
 //! What a machine is asked.
 
+use crate::arguments::Arguments;
 use crate::plan::SharedPlan;
 use mh_site::Listing;
 use mh_tree::Declared;
-use mh_type::Value;
 
 /// One step of one actor. Workers, sites and points are given by number, from 0; a number past the
 /// last is one that is not there. Snapshots and plans have the numbers from 1 in the order in which they are
@@ -15,7 +15,7 @@ pub enum Event {
     Call {
         worker: u32,
         site: usize,
-        arguments: Listing<Value>,
+        arguments: Arguments,
     },
     /// A worker's hits since its last flush are added to the totals.
     Flush {

@@ -4,6 +4,7 @@
 
 mod accepting;
 mod appending;
+mod arguments;
 mod asking;
 mod book;
 mod call;
@@ -24,6 +25,7 @@ mod reply;
 mod snapshot;
 mod testing;
 
+pub use arguments::Arguments;
 pub use book::Book;
 pub use call::AcceptedCall;
 pub use event::Event;

@@ -2,10 +2,8 @@
 ghost use Rattle.std.specs.Prelude.{◌≡◌, ◌++◌, IfOk, OnOk};
 ghost use Rattle.mh_stress.specs.Divisions.{calls_in, calls_of, changes_in, changes_of};
 
-use mh_core::Event;
-use mh_site::Listing;
+use mh_core::{Arguments, Event};
 use mh_text::Step;
-use mh_type::Value;
 use std::alloc::{AllocError, Global};
 
 /// A call that a script has, and the worker that makes it.
@@ -13,7 +11,7 @@ use std::alloc::{AllocError, Global};
 pub struct Call {
     pub worker: u32,
     pub site: usize,
-    pub arguments: Listing<Value>,
+    pub arguments: Arguments,
 }
 
 /// The calls of a script, and its other events but flushes, each in their order.

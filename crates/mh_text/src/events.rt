@@ -14,7 +14,7 @@ use crate::shape::{list, number, text};
 use crate::step::Step;
 use crate::trees::read_declared;
 use crate::values::read_values;
-use mh_core::{Event, SharedPlan};
+use mh_core::{Arguments, Event, SharedPlan};
 use mh_site::Listing;
 use serde_json::Value;
 use std::alloc::Global;
@@ -27,7 +27,8 @@ fn read_call(alloc: Global, declared: &Declarations, args: &[Value]) -> Result<E
     };
     let worker = number(worker)?;
     let site = declared.site_number(text(name)?);
-    let arguments = read_values(alloc, declared.parameters(site), list(values)?)?;
+    let values = read_values(alloc, declared.parameters(site), list(values)?)?;
+    let arguments = Arguments::from_vec(values.into_vec());
     Ok(Event::Call {
         worker,
         site,

@@ -1,7 +1,7 @@
 //! The steps of calls before and after an installation, on the first example of the README with two links: worked by hand.
 
 use mh_cert::Plan;
-use mh_core::{Event, Limits, Machine, Reply, SharedPlan};
+use mh_core::{Arguments, Event, Limits, Machine, Reply, SharedPlan};
 use mh_network::Listing as Numbers;
 use mh_site::{Definition, Link, Listing, Name, Point, Site};
 use mh_tree::{Declared, Handle};
@@ -103,11 +103,10 @@ fn machine(alloc: Global) -> Result<Machine, Fail> {
 fn call(machine: &mut Machine, alloc: Global, argument: i32) -> Result<u64, Fail> {
     let mut arguments = Vec::new(alloc);
     arguments.push(Value::Int(argument))?;
-    let arguments = Listing::from_vec(arguments);
     match machine.step(Event::Call {
         worker: 0,
         site: 0,
-        arguments,
+        arguments: Arguments::from_vec(arguments),
     }) {
         Reply::Called { steps, .. } => Ok(steps),
         _ => Err(Fail::from("the call is refused")),

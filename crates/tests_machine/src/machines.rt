@@ -1,6 +1,6 @@
 //! What machines answer, and each public call once with ample memory.
 
-use mh_core::{Book, Event, Limits, Machine, Refusal, Reply};
+use mh_core::{Arguments, Book, Event, Limits, Machine, Refusal, Reply};
 use mh_site::{Definition, Listing, Name, Point, Site};
 use mh_tree::{Declared, Handle};
 use mh_type::{Kind, MethodType, Op, Outcome, Text, Value};
@@ -51,14 +51,12 @@ fn machine(alloc: Global, history: u64) -> Result<Machine, Fail> {
 }
 
 /// A call with one argument.
-fn call(alloc: Global, worker: u32, site: usize, argument: Value) -> Result<Event, Fail> {
-    let mut arguments = Vec::new(alloc);
-    arguments.push(argument)?;
-    Ok(Event::Call {
+fn call(worker: u32, site: usize, argument: Value) -> Event {
+    Event::Call {
         worker,
         site,
-        arguments: Listing::from_vec(arguments),
-    })
+        arguments: Arguments::one(argument),
+    }
 }
 
 /// The int that a call gave.
@@ -84,10 +82,10 @@ fn refusal(reply: &Reply) -> Option<Refusal> {
 fn each_site_answers_by_its_tree(rt: HostRuntime) -> Result<(), Fail> {
     let alloc = rt.alloc();
     let mut machine = machine(alloc, 1 << 20)?;
-    let negated = machine.step(call(alloc, 0, 0, Value::Int(7))?);
+    let negated = machine.step(call(0, 0, Value::Int(7)));
     assert_eq!(rt; int(&negated), Some(-7));
     let text = Value::Text(Text::new(alloc, "ab")?);
-    let counted = machine.step(call(alloc, 1, 1, text)?);
+    let counted = machine.step(call(1, 1, text));
     assert_eq!(rt; int(&counted), Some(2));
     assert_eq!(rt; machine.calls().len(), 2);
     assert_eq!(rt; machine.accepted(), 2);
@@ -97,14 +95,35 @@ fn each_site_answers_by_its_tree(rt: HostRuntime) -> Result<(), Fail> {
 }
 
 #[test]
+fn arguments_of_any_number_are_listed(rt: HostRuntime) -> Result<(), Fail> {
+    let alloc = rt.alloc();
+    let none = Arguments::none();
+    assert_eq!(rt; none.len(), 0);
+    let two = Arguments::two(Value::Int(1), Value::Long(2));
+    assert!(rt; matches!(two.as_slice(), [Value::Int(1), Value::Long(2)]));
+    let mut values = Vec::new(alloc);
+    values.push(Value::Int(5))?;
+    values.push(Value::Boolean(true))?;
+    values.push(Value::Int(7))?;
+    let three = Arguments::from_vec(values);
+    assert!(rt;
+        matches!(
+            three.as_slice(),
+            [Value::Int(5), Value::Boolean(true), Value::Int(7)]
+        )
+    );
+    Ok(())
+}
+
+#[test]
 fn a_full_history_is_tested_last(rt: HostRuntime) -> Result<(), Fail> {
     let alloc = rt.alloc();
     let mut machine = machine(alloc, 2)?;
     let mut events = Vec::new(alloc);
     for _ in 0..3 {
-        events.push(call(alloc, 0, 0, Value::Int(1))?)?;
+        events.push(call(0, 0, Value::Int(1)))?;
     }
-    events.push(call(alloc, 0, 0, Value::Boolean(true))?)?;
+    events.push(call(0, 0, Value::Boolean(true)))?;
     let replies = machine.run(events)?;
     let [first, second, third, fourth] = replies.as_slice() else {
         return Err(Fail::from("there are other replies"));

@@ -1,0 +1,98 @@
+//! The arguments of calls.
+
+ghost use Rattle.std.specs.Prelude.{◌≡◌, ◌∷◌, [], length};
+
+use mh_type::Value;
+use std::marker::Model;
+
+/// The arguments of a call, in order. Up to two lie in place, so that a call of few takes no memory for them.
+///
+/// A contract sees them as a list.
+#[derive(Drop)]
+pub struct Arguments {
+    values: Values,
+}
+
+// Where the values lie.
+#[derive(Drop)]
+pub(crate) enum Values {
+    None,
+    One([Value; 1]),
+    Two([Value; 2]),
+    Many(Vec<Value>),
+}
+
+impl Model for Arguments {
+    ghost use Rattle.std.specs.Prelude.{List};
+    ghost use Rattle.mh_type.specs.declared.value.Value.{Value as Held};
+
+    ghost Value = { List Held };
+
+    ghost use Rattle.mh_core.specs.ArgumentViews.{arguments};
+
+    ghost view = { arguments };
+}
+
+impl Arguments {
+    /// Of a call without arguments.
+    pub fn none() -> Arguments
+        ensures value { result ≡ [] }
+    {
+        Arguments {
+            values: Values::None,
+        }
+    }
+
+    /// Of a call with one.
+    pub fn one(value: Value) -> Arguments
+        ensures value { result ≡ value ∷ [] }
+    {
+        Arguments {
+            values: Values::One([value]),
+        }
+    }
+
+    /// Of a call with two.
+    pub fn two(first: Value, second: Value) -> Arguments
+        ensures value { result ≡ first ∷ second ∷ [] }
+    {
+        Arguments {
+            values: Values::Two([first, second]),
+        }
+    }
+
+    /// Of a call with any number: more than two stay where they lie.
+    pub fn from_vec(mut values: Vec<Value>) -> Arguments
+        ensures value { result ≡ values.items }
+    {
+        if values.len() > 2 {
+            return Arguments {
+                values: Values::Many(values),
+            };
+        }
+        match (values.pop(), values.pop()) {
+            (Some(second), Some(first)) => Arguments::two(first, second),
+            (Some(only), None) => Arguments::one(only),
+            (None, _) => Arguments::none(),
+        }
+    }
+
+    /// The values.
+    pub fn as_slice(&self) -> &[Value]
+        ensures value { result.now ≡ self.now }
+    {
+        match &self.values {
+            Values::None => &[],
+            Values::One(value) => value,
+            Values::Two(values) => values,
+            Values::Many(values) => values.as_slice(),
+        }
+    }
+
+    /// The number of values.
+    pub fn len(&self) -> usize
+        ensures value { result ≡ length self.now }
+    {
+        self.as_slice().len()
+    }
+}
