@@ -1,9 +1,9 @@
 //! What is called.
 
-use mh_core::{Limits, Machine};
-use mh_site::{Definition, Listing, Name, Point, Site};
-use mh_tree::{Declared, Handle, TreeFault};
-use mh_type::{Kind, MethodType, Op, Value};
+use mh_core::{
+    Declared, Definition, Handle, Kind, Limits, Listing, Machine, MethodType, Name, Op, Point,
+    Site, TreeFault, Value,
+};
 use std::alloc::Global;
 
 /// A machine of one worker over the point `a` and the site `f`, with the widest limits: 2^20 events, 2^20 hits of a link that a

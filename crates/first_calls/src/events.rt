@@ -1,18 +1,15 @@
 //! The events that the machine is asked.
 
 ghost use Rattle.std.specs.Prelude.{◌≡◌, ◌∷◌, [], IfSome};
-ghost use Rattle.mh_type.specs.declared.outcome.Outcome.TheVariants as outcome;
-ghost use Rattle.mh_type.specs.declared.value.Value.TheVariants.{Int};
-ghost use Rattle.mh_tree.specs.Meaning.{mean};
+ghost use Rattle.mh_core.specs.Outcome.TheVariants as outcome;
+ghost use Rattle.mh_core.specs.Value.TheVariants.{Int};
 ghost use Rattle.mh_core.specs.Histories.{records};
+ghost use Rattle.mh_core.specs.Meaning.{mean};
 ghost use Rattle.mh_core.specs.Records.{base, valid_points};
 
 use crate::definition::one_less;
 use crate::telling::tell;
-use mh_core::{Arguments, Event, Machine, Reply};
-use mh_site::Listing;
-use mh_tree::Declared;
-use mh_type::{Outcome, Value};
+use mh_core::{Arguments, Declared, Event, Listing, Machine, Outcome, Reply, Value};
 use std::alloc::Global;
 
 /// The int that worker 0 gets for a call of `f`, which is what the tree of `f` means at that step, or None where the machine

@@ -2,8 +2,7 @@
 
 use crate::request::Request;
 use crate::signals::Signals;
-use mh_live::{Live, Name};
-use mh_tree::Declared;
+use mh_live::{Declared, Live, Name};
 use std::sync::Wait;
 use std::thread;
 use std::time::{Clock, Duration, Instant};

@@ -1,9 +1,9 @@
 //! What is called: the definition of the README's first example.
 
-use mh_core::Limits;
-use mh_site::{Definition, Link, Listing, Name, Point, Site};
-use mh_tree::{Declared, Handle, TreeFault};
-use mh_type::{Kind, MethodType, Op, Value};
+use mh_live::mh_core::{
+    Declared, Definition, Handle, Kind, Limits, Link, Listing, MethodType, Name, Op, Point, Site,
+    TreeFault, Value,
+};
 use std::alloc::Global;
 
 /// The widest limits: 2^20 events, 2^20 hits that a worker has not flushed, and totals of 2^40.

@@ -1,5 +1,17 @@
 //! The core: a book of accepted records with what was made of them, and a machine that answers events
 //! by the meaning of the sites' trees and by the hits of their links.
+//!
+//! What its calls name of the crates below stands here too, so that who embeds a machine depends on this crate alone:
+//!
+//! ```
+//! let mut machine = Machine::open(alloc, &definition, 1, limits)?;
+//! let arguments = Arguments::one(Value::Int(1));
+//! match machine.step(Event::Call { worker: 0, site: 0, arguments }) {
+//!     Reply::Called { outcome, steps } => tell(&outcome, steps),
+//!     Reply::Refused(refusal) => anyhow::bail!("{refusal}"),
+//!     _ => anyhow::bail!("no answer to a call"),
+//! }
+//! ```
 #![tactic(auto)]
 
 mod accepting;
@@ -37,6 +49,12 @@ pub use limits::{
     LARGEST_LEDGER, LARGEST_TOTAL, LONGEST_HISTORY, Limits, MOST_PLANS, MOST_SNAPSHOTS,
 };
 pub use machine::Machine;
+pub use mh_cert::{CheckFault, Plan};
+pub use mh_ledger::{Ledger, Totals};
+pub use mh_network::{LinkRow, Problem, ProblemFault};
+pub use mh_site::{Control, Definition, DefinitionFault, Link, Listing, Name, Point, Site, World};
+pub use mh_tree::{Declared, Handle, Prepared, TreeFault};
+pub use mh_type::{Kind, MethodType, Op, Outcome, Text, Throw, TypeFault, Value};
 pub use pending::PendingChange;
 pub use plan::SharedPlan;
 pub use record::Record;

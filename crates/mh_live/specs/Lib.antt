@@ -9,3 +9,12 @@ pub mod Receipts
 pub mod Settled
 pub mod Codes
 pub mod Faults
+pub use Rattle.mh_core.specs.Books
+pub use Rattle.mh_core.specs.Defined
+pub use Rattle.mh_core.specs.Fits
+pub use Rattle.mh_core.specs.Ledgers
+pub use Rattle.mh_core.specs.Links
+pub use Rattle.mh_core.specs.Meaning
+pub use Rattle.mh_core.specs.Records
+pub use Rattle.mh_core.specs.Replayed
+pub use Rattle.mh_core.specs.Worlds

@@ -9,6 +9,19 @@
 //! All that changes a world is in one list of controls, of which each published world is the replay of a
 //! beginning. What a pass has seen, and the receipt of a change, are beginnings of that list: a pass that has
 //! learnt a receipt answers by no world before it.
+//!
+//! What its calls name of the crates below stands here too, and the whole of mh_core under its own name:
+//!
+//! ```
+//! let opening = Opening::new(alloc, &definition, 2, limits)?;
+//! let (live, passes) = opening.open::<Brand>()?;
+//! for mut pass in passes {
+//!     let receipt = live.set_target(rt, 0, successor(alloc)?)?;
+//!     pass.learn(&receipt);
+//!     let Answer { outcome, steps, front } = pass.call(0, &[Value::Int(1)])?;
+//!     let receipt = live.flush(rt, &mut pass)?;
+//! }
+//! ```
 #![tactic(auto)]
 
 mod call_fault;
@@ -31,6 +44,11 @@ pub use call_fault::CallFault;
 pub use flush_fault::FlushFault;
 pub use front::{Front, Name};
 pub use live::Live;
+pub use mh_core;
+pub use mh_core::{
+    Book, Declared, Definition, Ledger, Limits, Listing, Outcome, Plan, Problem, Refusal, Reply,
+    SharedPlan, Value,
+};
 pub use office::Office;
 pub use open_fault::OpenFault;
 pub use opening::{MOST_WORKERS, Opening};
