@@ -3,7 +3,7 @@ use Rattle.std.proofs.Common.{◌≡◌, ◌≢◌, ◌⊎◌, ◌<◌, ◌≤�
 use Rattle.std.proofs.KnownBytes.{Appends-kept, Keeps-refl, Keeps-trans}
 use Rattle.std.specs.Io.KnownBytes.{Appends, Keeps}
 use Rattle.mh_core.specs.Legal.{MachineState}
-use Rattle.mh_text.specs.declared.step.Step.{Step}
+use Rattle.mh_text.specs.declared.json.step.Step.{Step}
 use Rattle.mh_text.specs.Bytes.{HasFailed, one_more}
 use Rattle.mh_text.specs.Faults.{fault_line}
 use Rattle.mh_text.specs.Gives.{IsEndOf}
@@ -13,7 +13,7 @@ use Rattle.mh_text.specs.Output.{first, outside, EndsEarly, Failed}
 use Rattle.mh_text.specs.declared.fault.Fault.{Fault}
 use Rattle.mh_text.specs.declared.fault.TextFault.{TextFault}
 use Rattle.mh_text.specs.declared.fault.TextFault.TheVariants.{NoMemory, TooLong, NotJson, BadShape, BadValue, UnknownShared, Tree, Definition, Problem, ReadFailed, WriteFailed, BadType, NoReader}
-use Rattle.mh_text.specs.declared.script.Script.{Script}
+use Rattle.mh_text.specs.declared.json.script.Script.{Script}
 use Rattle.mh_command.specs.Answers.{Answers, EndsIn, FailsIn, IsAnswerTo, Works, output_alone, turned_down}
 use Rattle.mh_command.specs.Statuses.{status_told}
 use Rattle.mh_command.specs.Streams.{IsDone, IsTold}

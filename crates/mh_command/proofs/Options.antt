@@ -4,7 +4,7 @@ use Rattle.std.specs.Str.Parse.{ParsesUnsigned}
 use Rattle.clap.specs.Words.{ReadsOne, one_text, rows_of}
 use Rattle.clap.specs.declared.parser.matches.Found.{Found}
 use Rattle.clap.proofs.WalkLemmas.{one_text-rows}
-use Rattle.mh_text.specs.declared.planning.PlanOptions.{PlanOptions}
+use Rattle.mh_text.specs.declared.streams.planning.PlanOptions.{PlanOptions}
 use Rattle.mh_stress.specs.declared.stress.StressOptions.{StressOptions}
 use Rattle.mh_command.specs.CommandLine.{AreOptions, AreStressed, IsNumber, MayBeNumber, truth_text}
 

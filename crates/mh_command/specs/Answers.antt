@@ -8,10 +8,10 @@ use Rattle.mh_text.specs.Lines.{lines_of}
 use Rattle.mh_text.specs.Output.{script_of_input, first, outside, IsScriptFault, Failed}
 use Rattle.mh_text.specs.declared.fault.Fault.{Fault}
 use Rattle.mh_text.specs.Planning.{IsPlanned, IsProblemFault, FailsPlan}
-use Rattle.mh_text.specs.declared.planning.PlanOptions.{PlanOptions}
-use Rattle.mh_text.specs.declared.script.Script.{Script}
+use Rattle.mh_text.specs.declared.streams.planning.PlanOptions.{PlanOptions}
+use Rattle.mh_text.specs.declared.json.script.Script.{Script}
 use Rattle.mh_text.specs.Steps.{Told, Run}
-use Rattle.mh_text.specs.declared.verdict.Verdict.{Verdict}
+use Rattle.mh_text.specs.declared.lines.verdict.Verdict.{Verdict}
 use Rattle.mh_text.specs.declared.fault.TextFault.TheVariants.{WriteFailed}
 use Rattle.mh_stress.specs.Stress.{FailsStress, IsStressed}
 use Rattle.mh_stress.specs.declared.stress.StressOptions.{StressOptions}

@@ -2,8 +2,8 @@
 use Rattle.std.specs.Prelude.{ℕ}
 use Rattle.clap.specs.declared.error.kind.ErrorKind.{ErrorKind}
 use Rattle.clap.specs.declared.error.kind.ErrorKind.TheVariants.{DisplayHelp, DisplayVersion, OutOfMemory}
-use Rattle.mh_text.specs.declared.verdict.Verdict.{Verdict}
-use Rattle.mh_text.specs.declared.verdict.Verdict.TheVariants.{Accepted, Refused}
+use Rattle.mh_text.specs.declared.lines.verdict.Verdict.{Verdict}
+use Rattle.mh_text.specs.declared.lines.verdict.Verdict.TheVariants.{Accepted, Refused}
 use Rattle.mh_text.specs.declared.fault.TextFault.{TextFault}
 use Rattle.mh_text.specs.declared.fault.TextFault.TheVariants.{NoMemory, NoReader, ReadFailed, WriteFailed}
 

@@ -1,4 +1,9 @@
 //! The command line of `mhlink`, over a reader and two writers.
+//!
+//! ```
+//! let mut input = Watched::new(rt.stdin());
+//! let status = command(&rt, alloc, &["run"], &mut input, &mut out, &mut err);
+//! ```
 #![tactic(auto)]
 
 mod answering;

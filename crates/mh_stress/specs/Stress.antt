@@ -16,7 +16,7 @@ use Rattle.mh_text.specs.Planning.{IsCutShort}
 use Rattle.mh_text.specs.declared.fault.Fault.{Fault}
 use Rattle.mh_text.specs.declared.fault.TextFault.{TextFault}
 use Rattle.mh_text.specs.declared.fault.TextFault.TheVariants.{NoMemory, NoReader}
-use Rattle.mh_text.specs.declared.script.Script.{Script}
+use Rattle.mh_text.specs.declared.json.script.Script.{Script}
 use Rattle.mh_stress.specs.Divisions.{calls_in}
 use Rattle.mh_stress.specs.Rounds.{times_hit}
 use Rattle.mh_stress.specs.declared.division.Call.{Call}

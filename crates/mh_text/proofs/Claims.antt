@@ -5,8 +5,8 @@ use Rattle.mh_network.specs.Problems.{ProblemData}
 use Rattle.mh_cert.specs.declared.plan.Plan.{Plan}
 use Rattle.mh_text.specs.declared.fault.Fault.{Fault}
 use Rattle.mh_text.specs.declared.fault.TextFault.TheVariants.{NoMemory}
-use Rattle.mh_text.specs.declared.problem.ProblemRows.{ProblemRows}
-use Rattle.mh_text.specs.declared.verdict.Verdict.{Verdict}
+use Rattle.mh_text.specs.declared.json.problem.ProblemRows.{ProblemRows}
+use Rattle.mh_text.specs.declared.lines.verdict.Verdict.{Verdict}
 use Rattle.mh_text.specs.Checks.{IsFirstOf, IsClaim, IsFound, IsVerdict, IsCutOff, FailsCheck}
 use Rattle.mh_text.specs.Output.{outside}
 use Rattle.mh_text.specs.Problems.{MakesProblem}

@@ -6,7 +6,7 @@ use Rattle.serde_json.specs.declared.value.Value.{Value, Array}
 use Rattle.serde_json.proofs.Views.{view-Array}
 use Rattle.mh_tree.specs.Handle.{TypedTree}
 use Rattle.mh_text.specs.declared.fault.ReadFault.{ReadFault}
-use Rattle.mh_text.specs.declared.scope.Scope.{Scope}
+use Rattle.mh_text.specs.declared.json.scope.Scope.{Scope}
 use Rattle.mh_text.specs.Gives.{◌>>=◌}
 use Rattle.mh_text.specs.Shape.{text_of, each_from}
 use Rattle.mh_text.specs.Trees.{part, parts_of, tree_of, filter_of, filters_of, filters_in, form_from, form_named}

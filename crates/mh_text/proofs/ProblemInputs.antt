@@ -4,9 +4,9 @@ use Rattle.std.specs.Io.KnownBytes.{Appends}
 use Rattle.mh_network.specs.Problems.{ProblemData}
 use Rattle.mh_text.specs.declared.fault.Fault.{Fault}
 use Rattle.mh_text.specs.declared.fault.TextFault.TheVariants.{NoMemory}
-use Rattle.mh_text.specs.declared.problem.ProblemRows.{ProblemRows}
+use Rattle.mh_text.specs.declared.json.problem.ProblemRows.{ProblemRows}
 use Rattle.mh_text.specs.Output.{outside}
-use Rattle.mh_text.specs.declared.planning.PlanOptions.{PlanOptions}
+use Rattle.mh_text.specs.declared.streams.planning.PlanOptions.{PlanOptions}
 use Rattle.mh_text.specs.Planning.{IsProblemInput, IsProblemFault, IsPlanOf, IsPlanned}
 use Rattle.mh_text.specs.Problems.{rows_of_input, IsMade, IsNotMade, MakesProblem}
 

@@ -6,7 +6,7 @@ use Rattle.mh_network.specs.Problems.{problem_tests}
 use Rattle.mh_network.specs.Tests.{Passes, Refuses}
 use Rattle.mh_text.specs.declared.fault.Fault.{Fault}
 use Rattle.mh_text.specs.declared.fault.TextFault.TheVariants as text
-use Rattle.mh_text.specs.declared.problem.ProblemRows.{ProblemRows}
+use Rattle.mh_text.specs.declared.json.problem.ProblemRows.{ProblemRows}
 use Rattle.mh_text.specs.Gives.{of_problem, told}
 use Rattle.mh_text.specs.Output.{outside}
 use Rattle.mh_text.specs.Problems.{IsNotMade}

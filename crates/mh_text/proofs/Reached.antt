@@ -4,10 +4,10 @@ use Rattle.std.proofs.lemmas.List.{at_drop_more, length-map, length-take-le, map
 use Rattle.serde_json.specs.Data.{Data}
 use Rattle.serde_json.specs.View.{view}
 use Rattle.serde_json.specs.declared.value.Value.{Value}
-use Rattle.mh_text.specs.declared.declarations.Declarations.{Declarations}
+use Rattle.mh_text.specs.declared.json.declarations.Declarations.{Declarations}
 use Rattle.mh_text.specs.declared.fault.Fault.{Fault}
 use Rattle.mh_text.specs.declared.fault.TextFault.TheVariants as text
-use Rattle.mh_text.specs.declared.step.Step.{Step}
+use Rattle.mh_text.specs.declared.json.step.Step.{Step}
 use Rattle.mh_text.specs.Gives.{◌>>=◌, at_place, GivesUpTo}
 use Rattle.mh_text.specs.Script.{declarations_of, step_of, steps_of, schedule_of, script_of, IsNext, IsReached, IsReachedBy}
 use Rattle.mh_text.specs.Shape.{each_from}

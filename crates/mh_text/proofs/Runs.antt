@@ -14,8 +14,8 @@ use Rattle.mh_text.specs.Lines.{line_of, lines_of}
 use Rattle.mh_core.specs.Legal.{Setting, MachineState}
 use Rattle.mh_site.specs.Defined.{DefinitionData}
 use Rattle.mh_text.specs.declared.fault.Fault.{Fault}
-use Rattle.mh_text.specs.declared.script.Script.{Script}
-use Rattle.mh_text.specs.declared.step.Step.{Step}
+use Rattle.mh_text.specs.declared.json.script.Script.{Script}
+use Rattle.mh_text.specs.declared.json.step.Step.{Step}
 use Rattle.mh_text.specs.Bytes.{AppendsFront}
 use Rattle.mh_text.specs.Inputs.{json_in}
 use Rattle.mh_text.specs.Steps.{Told, Takes, Run}

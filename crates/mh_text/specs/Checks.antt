@@ -8,9 +8,9 @@ use Rattle.mh_cert.specs.declared.plan.Plan.{Plan}
 use Rattle.mh_cert.specs.Plans.{Matches, plan_tests, check_fault_text}
 use Rattle.mh_text.specs.declared.fault.Fault.{Fault}
 use Rattle.mh_text.specs.declared.fault.TextFault.TheVariants.{WriteFailed}
-use Rattle.mh_text.specs.declared.problem.ProblemRows.{ProblemRows}
-use Rattle.mh_text.specs.declared.verdict.Verdict.{Verdict}
-use Rattle.mh_text.specs.declared.verdict.Verdict.TheVariants.{Accepted, Refused}
+use Rattle.mh_text.specs.declared.json.problem.ProblemRows.{ProblemRows}
+use Rattle.mh_text.specs.declared.lines.verdict.Verdict.{Verdict}
+use Rattle.mh_text.specs.declared.lines.verdict.Verdict.TheVariants.{Accepted, Refused}
 use Rattle.mh_text.specs.Bytes.{AppendsFront}
 use Rattle.mh_text.specs.Output.{IsUnread, outside}
 use Rattle.mh_text.specs.Plans.{plan_of_input}

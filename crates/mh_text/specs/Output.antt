@@ -6,8 +6,8 @@ use Rattle.mh_text.specs.declared.fault.Fault.{Fault}
 use Rattle.mh_text.specs.declared.fault.TextFault.{TextFault}
 use Rattle.mh_text.specs.declared.fault.TextFault.TheVariants as fault
 use Rattle.mh_core.specs.declared.event.Event.{Event}
-use Rattle.mh_text.specs.declared.script.Script.{Script}
-use Rattle.mh_text.specs.declared.step.Step.{Step}
+use Rattle.mh_text.specs.declared.json.script.Script.{Script}
+use Rattle.mh_text.specs.declared.json.step.Step.{Step}
 use Rattle.mh_text.specs.Steps.{Told, Run}
 use Rattle.mh_text.specs.Gives.{◌>>=◌}
 use Rattle.mh_text.specs.Inputs.{json_of_input}

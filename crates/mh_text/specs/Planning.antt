@@ -8,8 +8,8 @@ use Rattle.mh_cert.specs.Plans.{Matches}
 use Rattle.mh_plan.specs.Phases.{ArePhases}
 use Rattle.mh_text.specs.declared.fault.Fault.{Fault}
 use Rattle.mh_text.specs.declared.fault.TextFault.TheVariants.{WriteFailed}
-use Rattle.mh_text.specs.declared.planning.PlanOptions.{PlanOptions}
-use Rattle.mh_text.specs.declared.problem.ProblemRows.{ProblemRows}
+use Rattle.mh_text.specs.declared.streams.planning.PlanOptions.{PlanOptions}
+use Rattle.mh_text.specs.declared.json.problem.ProblemRows.{ProblemRows}
 use Rattle.mh_text.specs.Bytes.{AppendsFront}
 use Rattle.mh_text.specs.Output.{IsUnread, outside}
 use Rattle.mh_text.specs.PlanLines.{plan_text, plan_json, phases_text}

@@ -10,7 +10,7 @@ use Rattle.mh_text.specs.declared.fault.Fault.{Fault}
 use Rattle.mh_text.specs.declared.fault.ReadFault.{ReadFault}
 use Rattle.mh_text.specs.declared.fault.ReadFault.TheVariants.{BadShape}
 use Rattle.mh_text.specs.declared.fault.TextFault.TheVariants.{NoMemory, Problem}
-use Rattle.mh_text.specs.declared.problem.ProblemRows.{ProblemRows}
+use Rattle.mh_text.specs.declared.json.problem.ProblemRows.{ProblemRows}
 use Rattle.mh_text.specs.Gives.{◌>>=◌, or_fault, at_place}
 use Rattle.mh_text.specs.Inputs.{json_of_input}
 use Rattle.mh_text.specs.Output.{outside}

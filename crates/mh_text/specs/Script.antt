@@ -17,12 +17,12 @@ use Rattle.mh_core.specs.Limits.{LimitsData}
 use Rattle.mh_text.specs.declared.fault.Fault.{Fault}
 use Rattle.mh_text.specs.declared.fault.ReadFault.{ReadFault}
 use Rattle.mh_text.specs.declared.fault.ReadFault.TheVariants.{BadShape}
-use Rattle.mh_text.specs.declared.declarations.Declarations.{Declarations}
-use Rattle.mh_text.specs.declared.scope.Scope.{Scope}
-use Rattle.mh_text.specs.declared.script.Schedule.{Schedule}
-use Rattle.mh_text.specs.declared.script.Script.{Script}
-use Rattle.mh_text.specs.declared.step.Step.{Step}
-use Rattle.mh_text.specs.declared.step.Step.TheVariants.{Ask, Plan as ask_plan}
+use Rattle.mh_text.specs.declared.json.declarations.Declarations.{Declarations}
+use Rattle.mh_text.specs.declared.json.scope.Scope.{Scope}
+use Rattle.mh_text.specs.declared.json.script.Schedule.{Schedule}
+use Rattle.mh_text.specs.declared.json.script.Script.{Script}
+use Rattle.mh_text.specs.declared.json.step.Step.{Step}
+use Rattle.mh_text.specs.declared.json.step.Step.TheVariants.{Ask, Plan as ask_plan}
 use Rattle.mh_text.specs.Gives.{◌>>=◌, at_place, caused, of_definition}
 use Rattle.mh_text.specs.Names.{with_name, place_of}
 use Rattle.mh_text.specs.Plans.{plan_of}

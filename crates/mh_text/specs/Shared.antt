@@ -6,8 +6,8 @@ use Rattle.serde_json.specs.Data.{Data}
 use Rattle.serde_json.specs.Find.{get}
 use Rattle.mh_text.specs.declared.fault.ReadFault.{ReadFault}
 use Rattle.mh_text.specs.declared.fault.ReadFault.TheVariants.{BadShape}
-use Rattle.mh_text.specs.declared.scope.Scope.{Scope}
-use Rattle.mh_text.specs.declared.scope.Shared.{Shared}
+use Rattle.mh_text.specs.declared.json.scope.Scope.{Scope}
+use Rattle.mh_text.specs.declared.json.scope.Shared.{Shared}
 use Rattle.mh_text.specs.Gives.{◌>>=◌}
 use Rattle.mh_site.specs.Names.{is_name}
 use Rattle.mh_text.specs.Names.{with_name}

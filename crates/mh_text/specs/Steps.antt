@@ -12,8 +12,8 @@ use Rattle.mh_core.specs.Histories.{records}
 use Rattle.mh_core.specs.Legal as legal
 use Rattle.mh_core.specs.Legal.{Setting}
 use Rattle.mh_core.specs.Problems.{IsTaken, problem_at}
-use Rattle.mh_text.specs.declared.step.Step.{Step}
-use Rattle.mh_text.specs.declared.step.Step.TheVariants.{Ask, Plan as ask_plan}
+use Rattle.mh_text.specs.declared.json.step.Step.{Step}
+use Rattle.mh_text.specs.declared.json.step.Step.TheVariants.{Ask, Plan as ask_plan}
 
 -- the number that an event names, of the snapshot that a plan is for or of the plan that is installed; 0 where it names none
 abbrev pub number_in : Event → ℕ

@@ -10,7 +10,7 @@ use Rattle.mh_tree.specs.Handle.{TypedTree}
 use Rattle.mh_tree.specs.Constructors.{constant_made, identity_made, op_made, insert_made, drop_made, permute_made, filter_made, filter_return_made, fold_made, guard_made, point_made, declared_made}
 use Rattle.mh_text.specs.declared.fault.ReadFault.{ReadFault}
 use Rattle.mh_text.specs.declared.fault.ReadFault.TheVariants.{BadShape, UnknownShared}
-use Rattle.mh_text.specs.declared.scope.Scope.{Scope}
+use Rattle.mh_text.specs.declared.json.scope.Scope.{Scope}
 use Rattle.mh_text.specs.Gives.{◌>>=◌, or_fault, caused, of_tree}
 use Rattle.mh_text.specs.Names.{place_of}
 use Rattle.mh_text.specs.Shape.{list_of, text_of, count_of, each_of}

@@ -4,8 +4,27 @@ ghost use Rattle.serde_json.specs.View.{view};
 ghost use Rattle.mh_text.specs.Gives.{Gives, GivesAt, IsOfInput};
 ghost use Rattle.mh_text.specs.Inputs.{json_in, json_of_input};
 
+pub(crate) mod certificate;
+pub(crate) mod declarations;
+pub(crate) mod events;
+pub(crate) mod leaves;
+pub(crate) mod limits;
+pub(crate) mod links;
+pub(crate) mod names;
+pub(crate) mod plan;
+pub(crate) mod points;
+pub(crate) mod problem;
+pub(crate) mod scope;
+pub(crate) mod script;
+pub(crate) mod shape;
+pub(crate) mod shared;
+pub(crate) mod sites;
+pub(crate) mod step;
+pub(crate) mod trees;
+pub(crate) mod values;
+
 use crate::fault::{Fault, ReadFault, TextFault};
-use crate::input::LIMIT;
+use crate::streams::input::LIMIT;
 use serde_json::Value;
 use std::alloc::Global;
 

@@ -1,48 +1,36 @@
 //! Scripts, problems and plans from JSON, and the lines of what they give.
+//!
+//! `json` reads and writes values of JSON, `lines` the lines of replies and plans, and `streams` takes an input to its end
+//! and writes what it gives. What the calls name of the crates below stands here too:
+//!
+//! ```
+//! let script = read_script(alloc, input)?;
+//! let mut machine = Machine::open(alloc, &script.definition, script.workers, script.limits)?;
+//! for step in script.steps.into_vec() {
+//!     if let Step::Ask(event) = step {
+//!         let reply = machine.step(event);
+//!     }
+//! }
+//! ```
 #![tactic(auto)]
 
-mod certificate;
-mod check;
-mod claim;
-mod declarations;
-mod events;
 mod fault;
-mod input;
 mod json;
-mod leaves;
-mod limits;
 mod lines;
-mod links;
-mod names;
-mod plan;
-mod plan_lines;
-mod planning;
-mod points;
-mod problem;
-mod run;
-mod scope;
-mod script;
-mod shape;
-mod shared;
-mod sites;
-mod step;
-mod stepping;
-mod trees;
-mod values;
-mod verdict;
-mod watched;
+mod streams;
 
-pub use certificate::plan_json;
-pub use check::check_bytes;
 pub use fault::{Fault, TextFault};
+pub use json::certificate::plan_json;
+pub use json::plan::read_plan;
+pub use json::problem::read_problem;
+pub use json::script::{Script, read_script};
+pub use json::step::Step;
+pub use lines::plans::plan_line;
 pub use lines::render;
-pub use plan::read_plan;
-pub use plan_lines::plan_line;
-pub use planning::{PlanOptions, plan_bytes, write_lines};
-pub use problem::read_problem;
-pub use run::{read_script_from, run_bytes};
-pub use script::{Script, read_script};
-pub use step::Step;
-pub use stepping::best_plan;
-pub use verdict::Verdict;
-pub use watched::Watched;
+pub use lines::verdict::Verdict;
+pub use mh_core::{Definition, Event, Limits, Machine, Plan, Problem, Refusal, Reply, SharedPlan};
+pub use streams::check::check_bytes;
+pub use streams::planning::{PlanOptions, plan_bytes, write_lines};
+pub use streams::run::{read_script_from, run_bytes};
+pub use streams::stepping::best_plan;
+pub use streams::watched::Watched;

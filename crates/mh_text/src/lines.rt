@@ -2,13 +2,16 @@
 ghost use Rattle.std.specs.Prelude.{◌≡◌, ◌++◌, string_bytes, codes, filter, IfOk, OnOk, All, ◌<◌, ◌≤◌, length};
 ghost use Rattle.std.specs.List.{flat_map, slice_index_or};
 ghost use Rattle.mh_site.specs.Defined.{point_at};
-ghost use Rattle.mh_text.specs.declared.step.Step.TheVariants.{Plan as no_step};
+ghost use Rattle.mh_text.specs.declared.json.step.Step.TheVariants.{Plan as no_step};
 ghost use Rattle.mh_text.specs.Steps.{number_named};
 ghost use Rattle.mh_type.specs.declared.value.Value.TheVariants as variant;
 ghost use Rattle.mh_text.specs.Lines.{quoted, value_text, outcome_text, names_text, published_text, is_linked, is_skipped, invalid_text, installed_text, reply_text, line_of};
 
-use crate::plan_lines::numbers_line;
-use crate::script::Script;
+pub(crate) mod plans;
+pub(crate) mod verdict;
+
+use crate::json::script::Script;
+use crate::lines::plans::numbers_line;
 use mh_cert::Plan;
 use mh_core::{InstallReport, Linkage, Reply, SiteLinkage};
 use mh_network::carried;

@@ -1,0 +1,208 @@
+//! The steps of a script.
+ghost use Rattle.std.specs.Prelude.{◌≡◌, [], ◌∷◌, ◌++◌, map, IfErr, OnOk};
+ghost use Rattle.mh_text.specs.declared.fault.TextFault.TheVariants as text;
+ghost use Rattle.serde_json.specs.View.{view};
+ghost use Rattle.mh_text.specs.Gives.{Gives, GivesNumbered, GivesUpTo, IsOfInput};
+ghost use Rattle.mh_text.specs.Script.{call_from, flush_from, target_from, invalidate_from, snapshot_from, offer_from, install_from, plan_from, event_named, step_named, step_of, steps_of, IsNext};
+
+use crate::fault::{Fault, ReadFault, TextFault};
+use crate::json::declarations::Declarations;
+use crate::json::plan::read_plan_value;
+use crate::json::points::read_named_points;
+use crate::json::scope::Scope;
+use crate::json::shape::{list, number, text};
+use crate::json::step::Step;
+use crate::json::trees::read_declared;
+use crate::json::values::read_values;
+use mh_core::{Arguments, Event, SharedPlan};
+use mh_site::Listing;
+use serde_json::Value;
+use std::alloc::Global;
+
+fn read_call(alloc: Global, declared: &Declarations, args: &[Value]) -> Result<Event, ReadFault>
+    ensures value { Gives (λ x. x) result (call_from declared.now (map view args.now)) }
+{
+    let [worker, name, values] = args else {
+        return Err(ReadFault::BadShape);
+    };
+    let worker = number(worker)?;
+    let site = declared.site_number(text(name)?);
+    let values = read_values(alloc, declared.parameters(site), list(values)?)?;
+    let arguments = Arguments::from_vec(values.into_vec());
+    Ok(Event::Call {
+        worker,
+        site,
+        arguments,
+    })
+}
+
+fn read_flush(args: &[Value]) -> Result<Event, ReadFault>
+    ensures value { Gives (λ x. x) result (flush_from (map view args.now)) }
+{
+    let [worker] = args else {
+        return Err(ReadFault::BadShape);
+    };
+    let worker = number(worker)?;
+    Ok(Event::Flush { worker })
+}
+
+fn read_target(alloc: Global, declared: &Declarations, args: &[Value]) -> Result<Event, ReadFault>
+    ensures value { Gives (λ x. x) result (target_from declared.now (map view args.now)) }
+{
+    let [name, tree] = args else {
+        return Err(ReadFault::BadShape);
+    };
+    let site = declared.site_number(text(name)?);
+    let tree = read_declared(alloc, &declared.scope, tree)?;
+    Ok(Event::Target { site, tree })
+}
+
+fn read_invalidate(alloc: Global, scope: &Scope, args: &[Value]) -> Result<Event, ReadFault>
+    ensures value { Gives (λ x. x) result (invalidate_from scope.now.points (map view args.now)) }
+{
+    let [names] = args else {
+        return Err(ReadFault::BadShape);
+    };
+    let points = read_named_points(alloc, scope, names)?;
+    Ok(Event::Invalidate { points })
+}
+
+fn read_snapshot(args: &[Value]) -> Result<Event, ReadFault>
+    ensures value { Gives (λ x. x) result (snapshot_from (map view args.now)) }
+{
+    let [] = args else {
+        return Err(ReadFault::BadShape);
+    };
+    Ok(Event::Snapshot)
+}
+
+fn read_offer(alloc: Global, args: &[Value]) -> Result<Event, ReadFault>
+    ensures value { Gives (λ x. x) result (offer_from (map view args.now)) }
+{
+    let [snapshot, plan] = args else {
+        return Err(ReadFault::BadShape);
+    };
+    let snapshot = number(snapshot)? as usize;
+    let plan = read_plan_value(alloc, plan)?;
+    let plan = SharedPlan::new(alloc, plan)?;
+    Ok(Event::Publish { snapshot, plan })
+}
+
+fn read_install(args: &[Value]) -> Result<Event, ReadFault>
+    ensures value { Gives (λ x. x) result (install_from (map view args.now)) }
+{
+    let [plan] = args else {
+        return Err(ReadFault::BadShape);
+    };
+    let plan = number(plan)? as usize;
+    Ok(Event::Install { plan })
+}
+
+fn read_plan_step(args: &[Value]) -> Result<Step, ReadFault>
+    ensures value { Gives (λ x. x) result (plan_from (map view args.now)) }
+{
+    let [snapshot] = args else {
+        return Err(ReadFault::BadShape);
+    };
+    let snapshot = number(snapshot)? as usize;
+    Ok(Step::Plan { snapshot })
+}
+
+/// The event that a word heads.
+fn read_event(
+    alloc: Global,
+    declared: &Declarations,
+    word: &str,
+    args: &[Value],
+) -> Result<Event, ReadFault>
+    ensures value { Gives (λ x. x) result (event_named declared.now word.now (map view args.now)) }
+{
+    match word {
+        "call" => read_call(alloc, declared, args),
+        "flush" => read_flush(args),
+        "target" => read_target(alloc, declared, args),
+        "invalidate" => read_invalidate(alloc, &declared.scope, args),
+        "snapshot" => read_snapshot(args),
+        "offer" => read_offer(alloc, args),
+        "install" => read_install(args),
+        _ => Err(ReadFault::BadShape),
+    }
+}
+
+/// The step that a word heads.
+fn read_named(
+    alloc: Global,
+    declared: &Declarations,
+    word: &str,
+    args: &[Value],
+) -> Result<Step, ReadFault>
+    ensures value { Gives (λ x. x) result (step_named declared.now word.now (map view args.now)) }
+{
+    if word == "plan" {
+        return read_plan_step(args);
+    }
+    let event = read_event(alloc, declared, word, args)?;
+    Ok(Step::Ask(event))
+}
+
+fn read_step(alloc: Global, declared: &Declarations, value: &Value) -> Result<Step, ReadFault>
+    ensures value { Gives (λ x. x) result (step_of declared.now (view value.now)) }
+{
+    let [head, args @ ..] = list(value)? else {
+        return Err(ReadFault::BadShape);
+    };
+    read_named(alloc, declared, text(head)?, args)
+}
+
+/// The step of this number, from 1.
+#[tactic(auto, using(crate::proofs::OfInput::told_of_input))]
+fn read_numbered(
+    alloc: Global,
+    declared: &Declarations,
+    value: &Value,
+    at: u64,
+) -> Result<Step, Fault>
+    ensures value { GivesNumbered at result (step_of declared.now (view value.now)) }
+    ensures kind { IfErr result (λ e. IsOfInput e.kind) }
+{
+    match read_step(alloc, declared, value) {
+        Ok(step) => Ok(step),
+        Err(cause) => Err(Fault {
+            kind: TextFault::from(cause),
+            at,
+        }),
+    }
+}
+
+/// One step more, of this number.
+fn push_step(steps: &mut Vec<Step>, step: Step, at: u64) -> Result<(), Fault>
+    ensures ok { OnOk result (steps.new.items ≡ steps.old.items ++ step ∷ []) }
+    ensures memory { IfErr result (λ e. e ≡ record { kind = text.NoMemory; at = at }) }
+{
+    match steps.push(step) {
+        Ok(()) => Ok(()),
+        Err(_) => Err(Fault {
+            kind: TextFault::NoMemory,
+            at,
+        }),
+    }
+}
+
+/// The steps, the first fault of which is told with its step's number from 1.
+pub(crate) fn read_steps(
+    alloc: Global,
+    declared: &Declarations,
+    values: &[Value],
+) -> Result<Listing<Step>, Fault>
+    ensures value { GivesUpTo (IsNext declared.now (map view values.now)) result
+        (steps_of declared.now (map view values.now)) }
+    ensures kind { IfErr result (λ e. IsOfInput e.kind) }
+{
+    let mut steps = Vec::new(alloc);
+    for (i, value) in values.iter().enumerate() {
+        let at = i as u64 + 1;
+        let step = read_numbered(alloc, declared, value, at)?;
+        push_step(&mut steps, step, at)?;
+    }
+    Ok(Listing::from_vec(steps))
+}

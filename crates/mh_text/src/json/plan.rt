@@ -1,0 +1,87 @@
+//! Plans.
+ghost use Rattle.std.specs.Prelude.{◌≡◌, map, option_map, IfErr};
+ghost use Rattle.serde_json.specs.View.{view};
+ghost use Rattle.mh_text.specs.Gives.{Gives, GivesAt, IsOfInput, at_place};
+ghost use Rattle.mh_text.specs.Plans.{signed_of, flow_row_from, flow_row_of, flow_of, plan_of, plan_at, plan_of_input};
+
+use crate::fault::{Fault, ReadFault};
+use crate::json::problem::{listed, read_numbers};
+use crate::json::read_json;
+use crate::json::shape::{count, each, list, member, number, part};
+use mh_cert::Plan;
+use mh_network::Listing;
+use serde_json::Value;
+use std::alloc::Global;
+
+/// The greatest amount of a flow.
+const MOST_AMOUNT: u64 = u64::MAX;
+
+/// A whole number of 64 bits with a sign.
+fn read_signed(value: &Value) -> Result<i64, ReadFault>
+    ensures value { Gives (λ x. x) result (signed_of (view value.now)) }
+{
+    value.as_i64().ok_or(ReadFault::BadShape)
+}
+
+/// A link, a point, and an amount.
+fn read_parts(parts: &[Value]) -> Result<(u32, u32, u64), ReadFault>
+    ensures value { Gives (λ x. x) result (flow_row_from (map view parts.now)) }
+{
+    let [link, point, amount] = parts else {
+        return Err(ReadFault::BadShape);
+    };
+    let link = number(link)?;
+    let point = number(point)?;
+    let amount = count(amount, MOST_AMOUNT)?;
+    Ok((link, point, amount))
+}
+
+fn read_flow_row(value: &Value) -> Result<(u32, u32, u64), ReadFault>
+    ensures value { Gives (λ x. x) result (flow_row_of (view value.now)) }
+{
+    read_parts(list(value)?)
+}
+
+fn read_flow(alloc: Global, value: &Value) -> Result<Listing<(u32, u32, u64)>, ReadFault>
+    ensures value { Gives (λ x. x) result (flow_of (view value.now)) }
+{
+    Ok(listed(each(alloc, list(value)?, |row| read_flow_row(row))?))
+}
+
+/// The plan that a value is.
+pub(crate) fn read_plan_value(alloc: Global, value: &Value) -> Result<Plan, ReadFault>
+    ensures value { Gives (λ x. x) result (plan_of (view value.now)) }
+{
+    let links = read_numbers(alloc, member(value, "links")?)?;
+    let points = read_numbers(alloc, member(value, "points")?)?;
+    let worth = read_signed(member(value, "value")?)?;
+    let flow = read_flow(alloc, member(value, "flow")?)?;
+    Ok(Plan {
+        links,
+        points,
+        value: worth,
+        flow,
+    })
+}
+
+/// The plan that a value, or what it has at a key, is.
+#[tactic(auto, using(crate::proofs::OfInput::told_of_input))]
+pub(crate) fn read_plan_at(alloc: Global, value: &Value, key: Option<&str>) -> Result<Plan, Fault>
+    ensures value { GivesAt (λ x. x) result (at_place 0 (plan_at (option_map (λ k. k.now) key.entry) (view value.now))) }
+    ensures kind { IfErr result (λ e. IsOfInput e.kind) }
+{
+    Ok(read_plan_value(alloc, part(value, key)?)?)
+}
+
+/// The plan that an input is, or that its JSON object has at the key `member`.
+///
+/// A plan is `{"links":[N..],"points":[N..],"value":N,"flow":[[link,point,amount]..]}`, links and
+/// points by number. The numbers of links and points are 0 to 2^32 - 1, amounts 0 to 2^64 - 1, and
+/// the value has 64 bits with a sign. The first fault is told, at 0: the input's length, its JSON,
+/// and then BadShape where a part is missing, of another form, or out of its range.
+pub fn read_plan(alloc: Global, input: &[u8], member: Option<&str>) -> Result<Plan, Fault>
+    ensures value { GivesAt (λ x. x) result (plan_of_input (option_map (λ k. k.now) member.entry) input.now) }
+    ensures kind { IfErr result (λ e. IsOfInput e.kind) }
+{
+    read_plan_at(alloc, &read_json(alloc, input)?, member)
+}

@@ -1,0 +1,207 @@
+//! Trees in JSON. Children are built from left to right before their parent.
+ghost use Rattle.std.specs.Prelude.{◌≡◌, map, drop};
+ghost use Rattle.serde_json.specs.View.{view};
+ghost use Rattle.mh_type.specs.declared.kind.Kind.{Kind};
+ghost use Rattle.mh_text.specs.Gives.{Gives};
+ghost use Rattle.mh_text.specs.Shape.{each_of};
+ghost use Rattle.mh_text.specs.Trees.{part, tree_of, declared_of, filter_of, filters_of, form_named, insert_from, drop_from, permute_from, filter_from, return_from, fold_from, guard_from, point_from};
+
+use crate::fault::ReadFault;
+use crate::json::leaves::{read_identity, read_leaf_constant, read_operation, read_ref};
+use crate::json::scope::Scope;
+use crate::json::shape::{each, list, place, text};
+use crate::json::values::{read_kind, read_type, read_values};
+use mh_site::Listing;
+use mh_tree::{Declared, Handle};
+use mh_type::Kind;
+use serde_json::Value;
+use std::alloc::Global;
+
+/// The kinds from a place on, none past the last.
+fn kinds_from(kinds: &[Kind], place: usize) -> &[Kind]
+    ensures value { result.now ≡ drop place kinds.now }
+{
+    &kinds[place.min(kinds.len())..]
+}
+
+#[cycle(tree)]
+fn read_insert(alloc: Global, scope: &Scope, args: &[Value]) -> Result<Handle, ReadFault>
+    ensures value { Gives (λ x. x) result (insert_from (map (part scope.now) args.now)) }
+{
+    let [target, position, values] = args else {
+        return Err(ReadFault::BadShape);
+    };
+    let target = read_tree(alloc, scope, target)?;
+    let position = place(position)?;
+    let kinds = kinds_from(target.method_type().parameters(), position);
+    let values = read_values(alloc, kinds, list(values)?)?;
+    Ok(Handle::insert(alloc, &target, position, values.as_slice())?)
+}
+
+#[cycle(tree)]
+fn read_drop(alloc: Global, scope: &Scope, args: &[Value]) -> Result<Handle, ReadFault>
+    ensures value { Gives (λ x. x) result (drop_from (map (part scope.now) args.now)) }
+{
+    let [target, position, kinds] = args else {
+        return Err(ReadFault::BadShape);
+    };
+    let target = read_tree(alloc, scope, target)?;
+    let position = place(position)?;
+    let kinds = each(alloc, list(kinds)?, read_kind)?;
+    Ok(Handle::drop(alloc, &target, position, kinds.as_slice())?)
+}
+
+#[cycle(tree)]
+fn read_permute(alloc: Global, scope: &Scope, args: &[Value]) -> Result<Handle, ReadFault>
+    ensures value { Gives (λ x. x) result (permute_from (map (part scope.now) args.now)) }
+{
+    let [target, new_type, reorder] = args else {
+        return Err(ReadFault::BadShape);
+    };
+    let target = read_tree(alloc, scope, target)?;
+    let new_type = read_type(new_type)?;
+    let reorder = each(alloc, list(reorder)?, place)?;
+    Ok(Handle::permute(alloc, &target, &new_type, reorder.as_slice())?)
+}
+
+#[cycle(tree)]
+fn read_filter(alloc: Global, scope: &Scope, args: &[Value]) -> Result<Handle, ReadFault>
+    ensures value { Gives (λ x. x) result (filter_from (map (part scope.now) args.now)) }
+{
+    let [target, position, filters] = args else {
+        return Err(ReadFault::BadShape);
+    };
+    let target = read_tree(alloc, scope, target)?;
+    let position = place(position)?;
+    let filters = read_filters(alloc, scope, filters)?;
+    Ok(Handle::filter(alloc, &target, position, filters.as_slice())?)
+}
+
+#[cycle(tree)]
+fn read_filters(
+    alloc: Global,
+    scope: &Scope,
+    value: &Value,
+) -> Result<Listing<Option<Handle>>, ReadFault>
+    ensures value { Gives (λ x. x) result (filters_of scope.now (view value.now)) }
+{
+    let Value::Array(items) = value else {
+        return Err(ReadFault::BadShape);
+    };
+    let mut filters = Vec::new(alloc);
+    for item in items.as_slice() {
+        filters.push(read_filter_or_none(alloc, scope, item)?)?;
+    }
+    Ok(Listing::from_vec(filters))
+}
+
+#[cycle(tree)]
+fn read_filter_or_none(
+    alloc: Global,
+    scope: &Scope,
+    value: &Value,
+) -> Result<Option<Handle>, ReadFault>
+    ensures value { Gives (λ x. x) result (filter_of scope.now (view value.now)) }
+{
+    if value.is_null() {
+        return Ok(None);
+    }
+    Ok(Some(read_tree(alloc, scope, value)?))
+}
+
+#[cycle(tree)]
+fn read_filter_return(alloc: Global, scope: &Scope, args: &[Value]) -> Result<Handle, ReadFault>
+    ensures value { Gives (λ x. x) result (return_from (map (part scope.now) args.now)) }
+{
+    let [target, filter] = args else {
+        return Err(ReadFault::BadShape);
+    };
+    let target = read_tree(alloc, scope, target)?;
+    let filter = read_tree(alloc, scope, filter)?;
+    Ok(Handle::filter_return(alloc, &target, &filter)?)
+}
+
+#[cycle(tree)]
+fn read_fold(alloc: Global, scope: &Scope, args: &[Value]) -> Result<Handle, ReadFault>
+    ensures value { Gives (λ x. x) result (fold_from (map (part scope.now) args.now)) }
+{
+    let [target, combiner] = args else {
+        return Err(ReadFault::BadShape);
+    };
+    let target = read_tree(alloc, scope, target)?;
+    let combiner = read_tree(alloc, scope, combiner)?;
+    Ok(Handle::fold(alloc, &target, &combiner)?)
+}
+
+#[cycle(tree)]
+fn read_guard(alloc: Global, scope: &Scope, args: &[Value]) -> Result<Handle, ReadFault>
+    ensures value { Gives (λ x. x) result (guard_from (map (part scope.now) args.now)) }
+{
+    let [test, target, fallback] = args else {
+        return Err(ReadFault::BadShape);
+    };
+    let test = read_tree(alloc, scope, test)?;
+    let target = read_tree(alloc, scope, target)?;
+    let fallback = read_tree(alloc, scope, fallback)?;
+    Ok(Handle::guard(alloc, &test, &target, &fallback)?)
+}
+
+#[cycle(tree)]
+fn read_branches(alloc: Global, scope: &Scope, args: &[Value]) -> Result<Handle, ReadFault>
+    ensures value { Gives (λ x. x) result (point_from scope.now (map (part scope.now) args.now)) }
+{
+    let [name, target, fallback] = args else {
+        return Err(ReadFault::BadShape);
+    };
+    let point = scope.point_number(text(name)?);
+    let target = read_tree(alloc, scope, target)?;
+    let fallback = read_tree(alloc, scope, fallback)?;
+    Ok(Handle::point(alloc, point, &target, &fallback)?)
+}
+
+/// What a word heads.
+#[cycle(tree)]
+fn read_form(alloc: Global, scope: &Scope, word: &str, args: &[Value]) -> Result<Handle, ReadFault>
+    ensures value { Gives (λ x. x) result (form_named scope.now word.now (map (part scope.now) args.now)) }
+{
+    match word {
+        "const" => read_leaf_constant(alloc, scope, args),
+        "id" => read_identity(alloc, scope, args),
+        "op" => read_operation(alloc, scope, args),
+        "ref" => read_ref(scope, args),
+        "insert" => read_insert(alloc, scope, args),
+        "drop" => read_drop(alloc, scope, args),
+        "permute" => read_permute(alloc, scope, args),
+        "filter" => read_filter(alloc, scope, args),
+        "return" => read_filter_return(alloc, scope, args),
+        "fold" => read_fold(alloc, scope, args),
+        "guard" => read_guard(alloc, scope, args),
+        "point" => read_branches(alloc, scope, args),
+        _ => Err(ReadFault::BadShape),
+    }
+}
+
+/// A tree by its form, over the names that it may use.
+#[cycle(tree)]
+pub(crate) fn read_tree(alloc: Global, scope: &Scope, value: &Value) -> Result<Handle, ReadFault>
+    ensures value { Gives (λ x. x) result (tree_of scope.now (view value.now)) }
+{
+    let Value::Array(items) = value else {
+        return Err(ReadFault::BadShape);
+    };
+    let [head, args @ ..] = items.as_slice() else {
+        return Err(ReadFault::BadShape);
+    };
+    read_form(alloc, scope, text(head)?, args)
+}
+
+/// A tree within the limits of declared trees.
+pub(crate) fn read_declared(
+    alloc: Global,
+    scope: &Scope,
+    value: &Value,
+) -> Result<Declared, ReadFault>
+    ensures value { Gives (λ x. x) result (declared_of scope.now (view value.now)) }
+{
+    Ok(Declared::new(&read_tree(alloc, scope, value)?)?)
+}

@@ -1,0 +1,136 @@
+//! Kinds, types, operations and values in JSON.
+ghost use Rattle.std.specs.Prelude.{◌≡◌, map, Some, None, slice_get, if◌then◌else◌};
+ghost use Rattle.serde_json.specs.View.{view};
+ghost use Rattle.mh_text.specs.Gives.{Gives};
+ghost use Rattle.mh_text.specs.Values.{kind_of, type_of, op_of, long_of, is_int, text_value, value_of_kind, value_by_form, value_for, values_for};
+
+use crate::fault::ReadFault;
+use crate::json::shape::text;
+use mh_site::Listing;
+use mh_type::{Kind, MethodType, Op, Text, TypeFault, Value};
+use serde_json::Value as Json;
+use std::alloc::Global;
+
+/// The kind of a name.
+pub(crate) fn read_kind(value: &Json) -> Result<Kind, ReadFault>
+    ensures value { Gives (λ x. x) result (kind_of (view value.now)) }
+{
+    Kind::from_name(text(value)?).ok_or(ReadFault::BadShape)
+}
+
+/// The method type of a text.
+pub(crate) fn read_type(value: &Json) -> Result<MethodType, ReadFault>
+    ensures value { Gives (λ x. x) result (type_of (view value.now)) }
+{
+    Ok(MethodType::parse(text(value)?)?)
+}
+
+/// The operation of a name.
+pub(crate) fn read_op(value: &Json) -> Result<Op, ReadFault>
+    ensures value { Gives (λ x. x) result (op_of (view value.now)) }
+{
+    Op::from_name(text(value)?).ok_or(ReadFault::BadShape)
+}
+
+/// A whole number of 64 bits with a sign.
+fn read_long(value: &Json) -> Result<i64, ReadFault>
+    ensures value { Gives (λ x. x) result (long_of (view value.now)) }
+{
+    value.as_i64().ok_or(ReadFault::BadValue)
+}
+
+/// The same number in 32 bits, where it fits.
+fn int(number: i64) -> Option<i32>
+    ensures value { result ≡ (if is_int number then Some number else None) }
+{
+    i32::try_from(number).ok()
+}
+
+/// A text of at most 65,536 bytes of printable ASCII.
+fn read_text(alloc: Global, bytes: &str) -> Result<Value, ReadFault>
+    ensures value { Gives (λ x. x) result (text_value bytes.now) }
+{
+    match Text::new(alloc, bytes) {
+        Ok(text) => Ok(Value::Text(text)),
+        Err(TypeFault::NoMemory) => Err(ReadFault::NoMemory),
+        Err(_) => Err(ReadFault::BadValue),
+    }
+}
+
+/// A value of a kind.
+pub(crate) fn read_constant(alloc: Global, kind: Kind, value: &Json) -> Result<Value, ReadFault>
+    ensures value { Gives (λ x. x) result (value_of_kind kind (view value.now)) }
+{
+    match kind {
+        Kind::Int => match int(read_long(value)?) {
+            Some(number) => Ok(Value::Int(number)),
+            None => Err(ReadFault::BadValue),
+        },
+        Kind::Long => Ok(Value::Long(read_long(value)?)),
+        Kind::Boolean => match value.as_bool() {
+            Some(truth) => Ok(Value::Boolean(truth)),
+            None => Err(ReadFault::BadValue),
+        },
+        Kind::Text => match value.as_str() {
+            Some(bytes) => read_text(alloc, bytes),
+            None => Err(ReadFault::BadValue),
+        },
+    }
+}
+
+/// A value by its own form.
+fn read_by_form(alloc: Global, value: &Json) -> Result<Value, ReadFault>
+    ensures value { Gives (λ x. x) result (value_by_form (view value.now)) }
+{
+    if let Some(bytes) = value.as_str() {
+        return read_text(alloc, bytes);
+    }
+    if let Some(truth) = value.as_bool() {
+        return Ok(Value::Boolean(truth));
+    }
+    let number = read_long(value)?;
+    match int(number) {
+        Some(number) => Ok(Value::Int(number)),
+        None => Ok(Value::Long(number)),
+    }
+}
+
+/// A value of the kind that is wanted, where one is, and else by its own form.
+pub(crate) fn read_value(
+    alloc: Global,
+    kind: Option<Kind>,
+    value: &Json,
+) -> Result<Value, ReadFault>
+    ensures value { Gives (λ x. x) result (value_for kind (view value.now)) }
+{
+    let Some(kind) = kind else {
+        return read_by_form(alloc, value);
+    };
+    match read_constant(alloc, kind, value) {
+        Ok(constant) => Ok(constant),
+        Err(ReadFault::NoMemory) => Err(ReadFault::NoMemory),
+        Err(_) => read_by_form(alloc, value),
+    }
+}
+
+/// The kind at a place, where there is one.
+pub(crate) fn kind_at(kinds: &[Kind], place: usize) -> Option<Kind>
+    ensures value { result ≡ slice_get kinds.now place }
+{
+    kinds.get(place).copied()
+}
+
+/// Values for parameters of these kinds, in order; where there is no parameter, by their own form.
+pub(crate) fn read_values(
+    alloc: Global,
+    kinds: &[Kind],
+    values: &[Json],
+) -> Result<Listing<Value>, ReadFault>
+    ensures value { Gives (λ x. x) result (values_for kinds.now (map view values.now)) }
+{
+    let mut read = Vec::new(alloc);
+    for (i, value) in values.iter().enumerate() {
+        read.push(read_value(alloc, kind_at(kinds, i), value)?)?;
+    }
+    Ok(Listing::from_vec(read))
+}

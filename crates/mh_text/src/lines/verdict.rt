@@ -1,0 +1,40 @@
+//! What a check finds of a plan.
+ghost use Rattle.std.specs.Prelude.{◌≡◌, string_bytes, IfOk, IfErr};
+ghost use Rattle.mh_text.specs.declared.fault.TextFault.TheVariants as text;
+ghost use Rattle.mh_text.specs.Checks.{IsFound, verdict_line};
+
+use crate::fault::{Fault, TextFault};
+use crate::streams::claim::Claim;
+use mh_cert::{CheckFault, check};
+use std::alloc::{AllocError, Global};
+
+/// Whether a plan is accepted.
+#[derive(Clone, Copy, Debug, PartialEq, Eq)]
+pub enum Verdict {
+    /// It matches its problem, and is best.
+    Accepted,
+    /// Its first part that is wrong.
+    Refused(CheckFault),
+}
+
+/// What is found of the plan of a problem.
+pub(crate) fn judge(alloc: Global, claim: &Claim) -> Result<Verdict, Fault>
+    ensures found { IfOk result (IsFound claim.now.problem claim.now.plan) }
+    ensures memory { IfErr result (λ e. e ≡ record { kind = text.NoMemory; at = 0 }) }
+{
+    match check(alloc, &claim.problem, &claim.plan) {
+        Ok(()) => Ok(Verdict::Accepted),
+        Err(CheckFault::NoMemory) => Err(Fault::from(TextFault::NoMemory)),
+        Err(cause) => Ok(Verdict::Refused(cause)),
+    }
+}
+
+/// The line of a verdict.
+pub(crate) fn line(alloc: Global, verdict: Verdict) -> Result<String, AllocError>
+    ensures value { IfOk result (λ s. string_bytes s ≡ verdict_line verdict) }
+{
+    match verdict {
+        Verdict::Accepted => format!(in alloc; "accepted\n"),
+        Verdict::Refused(cause) => format!(in alloc; "refused {cause}\n"),
+    }
+}

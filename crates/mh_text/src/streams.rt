@@ -1,0 +1,9 @@
+//! What is read from a stream to its end, and written on one.
+
+pub(crate) mod check;
+pub(crate) mod claim;
+pub(crate) mod input;
+pub(crate) mod planning;
+pub(crate) mod run;
+pub(crate) mod stepping;
+pub(crate) mod watched;

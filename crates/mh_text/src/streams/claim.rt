@@ -1,0 +1,61 @@
+//! A problem and a plan, which is claimed to be best.
+ghost use Rattle.std.specs.Prelude.{◌≡◌, ◌⊎◌, Some, codes, IfOk, IfErr, OnOk, IfSome};
+ghost use Rattle.serde_json.specs.View.{view};
+ghost use Rattle.mh_text.specs.declared.fault.TextFault.TheVariants as text;
+ghost use Rattle.mh_text.specs.Bytes.{HasFailed};
+ghost use Rattle.mh_text.specs.Checks.{Holds, IsFirstOf, IsClaim, IsClaimFault};
+ghost use Rattle.mh_text.specs.Gives.{at_place, IsEndOf, IsOfInput};
+ghost use Rattle.mh_text.specs.Output.{IsUnread, outside};
+ghost use Rattle.mh_text.specs.Plans.{plan_at};
+ghost use Rattle.mh_text.specs.Problems.{rows_at};
+
+use crate::fault::Fault;
+use crate::json::plan::read_plan_at;
+use crate::json::problem::read_problem_at;
+use crate::json::read_json;
+use crate::streams::input::read_input;
+use crate::streams::watched::Watched;
+use mh_cert::Plan;
+use mh_network::Problem;
+use serde_json::Value;
+use std::alloc::Global;
+use std::io::Read;
+
+/// A problem, and what is said to be a best plan of it.
+#[derive(Drop)]
+pub struct Claim {
+    pub problem: Problem,
+    pub plan: Plan,
+}
+
+/// The problem and then the plan of a value, each at its key.
+fn read_parts(alloc: Global, value: &Value) -> Result<Claim, Fault>
+    ensures ok { IfOk result (λ claim. Holds (at_place 0 (rows_at (Some (codes "problem")) (view value.now))) (at_place 0 (plan_at (Some (codes "plan")) (view value.now))) claim.problem claim.plan) }
+    ensures kind { IfErr result (λ e. IsOfInput e.kind) }
+    ensures failed { IfErr result (λ e. (e ≡ outside text.NoMemory) ⊎ IsFirstOf (at_place 0 (rows_at (Some (codes "problem")) (view value.now))) (at_place 0 (plan_at (Some (codes "plan")) (view value.now))) e) }
+{
+    let problem = read_problem_at(alloc, value, Some("problem"))?;
+    let plan = read_plan_at(alloc, value, Some("plan"))?;
+    Ok(Claim { problem, plan })
+}
+
+/// The problem and the plan of an input, which is parsed once.
+fn read_claim(alloc: Global, input: &[u8]) -> Result<Claim, Fault>
+    ensures ok { IfOk result (λ claim. IsClaim input.now claim.problem claim.plan) }
+    ensures kind { IfErr result (λ e. IsOfInput e.kind) }
+    ensures failed { IfErr result (λ e. (e ≡ outside text.NoMemory) ⊎ IsClaimFault input.now e) }
+{
+    read_parts(alloc, &read_json(alloc, input)?)
+}
+
+/// The problem and the plan that the reader gives.
+pub(crate) fn read_whole<R: Read>(alloc: Global, reader: &mut Watched<R>) -> Result<Claim, Fault>
+    ensures ok { IfOk result (λ claim. IfSome (R.remaining reader.old.inner) (λ input. IsClaim input claim.problem claim.plan)) }
+    ensures kept { OnOk result (reader.new.failures ≡ reader.old.failures) }
+    ensures failed { IfErr result (IsUnread IsClaimFault (R.remaining reader.old.inner)
+        (HasFailed reader.old.failures reader.new.failures)) }
+    ensures told { IfErr result (λ e. IsEndOf (HasFailed reader.old.failures reader.new.failures) ⊥ e.kind) }
+{
+    let input = read_input(alloc, reader)?;
+    read_claim(alloc, &input)
+}

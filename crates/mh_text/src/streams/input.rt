@@ -1,0 +1,38 @@
+//! The whole input.
+ghost use Rattle.std.specs.Prelude.{◌≡◌, ◌<◌, ◌≤◌, ◌⊎◌, length, IfOk, IfErr, OnOk, OnErr, IfSome, IsErrOf};
+ghost use Rattle.mh_text.specs.Bytes.{HasFailed, most_bytes};
+ghost use Rattle.std.specs.Io.KnownBytes.{Consumes};
+
+use crate::fault::TextFault;
+use crate::streams::watched::Watched;
+use std::alloc::Global;
+use std::io::Read;
+
+/// The most bytes that an input may have.
+pub(crate) const LIMIT: usize = 1_048_576;
+
+/// The input to its end, or up to the first byte past the limit.
+pub(crate) fn read_input<R: Read>(
+    alloc: Global,
+    reader: &mut Watched<R>,
+) -> Result<Vec<u8>, TextFault>
+    ensures ok { IfOk result (λ input. IfSome (R.remaining reader.old.inner) (λ bytes. input.items ≡ bytes)) }
+    ensures short { IfOk result (λ input. length input.items ≤ most_bytes) }
+    ensures long { IsErrOf result TextFault.TooLong → IfSome (R.remaining reader.old.inner) (λ bytes. most_bytes < length bytes) }
+    ensures kept { OnOk result (reader.new.failures ≡ reader.old.failures) }
+    ensures failed { IsErrOf result TextFault.ReadFailed → HasFailed reader.old.failures reader.new.failures }
+    ensures kinds { IfErr result (λ e. (e ≡ TextFault.NoMemory) ⊎ (e ≡ TextFault.TooLong) ⊎ (e ≡ TextFault.ReadFailed)) }
+{
+    let mut input = Vec::new(alloc);
+    let mut buffer = [0u8; 8192];
+    while input.len() <= LIMIT {
+        let room = (LIMIT + 1 - input.len()).min(buffer.len());
+        let part = &mut buffer[..room];
+        let n = reader.read(part)?;
+        if n == 0 {
+            return Ok(input);
+        }
+        input.extend_from_slice(&part[..n])?;
+    }
+    Err(TextFault::TooLong)
+}

@@ -1,0 +1,157 @@
+//! Bytes in, lines out.
+ghost use Rattle.std.specs.Prelude.{◌≡◌, Ok, IfOk, IfErr, OnOk, IfSome, MatchResult};
+ghost use Rattle.std.specs.Io.KnownBytes.{Appends};
+ghost use Rattle.mh_text.specs.declared.json.script.Script.{Script};
+ghost use Rattle.mh_text.specs.Bytes.{AppendsFront, HasFailed};
+ghost use Rattle.mh_text.specs.Gives.{IsEndOf};
+ghost use Rattle.mh_text.specs.Lines.{line_of};
+ghost use Rattle.mh_text.specs.Steps.{Told, Takes};
+ghost use Rattle.mh_text.specs.Output.{script_of_input, first, AppendsRun, EndsIn, EndsEarly, EndsReading, IsUnread, Failed, IsEnd};
+
+use crate::fault::{Fault, TextFault};
+use crate::json::script::{Script, read_script};
+use crate::json::step::Step;
+use crate::lines::line;
+use crate::streams::input::read_input;
+use crate::streams::stepping::answer;
+use crate::streams::watched::Watched;
+use mh_core::{Machine, Reply};
+use mh_site::Definition;
+use std::alloc::Global;
+use std::io::{Read, Write};
+use std::thread::Threads;
+
+/// The line of a reply to the step of this number, which names this number.
+fn write_line<W: Write>(
+    alloc: Global,
+    definition: &Definition,
+    named: usize,
+    reply: &Reply,
+    at: u64,
+    writer: &mut Watched<W>,
+) -> Result<(), Fault>
+    ensures line { MatchResult result
+        (λ _. Appends (W.contents writer.old.inner) (W.contents writer.new.inner) (line_of definition.now (named, reply.now)))
+        (λ e. (e.at ≡ at) × AppendsFront (W.contents writer.old.inner) (W.contents writer.new.inner) (line_of definition.now (named, reply.now))) }
+    ensures kind { IfErr result (λ e. IsEnd (HasFailed writer.old.failures writer.new.failures) e.kind) }
+    ensures kept { OnOk result (writer.new.failures ≡ writer.old.failures) }
+{
+    let Ok(text) = line(alloc, definition, named, reply) else {
+        return Err(Fault {
+            kind: TextFault::NoMemory,
+            at,
+        });
+    };
+    match writer.write_all(text.as_bytes()) {
+        Ok(()) => Ok(()),
+        Err(kind) => Err(Fault { kind, at }),
+    }
+}
+
+/// One step, and its line.
+fn write_step<T: Threads + Sync, W: Write>(
+    rt: &T,
+    alloc: Global,
+    machine: &mut Machine,
+    step: Step,
+    at: u64,
+    writer: &mut Watched<W>,
+) -> Result<(), Fault>
+    ensures step { (told : Told) × Takes machine.old.setting machine.old.history step told machine.new.history
+        × MatchResult result
+        (λ _. Appends (W.contents writer.old.inner) (W.contents writer.new.inner) (line_of machine.old.setting.definition told))
+        (λ e. (e.at ≡ at) × AppendsFront (W.contents writer.old.inner) (W.contents writer.new.inner) (line_of machine.old.setting.definition told)) }
+    ensures setting { machine.new.setting ≡ machine.old.setting }
+    ensures kind { IfErr result (λ e. IsEnd (HasFailed writer.old.failures writer.new.failures) e.kind) }
+    ensures kept { OnOk result (writer.new.failures ≡ writer.old.failures) }
+{
+    let named = step.number();
+    let reply = answer(rt, alloc, machine, step);
+    let definition = machine.book().definition();
+    write_line(alloc, definition, named, &reply, at, writer)
+}
+
+/// Runs the steps, and writes the line of each.
+fn run_steps<T: Threads + Sync, W: Write>(
+    rt: &T,
+    alloc: Global,
+    machine: Machine,
+    steps: Vec<Step>,
+    writer: &mut Watched<W>,
+) -> Result<(), Fault>
+    ensures ok { OnOk result (AppendsRun machine steps.items (W.contents writer.old.inner) (W.contents writer.new.inner)) }
+    ensures kind { IfErr result (λ e. IsEnd (HasFailed writer.old.failures writer.new.failures) e.kind) }
+    ensures kept { OnOk result (writer.new.failures ≡ writer.old.failures) }
+    ensures ends { IfErr result (λ e. EndsIn machine steps.items e.at (W.contents writer.old.inner) (W.contents writer.new.inner)) }
+{
+    let mut machine = machine;
+    let mut at = 0;
+    for step in steps {
+        at += 1;
+        write_step(rt, alloc, &mut machine, step, at, writer)?;
+    }
+    Ok(())
+}
+
+/// The script that the reader gives, or its first fault in the order of reading (see `read_script`).
+///
+/// The input is read to its end, or to the first byte past 1,048,576.
+pub fn read_script_from<R: Read>(alloc: Global, reader: &mut Watched<R>) -> Result<Script, Fault>
+    ensures ok { IfOk result (λ script. IfSome (R.remaining reader.old.inner) (λ input. script_of_input input ≡ Ok script)) }
+    ensures kept { OnOk result (reader.new.failures ≡ reader.old.failures) }
+    ensures failed { IfErr result (IsUnread EndsReading (R.remaining reader.old.inner)
+        (HasFailed reader.old.failures reader.new.failures)) }
+    ensures told { IfErr result (λ e. IsEndOf (HasFailed reader.old.failures reader.new.failures) ⊥ e.kind) }
+{
+    let input = read_input(alloc, reader)?;
+    read_script(alloc, &input)
+}
+
+/// Runs a script, and writes the line of each reply.
+fn run_script<T: Threads + Sync, W: Write>(
+    rt: &T,
+    alloc: Global,
+    script: Script,
+    writer: &mut Watched<W>,
+) -> Result<(), Fault>
+    ensures ok { OnOk result (AppendsRun (first script) script.steps (W.contents writer.old.inner) (W.contents writer.new.inner)) }
+    ensures kept { OnOk result (writer.new.failures ≡ writer.old.failures) }
+    ensures failed { IfErr result (EndsEarly script (W.contents writer.old.inner) (W.contents writer.new.inner)
+        (HasFailed writer.old.failures writer.new.failures)) }
+{
+    let Script {
+        definition,
+        workers,
+        limits,
+        steps,
+    } = script;
+    let machine = Machine::open(alloc, &definition, workers, limits)?;
+    run_steps(rt, alloc, machine, steps.into_vec(), writer)
+}
+
+/// Runs the script that the reader gives, and writes the line of each reply.
+///
+/// The input is read to its end, or to the first byte past 1,048,576, before the first event. A
+/// fault in it writes nothing. A run that memory or a failing write ends leaves the lines of the
+/// events before that one whole, and a beginning of its own. A plan that is asked for is made with
+/// as many workers as the script has.
+pub fn run_bytes<T: Threads + Sync, R: Read, W: Write>(
+    rt: &T,
+    alloc: Global,
+    reader: &mut Watched<R>,
+    writer: &mut Watched<W>,
+) -> Result<(), Fault>
+    ensures ok { OnOk result (IfSome (R.remaining reader.old.inner) (λ input. (script : Script)
+        × (script_of_input input ≡ Ok script)
+        × AppendsRun (first script) script.steps (W.contents writer.old.inner) (W.contents writer.new.inner))) }
+    ensures failed { IfErr result (λ e. Failed (R.remaining reader.old.inner)
+        (W.contents writer.old.inner) (W.contents writer.new.inner)
+        (HasFailed reader.old.failures reader.new.failures) (HasFailed writer.old.failures writer.new.failures) e) }
+    ensures told { IfErr result (λ e. IsEndOf (HasFailed reader.old.failures reader.new.failures)
+        (HasFailed writer.old.failures writer.new.failures) e.kind) }
+    ensures reads { OnOk result (reader.new.failures ≡ reader.old.failures) }
+    ensures writes { OnOk result (writer.new.failures ≡ writer.old.failures) }
+{
+    let script = read_script_from(alloc, reader)?;
+    run_script(rt, alloc, script, writer)
+}

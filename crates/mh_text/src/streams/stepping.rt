@@ -1,0 +1,82 @@
+//! How a step of a script is answered.
+ghost use Rattle.std.specs.Prelude.{◌≡◌, ◌<◌, ◌≤◌, IfOk, IfErr};
+ghost use Rattle.mh_network.specs.Selection.{IsLeast, member};
+ghost use Rattle.mh_cert.specs.Plans.{Matches};
+ghost use Rattle.mh_text.specs.Steps.{Answers, IsUnplanned, IsBestFor};
+ghost use Rattle.mh_text.specs.declared.json.step.Step.TheVariants.{Plan as ask_plan};
+
+use crate::json::script::MOST_WORKERS;
+use crate::json::step::Step;
+use mh_core::{Event, Machine, Refusal, Reply, SharedPlan};
+use mh_network::Problem;
+use mh_plan::{OpenGate, plan};
+use std::alloc::Global;
+use std::thread::Threads;
+
+/// Answers one step.
+pub(crate) fn answer<T: Threads + Sync>(
+    rt: &T,
+    alloc: Global,
+    machine: &mut Machine,
+    step: Step,
+) -> Reply
+    ensures step { Answers machine.old.setting machine.old.history step result machine.new.history }
+    ensures setting { machine.new.setting ≡ machine.old.setting }
+{
+    match step {
+        Step::Ask(event) => machine.step(event),
+        Step::Plan { snapshot } => publish(rt, alloc, machine, snapshot),
+    }
+}
+
+/// Makes a plan for a snapshot, and publishes it.
+fn publish<T: Threads + Sync>(
+    rt: &T,
+    alloc: Global,
+    machine: &mut Machine,
+    snapshot: usize,
+) -> Reply
+    ensures step { Answers machine.old.setting machine.old.history (ask_plan snapshot) result machine.new.history }
+    ensures setting { machine.new.setting ≡ machine.old.setting }
+{
+    match make_plan(rt, alloc, machine, snapshot) {
+        Ok(plan) => machine.step(Event::Publish { snapshot, plan }),
+        Err(refusal) => Reply::Refused(refusal),
+    }
+}
+
+/// The best plan for a snapshot, with the fewest links.
+fn make_plan<T: Threads + Sync>(
+    rt: &T,
+    alloc: Global,
+    machine: &Machine,
+    snapshot: usize,
+) -> Result<SharedPlan, Refusal>
+    ensures best { IfOk result (λ plan. IsBestFor machine.now.setting machine.now.history snapshot plan) }
+    ensures refused { IfErr result (λ told. IsUnplanned machine.now.setting machine.now.history snapshot (Reply.Refused told)) }
+{
+    let problem = machine.book().problem(snapshot)?;
+    let workers = (machine.workers() as usize).clamp(1, MOST_WORKERS);
+    best_plan(rt, alloc, &problem, workers)
+}
+
+/// The best plan of a problem, with the fewest links, made by so many workers, from 1 to 64.
+///
+/// Refused with `NoMemory` alone, where a growth was refused.
+pub fn best_plan<T: Threads + Sync>(
+    rt: &T,
+    alloc: Global,
+    problem: &Problem,
+    workers: usize,
+) -> Result<SharedPlan, Refusal>
+    requires some { 0 < workers }
+    requires few { workers ≤ 64 }
+    ensures matching { IfOk result (λ plan. Matches problem.now plan) }
+    ensures least { IfOk result (λ plan. IsLeast problem.now (member plan.links)) }
+    ensures refused { IfErr result (λ told. told ≡ Refusal.NoMemory) }
+{
+    let Ok(plan) = plan(rt, alloc, problem, workers, &OpenGate) else {
+        return Err(Refusal::NoMemory);
+    };
+    SharedPlan::new(alloc, plan).map_err(|_| Refusal::NoMemory)
+}
