@@ -24,86 +24,162 @@ fn refused(alloc: Global, input: &str) -> Option<Fault> {
     read_script(alloc, input.as_bytes()).err()
 }
 
-#[test]
-fn a_definition_is_read(rt: HostRuntime) -> Result<(), Fail> {
-    let script = read(rt.alloc(), SCRIPT)?;
-    let [a, b] = script.definition.points() else {
-        return Err(Fail::from("there are other points"));
-    };
-    assert_eq!(rt; a.name.as_str(), "a");
-    assert_eq!(rt; a.cost, 5);
-    assert_eq!(rt; b.name.as_str(), "b");
-    assert_eq!(rt; b.cost, 7);
-    let [site] = script.definition.sites() else {
-        return Err(Fail::from("there are other sites"));
-    };
-    assert_eq!(rt; site.name.as_str(), "f");
-    assert_eq!(rt; site.method_type.ret(), Kind::Int);
-    assert_eq!(rt; site.method_type.parameters(), [Kind::Int].as_slice());
-    assert_eq!(rt; site.key, Some(0));
-    assert_eq!(rt; site.target.handle().size(), 3);
-    assert_eq!(rt; site.target.handle().point_bound(), 2);
-    Ok(())
+/// Whether a point has this name and cost.
+fn is_point(point: &Point, name: &str, cost: u64) -> bool {
+    point.name.as_str() == name && point.cost == cost
+}
+
+/// Whether a definition has the points of the script.
+fn has_its_points(definition: &Definition) -> bool {
+    match definition.points() {
+        [a, b] => is_point(a, "a", 5) && is_point(b, "b", 7),
+        _ => false,
+    }
+}
+
+/// Whether it is the site of the script: its name, type and key.
+fn is_its_site(site: &Site) -> bool {
+    site.name.as_str() == "f"
+        && site.method_type.ret() == Kind::Int
+        && site.method_type.parameters() == [Kind::Int].as_slice()
+        && site.key == Some(0)
+}
+
+/// Whether its tree is the script's.
+fn has_its_target(site: &Site) -> bool {
+    site.target.handle().size() == 3 && site.target.handle().point_bound() == 2
+}
+
+/// Whether its link is the script's, with needs in order.
+fn has_its_link(site: &Site) -> bool {
+    match site.links.as_slice() {
+        [link] => {
+            matches!(link.when, Value::Int(3))
+                && link.weight == 4
+                && link.needs.as_slice() == [0, 1].as_slice()
+        }
+        _ => false,
+    }
+}
+
+/// Whether the points, the site, its tree and its link are read.
+fn definition_of(script: &Script) -> [bool; 4] {
+    match script.definition.sites() {
+        [site] => [
+            has_its_points(&script.definition),
+            is_its_site(site),
+            has_its_target(site),
+            has_its_link(site),
+        ],
+        _ => [false; 4],
+    }
+}
+
+fn read_definition(alloc: Global) -> Result<[bool; 4], Fail> {
+    let script = read(alloc, SCRIPT)?;
+    Ok(definition_of(&script))
 }
 
 #[test]
-fn links_and_limits_are_read(rt: HostRuntime) -> Result<(), Fail> {
-    let script = read(rt.alloc(), SCRIPT)?;
-    let [site] = script.definition.sites() else {
-        return Err(Fail::from("there are other sites"));
-    };
-    let [link] = site.links.as_slice() else {
-        return Err(Fail::from("there are other links"));
-    };
-    assert!(rt; matches!(link.when, Value::Int(3)));
-    assert_eq!(rt; link.weight, 4);
-    assert_eq!(rt; link.needs.as_slice(), [0, 1].as_slice());
-    assert_eq!(rt; script.workers, 2);
-    assert_eq!(rt; script.limits.history(), 1 << 20);
-    assert_eq!(rt; script.limits.ledger(), 9);
-    assert_eq!(rt; script.limits.total(), 1 << 40);
+fn a_definition_is_read(rt: HostRuntime) -> Result<(), Fail> {
+    assert_eq!(rt; read_definition(rt.alloc())?, [true; 4]);
     Ok(())
+}
+
+/// The workers of the script, and its limits of events, of unflushed hits, and of totals.
+fn read_limits(alloc: Global) -> Result<(u32, [u64; 3]), Fail> {
+    let script = read(alloc, SCRIPT)?;
+    let limits = &script.limits;
+    let numbers = [limits.history(), limits.ledger(), limits.total()];
+    Ok((script.workers, numbers))
+}
+
+#[test]
+fn limits_are_read(rt: HostRuntime) -> Result<(), Fail> {
+    let (workers, limits) = read_limits(rt.alloc())?;
+    assert_eq!(rt; workers, 2);
+    assert_eq!(rt; limits, [1 << 20, 9, 1 << 40]);
+    Ok(())
+}
+
+/// Whether it is the script's call.
+fn is_its_call(step: &Step) -> bool {
+    match step {
+        Step::Ask(
+            Event::Call {
+                worker: 1,
+                site: 0,
+                arguments,
+            },
+        ) => matches!(arguments.as_slice(), [Value::Int(7)]),
+        _ => false,
+    }
+}
+
+/// Whether it is the script's retargeting, of a site that is not there.
+fn is_its_target(step: &Step) -> bool {
+    match step {
+        Step::Ask(Event::Target { site: 1, tree }) => tree.handle().size() == 1,
+        _ => false,
+    }
+}
+
+/// Whether it is the script's invalidation, of which one point is not there.
+fn is_its_invalidation(step: &Step) -> bool {
+    match step {
+        Step::Ask(Event::Invalidate { points }) => points.as_slice() == [1, 2].as_slice(),
+        _ => false,
+    }
+}
+
+/// Whether the call, the retargeting, the invalidation and the plan are read.
+fn steps_of(script: &Script) -> [bool; 4] {
+    match script.steps.as_slice() {
+        [call, target, points, plan] => [
+            is_its_call(call),
+            is_its_target(target),
+            is_its_invalidation(points),
+            plan.number() == 7,
+        ],
+        _ => [false; 4],
+    }
+}
+
+fn read_steps(alloc: Global) -> Result<[bool; 4], Fail> {
+    let script = read(alloc, SCRIPT)?;
+    Ok(steps_of(&script))
 }
 
 #[test]
 fn steps_are_read(rt: HostRuntime) -> Result<(), Fail> {
-    let script = read(rt.alloc(), SCRIPT)?;
-    assert_eq!(rt; script.steps.len(), 4);
-    let [
-        Step::Ask(
-            Event::Call {
-                worker,
-                site,
-                arguments,
-            },
-        ),
-        Step::Ask(Event::Target { site: other, tree }),
-        Step::Ask(Event::Invalidate { points }),
-        planned,
-    ] = script.steps.as_slice()
-    else {
-        return Err(Fail::from("there are other steps"));
-    };
-    assert_eq!(rt; *worker, 1);
-    assert_eq!(rt; *site, 0);
-    assert!(rt; matches!(arguments.as_slice(), [Value::Int(7)]));
-    assert_eq!(rt; *other, 1);
-    assert_eq!(rt; tree.handle().size(), 1);
-    assert_eq!(rt; points.as_slice(), [1, 2].as_slice());
-    assert_eq!(rt; planned.number(), 7);
+    assert_eq!(rt; read_steps(rt.alloc())?, [true; 4]);
     Ok(())
 }
 
-#[test]
-fn a_reply_is_rendered(rt: HostRuntime) -> Result<(), Fail> {
-    let alloc = rt.alloc();
+/// Whether the reply to the first step is this line.
+fn is_rendered(alloc: Global, reply: &Reply, line: &str) -> Result<bool, Fail> {
     let script = read(alloc, SCRIPT)?;
     if script.steps.len() == 0 {
         return Err(Fail::from("there are no steps"));
     }
-    let line = render(alloc, &script, 0, &Reply::Taken { snapshot: 3 })?;
-    assert_eq!(rt; line.as_str(), "snapshot 3\n");
+    let rendered = render(alloc, &script, 0, reply)?;
+    Ok(rendered.as_str() == line)
+}
+
+#[test]
+fn a_reply_is_rendered(rt: HostRuntime) -> Result<(), Fail> {
+    let reply = Reply::Taken { snapshot: 3 };
+    assert!(rt; is_rendered(rt.alloc(), &reply, "snapshot 3\n")?);
     Ok(())
+}
+
+/// Why so many spaces are not read.
+fn fault_of_spaces(alloc: Global, spaces: usize) -> Result<Option<Fault>, Fail> {
+    let mut input = String::new(alloc);
+    for _ in 0..spaces {
+        input.push(' ')?;
+    }
+    Ok(refused(alloc, input.as_str()))
 }
 
 #[test]
@@ -113,15 +189,11 @@ fn a_fault_has_its_place(rt: HostRuntime) -> Result<(), Fail> {
         at: 0,
     };
     assert_eq!(rt; refused(rt.alloc(), "{"), Some(none));
-    let mut long = String::new(rt.alloc());
-    for _ in 0..1_048_577 {
-        long.push(' ')?;
-    }
     let too_long = Fault {
         kind: TextFault::TooLong,
         at: 0,
     };
-    assert_eq!(rt; refused(rt.alloc(), long.as_str()), Some(too_long));
+    assert_eq!(rt; fault_of_spaces(rt.alloc(), 1_048_577)?, Some(too_long));
     Ok(())
 }
 
@@ -149,12 +221,21 @@ fn negation(alloc: Global) -> Result<Listing<Site>, Fail> {
     Ok(sites)
 }
 
+/// How many points a definition of so many has, or why there is none.
+fn defined_points(alloc: Global, count: usize) -> Result<Result<usize, DefinitionFault>, Fail> {
+    let points = points(alloc, count)?;
+    let sites = negation(alloc)?;
+    Ok(match Definition::new(alloc, points, sites) {
+        Ok(definition) => Ok(definition.points().len()),
+        Err(fault) => Err(fault),
+    })
+}
+
 #[test]
 fn points_have_a_limit(rt: HostRuntime) -> Result<(), Fail> {
-    let most = Definition::new(rt.alloc(), points(rt.alloc(), 1024)?, negation(rt.alloc())?);
-    assert!(rt; most.is_ok_and(|definition| definition.points().len() == 1024));
-    let more = Definition::new(rt.alloc(), points(rt.alloc(), 1025)?, negation(rt.alloc())?);
-    assert_eq!(rt; more.err(), Some(DefinitionFault::TooManyPoints));
-    assert_eq!(rt; DefinitionFault::TooManyPoints.number(), 2);
+    assert_eq!(rt; defined_points(rt.alloc(), 1024)?, Ok(1024));
+    let more = DefinitionFault::TooManyPoints;
+    assert_eq!(rt; defined_points(rt.alloc(), 1025)?, Err(more));
+    assert_eq!(rt; more.number(), 2);
     Ok(())
 }

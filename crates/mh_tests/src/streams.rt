@@ -3,6 +3,7 @@ use mh_command::command;
 use mh_text::{Fault, TextFault, Watched, run_bytes};
 use std::alloc::Global;
 use std::io::{self, ErrorKind, Read, Write};
+use std::sync::Wait;
 use std::test::Fail;
 use std::thread::Threads;
 
@@ -56,38 +57,50 @@ const SCRIPT: &str =
 
 const LINES: &str = "int -7\nok\nrefused 3 NoSite\n";
 
-#[test]
-fn short_reads_give_the_whole_input(rt: HostRuntime) -> Result<(), Fail> {
+/// What a run answers whose reader fails after so many reads, what it wrote, and how many failures of reading there were.
+fn run_from<T: Threads + Sync>(
+    rt: &T,
+    alloc: Global,
+    reads_left: usize,
+) -> (Result<(), Fault>, Vec<u8>, bool) {
     let mut reader = Watched::new(FailingReader {
         rest: SCRIPT.as_bytes(),
-        reads_left: SCRIPT.len(),
+        reads_left,
     });
-    let mut writer = Watched::new(Vec::new(rt.alloc()));
-    assert_eq!(rt;
-        run_bytes(&rt, rt.alloc(), &mut reader, &mut writer),
-        Ok(())
-    );
-    assert_eq!(rt; writer.inner.as_slice(), LINES.as_bytes());
-    assert!(rt; reader.failures() == 0 && writer.failures() == 0);
+    let mut writer = Watched::new(Vec::new(alloc));
+    let answer = run_bytes(rt, alloc, &mut reader, &mut writer);
+    let failed = reader.failures() != 0 || writer.failures() != 0;
+    (answer, writer.inner, failed)
+}
+
+#[test]
+fn short_reads_give_the_whole_input(rt: HostRuntime) -> Result<(), Fail> {
+    let (answer, written, failed) = run_from(&rt, rt.alloc(), SCRIPT.len());
+    let right = answer == Ok(()) && written.as_slice() == LINES.as_bytes();
+    assert!(rt; right && !failed);
     Ok(())
+}
+
+/// A failed reading of the input.
+const UNREAD: Fault = Fault {
+    kind: TextFault::ReadFailed,
+    at: 0,
+};
+
+/// The first number of reads after which a failed one is told otherwise, or something is written.
+fn first_other_failed_read<T: Threads + Sync>(rt: &T, alloc: Global) -> Option<usize> {
+    for reads_left in 0..SCRIPT.len() / 7 {
+        let (answer, written, failed) = run_from(rt, alloc, reads_left);
+        if answer != Err(UNREAD) || !written.is_empty() || !failed {
+            return Some(reads_left);
+        }
+    }
+    None
 }
 
 #[test]
 fn a_failed_read_is_told_and_writes_nothing(rt: HostRuntime) -> Result<(), Fail> {
-    for reads_left in 0..SCRIPT.len() / 7 {
-        let mut reader = Watched::new(FailingReader {
-            rest: SCRIPT.as_bytes(),
-            reads_left,
-        });
-        let mut writer = Watched::new(Vec::new(rt.alloc()));
-        let answer = run_bytes(&rt, rt.alloc(), &mut reader, &mut writer);
-        let fault = Fault {
-            kind: TextFault::ReadFailed,
-            at: 0,
-        };
-        assert_eq!(rt; answer, Err(fault), "at {reads_left}");
-        assert!(rt; writer.inner.is_empty());
-    }
+    assert_eq!(rt; first_other_failed_read(&rt, rt.alloc()), None);
     Ok(())
 }
 
@@ -123,18 +136,31 @@ fn run_into<T: Threads + Sync>(
     }
 }
 
-#[test]
-fn a_failed_write_is_told_at_its_event(rt: HostRuntime) -> Result<(), Fail> {
-    for place in 0..LINES.len() * 2 {
-        let room = place / 2;
-        let (answer, written) = run_into(&rt, rt.alloc(), room, place % 2 == 0)?;
+/// The first room at whose end a failed write is told otherwise, or where not all that had room was written.
+fn first_other_failed_write<T: Threads + Sync>(
+    rt: &T,
+    alloc: Global,
+    takes_none: bool,
+) -> Result<Option<usize>, Fail> {
+    for room in 0..LINES.len() {
+        let (answer, written) = run_into(rt, alloc, room, takes_none)?;
         let fault = Fault {
             kind: TextFault::WriteFailed,
             at: event_of(room),
         };
-        assert_eq!(rt; answer, Err(fault), "at {room}");
-        assert_eq!(rt; written, room);
+        if answer != Err(fault) || written != room {
+            return Ok(Some(room));
+        }
     }
+    Ok(None)
+}
+
+#[test]
+fn a_failed_write_is_told_at_its_event(rt: HostRuntime) -> Result<(), Fail> {
+    let failing = first_other_failed_write(&rt, rt.alloc(), false)?;
+    assert_eq!(rt; failing, None);
+    let taking_none = first_other_failed_write(&rt, rt.alloc(), true)?;
+    assert_eq!(rt; taking_none, None);
     Ok(())
 }
 
@@ -155,19 +181,27 @@ impl Write for Unflushed {
 const CHECK: &str =
     "{\"problem\":{\"version\":1,\"costs\":[],\"links\":[]},\"plan\":{\"links\":[],\"points\":[],\"value\":0,\"flow\":[]}}";
 
+/// The status of a request whose last flush fails, and whether the fault stands on the other stream.
+fn answer_unflushed<T: Threads + Wait + Sync>(
+    rt: &T,
+    alloc: Global,
+    word: &str,
+    input: &str,
+) -> (u8, bool) {
+    let mut reader = Watched::new(input.as_bytes());
+    let mut out = Watched::new(Unflushed);
+    let mut err = Watched::new(Vec::new(alloc));
+    let words = ["mhlink", word];
+    let status = command(rt, alloc, &words, &mut reader, &mut out, &mut err);
+    let told = "fault 11 WriteFailed at 0\n".as_bytes();
+    (status, err.inner.as_slice() == told)
+}
+
 #[test]
 fn a_failed_last_flush_is_told(rt: HostRuntime) -> Result<(), Fail> {
-    for (word, input) in [("run", SCRIPT), ("check", CHECK)] {
-        let mut reader = Watched::new(input.as_bytes());
-        let mut out = Watched::new(Unflushed);
-        let mut err = Watched::new(Vec::new(rt.alloc()));
-        let words = ["mhlink", word];
-        let status = command(&rt, rt.alloc(), &words, &mut reader, &mut out, &mut err);
-        assert_eq!(rt;
-            err.inner.as_slice(),
-            "fault 11 WriteFailed at 0\n".as_bytes()
-        );
-        assert_eq!(rt; status, 3);
-    }
+    let run = answer_unflushed(&rt, rt.alloc(), "run", SCRIPT);
+    assert_eq!(rt; run, (3, true));
+    let check = answer_unflushed(&rt, rt.alloc(), "check", CHECK);
+    assert_eq!(rt; check, (3, true));
     Ok(())
 }

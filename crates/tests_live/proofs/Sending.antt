@@ -1,16 +1,13 @@
--- What the calls of several threads take with them may go to another thread.
+-- What the calls of several threads share, and what they give back, may cross threads.
 use denote.RattleType.{RattleType}
-use mathlib.Core.List.{List, [], ◌∷◌}
-use Prim.Native.Nat.{ℕ}
-use denote.Param.Send.{IsSend, IsSync, recorded_send, struct_send}
-use denote.Struct.Declared.{shape}
-use denote.Struct.Tuple.{TupleAt, type_at}
-use Rattle.mh_live.proofs.Sending.{plain}
+use denote.Param.Send.{IsSend, IsSync}
+use Rattle.mh_live.specs.declared.front.Name.{Ghosts}
+use Rattle.mh_live.proofs.Sending.{pass_send, plain}
 use Rattle.std.specs.contracts.sync.atomic.AtomicU64 as AtomicU64
+use Rattle.tests_live.specs.contracts.beside.Called as Called
 
 pub word_sync : IsSync AtomicU64.the_row
 word_sync = search plain depth 60 fits 20000
 
--- a closure may cross threads as what it captures may
-pub captures_two : (n : List ℕ) (A B : RattleType) → IsSend A → IsSend B → IsSend (TupleAt n (A ∷ B ∷ []))
-captures_two n A B a b = let T = type_at n (A ∷ B ∷ []) in recorded_send _ _ _ T.to_one (struct_send (shape T) (a, (b, tt)))
+pub called_send : (N : RattleType) (n : Ghosts N.Denot) → IsSend N → IsSync N → IsSend (Called.the_row N n)
+called_send N n s y = let p = pass_send N n s y in search plain depth 60 fits 20000

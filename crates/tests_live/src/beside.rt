@@ -2,22 +2,15 @@
 
 ghost use Rattle.std.specs.Prelude.{◌≡◌};
 
-use crate::calling::{CallAnswer, call, given, sums};
+use crate::calling::{CallAnswer, call, ensure, given, sums};
 use crate::definitions::{negation, open_plain, successor};
-use mh_live::{Live, Name, Opening, Pass};
-use std::alloc::Global;
+use mh_live::{Declared, Live, Name, Opening, Pass};
+use std::alloc::{AllocError, Global};
 use std::marker::Brand;
-use std::process::Abort;
 use std::sync::Wait;
 use std::sync::atomic::{AtomicU64, Ordering};
 use std::test::Fail;
-use std::thread::{Threads, join, yield_now};
-
-/// How many calls each thread makes.
-const CALLS: u64 = 25_000;
-
-/// How many retargetings are made beside them.
-const RETARGETINGS: u64 = 400;
+use std::thread::{Threads, join, map_vec, yield_now};
 
 /// After how many calls the next retargeting is made.
 const CALLS_BETWEEN: u64 = 200;
@@ -72,195 +65,127 @@ fn await_calls(made: &AtomicU64, calls: u64) {
     }
 }
 
-#[test]
-fn a_call_beside_a_retargeting_answers_by_its_front(rt: HostRuntime) -> Result<(), Fail> {
-    let opening = open_plain(rt.alloc(), 1, 9, 9_000)?;
-    answers_by_its_front::<Brand, _>(&rt, rt.alloc(), opening)
+/// Has each pass make so many calls in a thread of its own.
+fn call_in_threads<N: Name + Send + Sync, R: Threads + Sync>(
+    rt: &R,
+    passes: Vec<Pass<N>>,
+    calls: u64,
+    made: &AtomicU64,
+) -> Result<Vec<Called<N>>, AllocError> {
+    let work = |pass: Pass<N>| -> Called<N> { call_many(pass, calls, made) };
+    map_vec(rt, passes, &work)
 }
 
-fn answers_by_its_front<N: Name + Send + Sync, R: Wait + Abort + Threads + Sync>(
+/// The tree of a turn.
+fn tree_of(alloc: Global, turn: u64) -> Result<Declared, Fail> {
+    if turn % 2 == 0 {
+        successor(alloc)
+    } else {
+        negation(alloc)
+    }
+}
+
+/// Retargets the site in a turn.
+fn retarget<N: Name, R: Wait>(
     rt: &R,
     alloc: Global,
-    opening: Opening,
-) -> Result<(), Fail>
-    requires name { opening.name ≡ N.book }
-    requires definition { opening.definition ≡ N.definition }
-{
-    let (live, mut passes) = opening.open::<N>()?;
-    let pass = passes.pop().ok_or("there is no pass")?;
-    let tree = successor(alloc)?;
-    let made = AtomicU64::new(0);
-    let (called, targeted) = join(
-        rt,
-        || call_many(pass, 5_000, &made),
-        || {
-            await_calls(&made, 1_000);
-            live.set_target(rt, 0, tree)
-        },
-    );
-    assert!(rt; called.right);
-    assert_eq!(rt; targeted?.front().len(), 1);
+    live: &Live<N>,
+    turn: u64,
+) -> Result<(), Fail> {
+    live.set_target(rt, 0, tree_of(alloc, turn)?)?;
     Ok(())
 }
 
-/// Retargets the site many times.
+/// Retargets the site so many times.
 fn retarget_many<N: Name, R: Wait>(
     rt: &R,
     alloc: Global,
     live: &Live<N>,
+    retargetings: u64,
     made: &AtomicU64,
 ) -> Result<(), Fail> {
-    for turn in 0..RETARGETINGS {
-        await_calls(made, turn * CALLS_BETWEEN);
-        let tree = if turn % 2 == 0 {
-            successor(alloc)?
-        } else {
-            negation(alloc)?
-        };
-        live.set_target(rt, 0, tree)?;
+    for turn in 0..retargetings {
+        await_calls(made, turn.saturating_add(1).saturating_mul(CALLS_BETWEEN));
+        retarget(rt, alloc, live, turn)?;
     }
     Ok(())
 }
 
-/// What a thread made, and what was made beside it.
-type Beside<N, T> = (Called<N>, T);
-
-/// Whether all was retargeted.
-type Changed = Result<(), Fail>;
-
-/// One thread calls, and this one retargets.
-fn call_by_one<N: Name + Send + Sync, R: Wait + Threads>(
+/// So many calls with each pass, beside so many retargetings.
+fn call_beside<N: Name + Send + Sync, R: Wait + Threads + Sync>(
     rt: &R,
     alloc: Global,
     live: &Live<N>,
-    made: &AtomicU64,
-    pass: Pass<N>,
-) -> Beside<N, Changed> {
-    join(
-        rt,
-        || call_many(pass, CALLS, made),
-        || retarget_many(rt, alloc, live, made),
-    )
-}
-
-/// Two threads call, and this one retargets.
-fn call_by_two<N: Name + Send + Sync, R: Wait + Threads>(
-    rt: &R,
-    alloc: Global,
-    live: &Live<N>,
-    made: &AtomicU64,
-    passes: (Pass<N>, Pass<N>),
-) -> Beside<N, Beside<N, Changed>> {
-    let (pass, other) = passes;
-    join(
-        rt,
-        || call_many(pass, CALLS, made),
-        || call_by_one(rt, alloc, live, made, other),
-    )
-}
-
-/// Three threads call, and this one retargets.
-fn call_by_three<N: Name + Send + Sync, R: Wait + Threads>(
-    rt: &R,
-    alloc: Global,
-    live: &Live<N>,
-    made: &AtomicU64,
-    passes: (Pass<N>, (Pass<N>, Pass<N>)),
-) -> Beside<N, Beside<N, Beside<N, Changed>>> {
-    let (pass, others) = passes;
-    join(
-        rt,
-        || call_many(pass, CALLS, made),
-        || call_by_two(rt, alloc, live, made, others),
-    )
-}
-
-/// Four threads call, and this one retargets.
-fn call_by_four<N: Name + Send + Sync, R: Wait + Threads>(
-    rt: &R,
-    alloc: Global,
-    live: &Live<N>,
-    made: &AtomicU64,
-    passes: (Pass<N>, (Pass<N>, (Pass<N>, Pass<N>))),
-) -> Beside<N, Beside<N, Beside<N, Beside<N, Changed>>>> {
-    let (pass, others) = passes;
-    join(
-        rt,
-        || call_many(pass, CALLS, made),
-        || call_by_three(rt, alloc, live, made, others),
-    )
-}
-
-/// Four passes.
-fn four<N: Name>(mut passes: Vec<Pass<N>>) -> Option<(Pass<N>, (Pass<N>, (Pass<N>, Pass<N>)))> {
-    let first = passes.pop()?;
-    let second = passes.pop()?;
-    let third = passes.pop()?;
-    let last = passes.pop()?;
-    Some((first, (second, (third, last))))
-}
-
-/// Adds a pass, each of whose calls was answered rightly.
-fn take_back<N: Name, R: Abort>(
-    rt: &R,
-    passes: &mut Vec<Pass<N>>,
-    called: Called<N>,
-) -> Result<(), Fail> {
-    let Called { pass, right } = called;
-    assert!(rt; right);
-    passes.push(pass)?;
-    Ok(())
-}
-
-/// Makes all calls and retargetings, and gives the passes back.
-fn run_all<N: Name + Send + Sync, R: Wait + Abort + Threads>(
-    rt: &R,
-    alloc: Global,
-    live: &Live<N>,
-    passes: (Pass<N>, (Pass<N>, (Pass<N>, Pass<N>))),
-) -> Result<Vec<Pass<N>>, Fail> {
+    passes: Vec<Pass<N>>,
+    calls: u64,
+    retargetings: u64,
+) -> Result<Vec<Called<N>>, Fail> {
     let made = AtomicU64::new(0);
-    let (first, (second, (third, (last, changed)))) = call_by_four(rt, alloc, live, &made, passes);
+    let (called, changed) = join(
+        rt,
+        || call_in_threads(rt, passes, calls, &made).ok(),
+        || retarget_many(rt, alloc, live, retargetings, &made),
+    );
     changed?;
+    Ok(called.ok_or("there is no memory")?)
+}
+
+/// The passes, each of whose calls was answered rightly.
+fn take_back<N: Name>(alloc: Global, workers: Vec<Called<N>>) -> Result<Vec<Pass<N>>, Fail> {
     let mut passes = Vec::new(alloc);
-    take_back(rt, &mut passes, first)?;
-    take_back(rt, &mut passes, second)?;
-    take_back(rt, &mut passes, third)?;
-    take_back(rt, &mut passes, last)?;
+    for worker in workers {
+        let Called { pass, right } = worker;
+        ensure(right, "answers by the trees of their fronts")?;
+        passes.push(pass)?;
+    }
     Ok(passes)
 }
 
-/// All calls are counted, and all changes are in the list.
-fn assert_settled<N: Name, R: Wait + Abort>(
+/// The hits of the link 0, made, flushed and not flushed; and the length of the list of changes.
+type Counts = (Option<(u128, u64, u128)>, u64);
+
+/// What is counted when all passes are back.
+fn counts<N: Name, R: Wait>(
     rt: &R,
     alloc: Global,
     live: Live<N>,
     passes: Vec<Pass<N>>,
-) -> Result<(), Fail> {
+) -> Result<Counts, Fail> {
     let Ok(settled) = live.settle(rt, alloc, passes) else {
         return Err(Fail::from("it is not settled"));
     };
-    assert_eq!(rt; sums(&settled), Some((100_000, 0, 100_000)));
-    assert_eq!(rt; settled.front().len(), RETARGETINGS);
+    Ok((sums(&settled), settled.front().len()))
+}
+
+/// What is counted of so many calls with each pass, beside so many retargetings.
+fn count_beside<N: Name + Send + Sync, R: Wait + Threads + Sync>(
+    rt: &R,
+    alloc: Global,
+    opening: Opening,
+    calls: u64,
+    retargetings: u64,
+) -> Result<Counts, Fail>
+    requires name { opening.name ≡ N.book }
+    requires definition { opening.definition ≡ N.definition }
+{
+    let (live, passes) = opening.open::<N>()?;
+    let called = call_beside(rt, alloc, &live, passes, calls, retargetings)?;
+    let passes = take_back(alloc, called)?;
+    counts(rt, alloc, live, passes)
+}
+
+#[test]
+fn a_call_beside_a_retargeting_answers_by_its_front(rt: HostRuntime) -> Result<(), Fail> {
+    let opening = open_plain(rt.alloc(), 1, 9, 9_000)?;
+    let counts = count_beside::<Brand, _>(&rt, rt.alloc(), opening, 5_000, 1)?;
+    assert_eq!(rt; counts, (Some((5_000, 0, 5_000)), 1));
     Ok(())
 }
 
 #[test]
 fn many_calls_beside_many_retargetings_are_counted(rt: HostRuntime) -> Result<(), Fail> {
     let opening = open_plain(rt.alloc(), 4, 1_000, 50_000)?;
-    counts_calls_beside_retargetings::<Brand, _>(&rt, rt.alloc(), opening)
-}
-
-fn counts_calls_beside_retargetings<N: Name + Send + Sync, R: Wait + Abort + Threads + Sync>(
-    rt: &R,
-    alloc: Global,
-    opening: Opening,
-) -> Result<(), Fail>
-    requires name { opening.name ≡ N.book }
-    requires definition { opening.definition ≡ N.definition }
-{
-    let (live, passes) = opening.open::<N>()?;
-    let passes = four(passes).ok_or("there are fewer passes")?;
-    let passes = run_all(rt, alloc, &live, passes)?;
-    assert_settled(rt, alloc, live, passes)
+    let counts = count_beside::<Brand, _>(&rt, rt.alloc(), opening, 25_000, 400)?;
+    assert_eq!(rt; counts, (Some((100_000, 0, 100_000)), 400));
+    Ok(())
 }

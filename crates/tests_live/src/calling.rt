@@ -1,6 +1,8 @@
 //! Calls of the site 0 with one whole number.
 
-use mh_live::{Answer, CallFault, Live, Name, Pass, Receipt, Settled};
+ghost use Rattle.std.specs.Prelude.{◌≡◌};
+
+use mh_live::{Answer, CallFault, Live, Name, Opening, Pass, Receipt, Settled};
 use mh_type::{Outcome, Value};
 use std::sync::Wait;
 use std::test::Fail;
@@ -78,4 +80,26 @@ pub(crate) fn flush<N: Name, R: Wait>(
 pub(crate) fn learn<N: Name>(pass: &mut Pass<N>, receipt: &Receipt<N>) -> u64 {
     pass.learn(receipt);
     receipt.front().len()
+}
+
+/// Fails with what was expected, where it does not hold. A scenario ends so, and asserts nothing: each assertion beside
+/// passes that are owned makes the proof long.
+pub(crate) fn ensure(holds: bool, expected: &str) -> Result<(), Fail> {
+    if holds {
+        Ok(())
+    } else {
+        Err(Fail::from(expected))
+    }
+}
+
+/// An office and the last of its passes.
+pub(crate) fn open_one<N: Name>(opening: Opening) -> Result<(Live<N>, Pass<N>), Fail>
+    requires name { opening.name ≡ N.book }
+    requires definition { opening.definition ≡ N.definition }
+{
+    let (live, mut passes) = opening.open::<N>()?;
+    match passes.pop() {
+        Some(pass) => Ok((live, pass)),
+        None => Err(Fail::from("there is no pass")),
+    }
 }

@@ -2,7 +2,7 @@
 
 ghost use Rattle.std.specs.Prelude.{◌≡◌};
 
-use crate::calling::{call, flush, given, learn};
+use crate::calling::{CallAnswer, call, ensure, flush, given, learn, open_one};
 use crate::definitions::{negation, open_plain, successor, sum};
 use mh_cert::{CheckFault, Plan};
 use mh_core::{Linkage, Refusal, Reply, SharedPlan, SiteLinkage};
@@ -11,57 +11,76 @@ use mh_network::Listing as Numbers;
 use mh_site::Listing;
 use std::alloc::Global;
 use std::marker::Brand;
-use std::process::Abort;
 use std::sync::Wait;
 use std::test::Fail;
+
+/// What a call gives before two equal retargetings, and after both are learnt, of which the second is learnt first.
+fn retarget_twice<N: Name, R: Wait>(
+    rt: &R,
+    alloc: Global,
+    live: &Live<N>,
+    pass: &mut Pass<N>,
+) -> Result<[CallAnswer; 2], Fail> {
+    let before = call(pass, 2)?;
+    let first = live.set_target(rt, 0, successor(alloc)?)?;
+    let second = live.set_target(rt, 0, successor(alloc)?)?;
+    ensure(learn(pass, &second) == 2, "two changes")?;
+    ensure(learn(pass, &first) == 1, "one change")?;
+    ensure(pass.front().len() == 2, "a pass that has seen both")?;
+    Ok([before, call(pass, 2)?])
+}
+
+fn calls_around_two_retargetings<N: Name, R: Wait>(
+    rt: &R,
+    alloc: Global,
+    opening: Opening,
+) -> Result<[CallAnswer; 2], Fail>
+    requires name { opening.name ≡ N.book }
+    requires definition { opening.definition ≡ N.definition }
+{
+    let (live, mut pass) = open_one::<N>(opening)?;
+    retarget_twice(rt, alloc, &live, &mut pass)
+}
 
 #[test]
 fn equal_retargetings_have_two_fronts(rt: HostRuntime) -> Result<(), Fail> {
     let opening = open_plain(rt.alloc(), 1, 7, 2)?;
-    retargets_twice::<Brand, _>(&rt, rt.alloc(), opening)
+    let answers = calls_around_two_retargetings::<Brand, _>(&rt, rt.alloc(), opening)?;
+    assert_eq!(rt; answers, [given(-2, 1, 0), given(3, 2, 2)]);
+    Ok(())
 }
 
-fn retargets_twice<N: Name, R: Wait + Abort>(
+/// What calls give beside a retargeting, before and after its receipt is learnt.
+fn call_before_learning<N: Name, R: Wait>(
+    rt: &R,
+    alloc: Global,
+    live: &Live<N>,
+    pass: &mut Pass<N>,
+) -> Result<[CallAnswer; 2], Fail> {
+    let receipt = live.set_target(rt, 0, successor(alloc)?)?;
+    let before = call(pass, 2)?;
+    ensure(learn(pass, &receipt) == 1, "one change")?;
+    Ok([before, call(pass, 2)?])
+}
+
+fn calls_around_a_receipt<N: Name, R: Wait>(
     rt: &R,
     alloc: Global,
     opening: Opening,
-) -> Result<(), Fail>
+) -> Result<[CallAnswer; 2], Fail>
     requires name { opening.name ≡ N.book }
     requires definition { opening.definition ≡ N.definition }
 {
-    let (live, mut passes) = opening.open::<N>()?;
-    let mut pass = passes.pop().ok_or("there is no pass")?;
-    assert_eq!(rt; call(&mut pass, 2), Ok(given(-2, 1, 0)));
-    let first = live.set_target(rt, 0, successor(alloc)?)?;
-    let second = live.set_target(rt, 0, successor(alloc)?)?;
-    assert_eq!(rt; learn(&mut pass, &second), 2);
-    assert_eq!(rt; learn(&mut pass, &first), 1);
-    assert_eq!(rt; pass.front().len(), 2);
-    assert_eq!(rt; call(&mut pass, 2), Ok(given(3, 2, 2)));
-    Ok(())
+    let (live, mut pass) = open_one::<N>(opening)?;
+    call_before_learning(rt, alloc, &live, &mut pass)
 }
 
 #[test]
 fn a_pass_may_answer_before_it_learns(rt: HostRuntime) -> Result<(), Fail> {
     let opening = open_plain(rt.alloc(), 1, 7, 2)?;
-    answers_before_it_learns::<Brand, _>(&rt, rt.alloc(), opening)
-}
-
-fn answers_before_it_learns<N: Name, R: Wait + Abort>(
-    rt: &R,
-    alloc: Global,
-    opening: Opening,
-) -> Result<(), Fail>
-    requires name { opening.name ≡ N.book }
-    requires definition { opening.definition ≡ N.definition }
-{
-    let (live, mut passes) = opening.open::<N>()?;
-    let mut pass = passes.pop().ok_or("there is no pass")?;
-    let receipt = live.set_target(rt, 0, successor(alloc)?)?;
-    let before = call(&mut pass, 2)?;
+    let [before, after] = calls_around_a_receipt::<Brand, _>(&rt, rt.alloc(), opening)?;
     assert!(rt; before == given(-2, 1, 0) || before == given(3, 2, 1));
-    assert_eq!(rt; learn(&mut pass, &receipt), 1);
-    assert_eq!(rt; call(&mut pass, 2), Ok(given(3, 2, 1)));
+    assert_eq!(rt; after, given(3, 2, 1));
     Ok(())
 }
 
@@ -88,64 +107,112 @@ fn is_linked<N: Name>(receipt: &Receipt<N>) -> bool {
     report.left_out.len() == 0 && report.sites.as_slice() == [linked].as_slice()
 }
 
-#[test]
-fn an_installed_plan_is_run(rt: HostRuntime) -> Result<(), Fail> {
-    let opening = open_plain(rt.alloc(), 1, 7, 2)?;
-    runs_what_is_installed::<Brand, _>(&rt, rt.alloc(), opening)
-}
-
-/// The test of a key takes 3 steps, and the negation behind it 1.
-fn runs_what_is_installed<N: Name, R: Wait + Abort>(
+/// The snapshot of what was flushed, its plan, and the installation of this.
+fn plan_and_install<N: Name, R: Wait>(
     rt: &R,
     alloc: Global,
-    opening: Opening,
-) -> Result<(), Fail>
-    requires name { opening.name ≡ N.book }
-    requires definition { opening.definition ≡ N.definition }
-{
-    let (live, mut passes) = opening.open::<N>()?;
-    let mut pass = passes.pop().ok_or("there is no pass")?;
-    assert_eq!(rt; call(&mut pass, 1), Ok(given(-1, 1, 0)));
-    assert_eq!(rt; call(&mut pass, 1), Ok(given(-1, 1, 0)));
-    assert_eq!(rt; flush(rt, &live, &mut pass)?, 0);
+    live: &Live<N>,
+) -> Result<Receipt<N>, Fail> {
     live.snapshot(rt)?;
     live.publish(rt, 1, plan(alloc, 6)?)?;
     let installed = live.install(rt, 1)?;
-    assert!(rt; is_linked(&installed));
-    assert_eq!(rt; learn(&mut pass, &installed), 1);
-    assert_eq!(rt; call(&mut pass, 1), Ok(given(-1, 4, 1)));
-    assert_eq!(rt; call(&mut pass, 2), Ok(given(-2, 4, 1)));
+    ensure(is_linked(&installed), "one link at the site")?;
+    Ok(installed)
+}
+
+/// What calls with 1 and with 2 give after an installation for two hits.
+fn call_and_install<N: Name, R: Wait>(
+    rt: &R,
+    alloc: Global,
+    live: &Live<N>,
+    pass: &mut Pass<N>,
+) -> Result<[CallAnswer; 2], Fail> {
+    call(pass, 1)?;
+    call(pass, 1)?;
+    ensure(flush(rt, live, pass)? == 0, "no change")?;
+    let installed = plan_and_install(rt, alloc, live)?;
+    ensure(learn(pass, &installed) == 1, "one change")?;
+    Ok([call(pass, 1)?, call(pass, 2)?])
+}
+
+fn calls_after_an_installation<N: Name, R: Wait>(
+    rt: &R,
+    alloc: Global,
+    opening: Opening,
+) -> Result<[CallAnswer; 2], Fail>
+    requires name { opening.name ≡ N.book }
+    requires definition { opening.definition ≡ N.definition }
+{
+    let (live, mut pass) = open_one::<N>(opening)?;
+    call_and_install(rt, alloc, &live, &mut pass)
+}
+
+/// The test of a key takes 3 steps, and the negation behind it 1.
+#[test]
+fn an_installed_plan_is_run(rt: HostRuntime) -> Result<(), Fail> {
+    let opening = open_plain(rt.alloc(), 1, 7, 2)?;
+    let answers = calls_after_an_installation::<Brand, _>(&rt, rt.alloc(), opening)?;
+    assert_eq!(rt; answers, [given(-1, 4, 1), given(-2, 4, 1)]);
     Ok(())
+}
+
+/// Why a retargeting of no site is refused, one to a tree of another type, and an invalidation of no point.
+fn refused_changes<N: Name, R: Wait>(
+    rt: &R,
+    alloc: Global,
+    live: &Live<N>,
+) -> Result<[Option<Refusal>; 3], Fail> {
+    let site = live.set_target(rt, 1, negation(alloc)?).err();
+    let tree = live.set_target(rt, 0, sum(alloc)?).err();
+    let points = Listing::from_vec(Vec::from_slice(alloc, &[0])?);
+    Ok([site, tree, live.invalidate(rt, points).err()])
+}
+
+/// Why there is no problem of a snapshot that was not taken, no installation of a plan that was not published, and no publication
+/// of a plan with a wrong value.
+fn refused_plans<N: Name, R: Wait>(
+    rt: &R,
+    alloc: Global,
+    live: &Live<N>,
+) -> Result<[Option<Refusal>; 3], Fail> {
+    let problem = live.problem(rt, 1).err();
+    let installed = live.install(rt, 1).err();
+    live.snapshot(rt)?;
+    let published = live.publish(rt, 1, plan(alloc, 6)?).err();
+    Ok([problem, installed, published])
+}
+
+/// Both.
+fn refuse_all<N: Name, R: Wait>(
+    rt: &R,
+    alloc: Global,
+    live: &Live<N>,
+) -> Result<[[Option<Refusal>; 3]; 2], Fail> {
+    let changes = refused_changes(rt, alloc, live)?;
+    Ok([changes, refused_plans(rt, alloc, live)?])
+}
+
+fn refusals<N: Name, R: Wait>(
+    rt: &R,
+    alloc: Global,
+    opening: Opening,
+) -> Result<[[Option<Refusal>; 3]; 2], Fail>
+    requires name { opening.name ≡ N.book }
+    requires definition { opening.definition ≡ N.definition }
+{
+    let (live, _passes) = opening.open::<N>()?;
+    refuse_all(rt, alloc, &live)
 }
 
 #[test]
 fn an_office_tells_what_it_refuses(rt: HostRuntime) -> Result<(), Fail> {
     let opening = open_plain(rt.alloc(), 1, 7, 2)?;
-    tells_what_it_refuses::<Brand, _>(&rt, rt.alloc(), opening)
-}
-
-fn tells_what_it_refuses<N: Name, R: Wait + Abort>(
-    rt: &R,
-    alloc: Global,
-    opening: Opening,
-) -> Result<(), Fail>
-    requires name { opening.name ≡ N.book }
-    requires definition { opening.definition ≡ N.definition }
-{
-    let (live, _passes) = opening.open::<N>()?;
-    let target = live.set_target(rt, 1, negation(alloc)?);
-    assert_eq!(rt; target.err(), Some(Refusal::NoSite));
-    let target = live.set_target(rt, 0, sum(alloc)?);
-    assert_eq!(rt; target.err(), Some(Refusal::WrongType));
-    let points = Listing::from_vec(Vec::from_slice(alloc, &[0])?);
-    let points = live.invalidate(rt, points);
-    assert_eq!(rt; points.err(), Some(Refusal::NoPoint));
-    assert_eq!(rt; live.problem(rt, 1).err(), Some(Refusal::NoSnapshot));
-    assert_eq!(rt; live.install(rt, 1).err(), Some(Refusal::NoPlan));
-    live.snapshot(rt)?;
-    let wrong = Refusal::PlanRefused(CheckFault::ValueWrong);
-    let published = live.publish(rt, 1, plan(alloc, 6)?);
-    assert_eq!(rt; published.err(), Some(wrong));
+    let [changes, plans] = refusals::<Brand, _>(&rt, rt.alloc(), opening)?;
+    let wanted = [Refusal::NoSite, Refusal::WrongType, Refusal::NoPoint];
+    assert_eq!(rt; changes, wanted.map(Some));
+    let value = Refusal::PlanRefused(CheckFault::ValueWrong);
+    let wanted = [Refusal::NoSnapshot, Refusal::NoPlan, value];
+    assert_eq!(rt; plans, wanted.map(Some));
     Ok(())
 }
 
@@ -168,52 +235,82 @@ fn fronts_after_a_change<N: Name, R: Wait>(
     ])
 }
 
-#[test]
-fn receipts_have_the_list_of_their_time(rt: HostRuntime) -> Result<(), Fail> {
-    let opening = open_plain(rt.alloc(), 1, 4, 2)?;
-    has_the_list_of_its_time::<Brand, _>(&rt, rt.alloc(), opening)
+/// The fronts of four events, which fill the history; what a call gives then; and why a fifth event is refused.
+fn make_four_events<N: Name, R: Wait>(
+    rt: &R,
+    alloc: Global,
+    live: &Live<N>,
+    pass: &mut Pass<N>,
+) -> Result<([u64; 4], CallAnswer, Option<Refusal>), Fail> {
+    let fronts = fronts_after_a_change(rt, alloc, live, pass)?;
+    ensure(pass.front().len() == 1, "a pass that has seen the change")?;
+    let answer = call(pass, 2)?;
+    Ok((fronts, answer, live.install(rt, 1).err()))
 }
 
-fn has_the_list_of_its_time<N: Name, R: Wait + Abort>(
+fn four_events<N: Name, R: Wait>(
     rt: &R,
     alloc: Global,
     opening: Opening,
-) -> Result<(), Fail>
+) -> Result<([u64; 4], CallAnswer, Option<Refusal>), Fail>
     requires name { opening.name ≡ N.book }
     requires definition { opening.definition ≡ N.definition }
 {
-    let (live, mut passes) = opening.open::<N>()?;
-    let mut pass = passes.pop().ok_or("there is no pass")?;
-    let fronts = fronts_after_a_change(rt, alloc, &live, &mut pass)?;
-    assert!(rt; fronts == [1, 1, 1, 1]);
-    assert_eq!(rt; pass.front().len(), 1);
-    assert_eq!(rt; call(&mut pass, 2), Ok(given(3, 2, 1)));
-    assert_eq!(rt; live.install(rt, 1).err(), Some(Refusal::HistoryFull));
+    let (live, mut pass) = open_one::<N>(opening)?;
+    make_four_events(rt, alloc, &live, &mut pass)
+}
+
+#[test]
+fn receipts_have_the_list_of_their_time(rt: HostRuntime) -> Result<(), Fail> {
+    let opening = open_plain(rt.alloc(), 1, 4, 2)?;
+    let (fronts, answer, refused) = four_events::<Brand, _>(&rt, rt.alloc(), opening)?;
+    assert_eq!(rt; fronts, [1, 1, 1, 1]);
+    assert_eq!(rt; answer, given(3, 2, 1));
+    assert_eq!(rt; refused, Some(Refusal::HistoryFull));
     Ok(())
+}
+
+/// A retargeting by the office that is lent, which is open before and after.
+fn retarget_by_its_office<N: Name, R: Wait>(
+    rt: &R,
+    alloc: Global,
+    live: &Live<N>,
+) -> Result<Receipt<N>, Fail> {
+    let mut office = live.office(rt);
+    let receipt = office.target(rt, 0, successor(alloc)?)?;
+    ensure(!office.closed(), "an office that is not closed")?;
+    ensure(office.front().len() == 1, "one change")?;
+    Ok(receipt)
+}
+
+/// What a call gives after it.
+fn retarget_and_call<N: Name, R: Wait>(
+    rt: &R,
+    alloc: Global,
+    live: &Live<N>,
+    pass: &mut Pass<N>,
+) -> Result<CallAnswer, Fail> {
+    let receipt = retarget_by_its_office(rt, alloc, live)?;
+    ensure(learn(pass, &receipt) == 1, "one change")?;
+    Ok(call(pass, 2)?)
+}
+
+fn call_after_a_lent_office<N: Name, R: Wait>(
+    rt: &R,
+    alloc: Global,
+    opening: Opening,
+) -> Result<CallAnswer, Fail>
+    requires name { opening.name ≡ N.book }
+    requires definition { opening.definition ≡ N.definition }
+{
+    let (live, mut pass) = open_one::<N>(opening)?;
+    retarget_and_call(rt, alloc, &live, &mut pass)
 }
 
 #[test]
 fn an_office_is_lent_to_one_thread(rt: HostRuntime) -> Result<(), Fail> {
     let opening = open_plain(rt.alloc(), 1, 7, 2)?;
-    lends_its_office::<Brand, _>(&rt, rt.alloc(), opening)
-}
-
-fn lends_its_office<N: Name, R: Wait + Abort>(
-    rt: &R,
-    alloc: Global,
-    opening: Opening,
-) -> Result<(), Fail>
-    requires name { opening.name ≡ N.book }
-    requires definition { opening.definition ≡ N.definition }
-{
-    let (live, mut passes) = opening.open::<N>()?;
-    let mut pass = passes.pop().ok_or("there is no pass")?;
-    let mut office = live.office(rt);
-    let receipt = office.target(rt, 0, successor(alloc)?)?;
-    assert!(rt; !office.closed());
-    assert_eq!(rt; office.front().len(), 1);
-    drop(office);
-    assert_eq!(rt; learn(&mut pass, &receipt), 1);
-    assert_eq!(rt; call(&mut pass, 2), Ok(given(3, 2, 1)));
+    let answer = call_after_a_lent_office::<Brand, _>(&rt, rt.alloc(), opening)?;
+    assert_eq!(rt; answer, given(3, 2, 1));
     Ok(())
 }

@@ -2,7 +2,7 @@
 
 ghost use Rattle.std.specs.Prelude.{◌≡◌};
 
-use crate::calling::{call, given, learn};
+use crate::calling::{CallAnswer, call, ensure, given, learn};
 use crate::definitions::{negation, open_pointed};
 use mh_cert::Plan;
 use mh_core::{Linkage, Refusal, Reply, SharedPlan, SiteLinkage};
@@ -11,7 +11,6 @@ use mh_plan::{OpenGate, plan};
 use mh_site::Listing;
 use std::alloc::Global;
 use std::marker::Brand;
-use std::process::Abort;
 use std::sync::Wait;
 use std::test::Fail;
 use std::thread::Threads;
@@ -67,29 +66,38 @@ fn linkage<N: Name>(receipt: &Receipt<N>) -> Option<Linkage> {
     }
 }
 
-/// Both passes call, and the first flushes.
-fn hits_are_flushed<N: Name, R: Wait + Abort>(
-    rt: &R,
+/// Calls with a pass, which is to give this.
+fn call_gives<N: Name>(pass: &mut Pass<N>, argument: i32, wanted: CallAnswer) -> Result<(), Fail> {
+    let answer = call(pass, argument)?;
+    ensure(answer == wanted, "another answer of a call")
+}
+
+/// Both passes learn a receipt, whose list is to be this long.
+fn learn_both<N: Name>(
     running: &mut Running<N>,
+    receipt: &Receipt<N>,
+    front: u64,
 ) -> Result<(), Fail> {
-    assert_eq!(rt; call(&mut running.first, 1), Ok(given(100, 6, 0)));
-    assert_eq!(rt; call(&mut running.first, 1), Ok(given(100, 6, 0)));
+    let learnt = running.learn(receipt);
+    ensure(learnt == front, "another front of a receipt")
+}
+
+/// Both passes call, and the first flushes.
+fn hits_are_flushed<N: Name, R: Wait>(rt: &R, running: &mut Running<N>) -> Result<(), Fail> {
+    call_gives(&mut running.first, 1, given(100, 6, 0))?;
+    call_gives(&mut running.first, 1, given(100, 6, 0))?;
     let flushed = running.live.flush(rt, &mut running.first)?;
-    assert!(rt; is_done(&flushed));
-    assert_eq!(rt; running.learn(&flushed), 0);
-    assert_eq!(rt; call(&mut running.second, 2), Ok(given(3, 6, 0)));
-    Ok(())
+    ensure(is_done(&flushed), "a flush")?;
+    learn_both(running, &flushed, 0)?;
+    call_gives(&mut running.second, 2, given(3, 6, 0))
 }
 
 /// A snapshot is taken.
-fn snapshot_is_taken<N: Name, R: Wait + Abort>(
-    rt: &R,
-    running: &mut Running<N>,
-) -> Result<(), Fail> {
+fn snapshot_is_taken<N: Name, R: Wait>(rt: &R, running: &mut Running<N>) -> Result<(), Fail> {
     let taken = running.live.snapshot(rt)?;
-    assert!(rt; matches!(taken.reply(), Reply::Taken { snapshot: 1 }));
-    assert_eq!(rt; running.learn(&taken), 0);
-    Ok(())
+    let first = matches!(taken.reply(), Reply::Taken { snapshot: 1 });
+    ensure(first, "the first snapshot")?;
+    learn_both(running, &taken, 0)
 }
 
 /// Whether a plan has the link 0 with its point, a value of 1, and all of the point's cost carried.
@@ -109,7 +117,7 @@ fn is_published<N: Name>(receipt: &Receipt<N>) -> bool {
 }
 
 /// The snapshot's problem is planned, and the plan published.
-fn plan_is_published<N: Name, R: Wait + Abort + Threads + Sync>(
+fn plan_is_published<N: Name, R: Wait + Threads + Sync>(
     rt: &R,
     alloc: Global,
     running: &mut Running<N>,
@@ -117,84 +125,89 @@ fn plan_is_published<N: Name, R: Wait + Abort + Threads + Sync>(
     let problem = running.live.problem(rt, 1)?;
     let planned = SharedPlan::new(alloc, plan(rt, alloc, &problem, 1, &OpenGate)?)?;
     let published = running.live.publish(rt, 1, planned)?;
-    assert!(rt; is_published(&published));
-    assert_eq!(rt; running.learn(&published), 0);
-    Ok(())
+    ensure(is_published(&published), "the plan as the first")?;
+    learn_both(running, &published, 0)
 }
 
 /// The plan is installed, and the site linked to one link.
-fn plan_is_installed<N: Name, R: Wait + Abort>(
-    rt: &R,
-    running: &mut Running<N>,
-) -> Result<(), Fail> {
+fn plan_is_installed<N: Name, R: Wait>(rt: &R, running: &mut Running<N>) -> Result<(), Fail> {
     let installed = running.live.install(rt, 1)?;
-    assert_eq!(rt; linkage(&installed), Some(Linkage::Linked(1)));
-    assert_eq!(rt; running.learn(&installed), 1);
-    assert_eq!(rt; call(&mut running.first, 1), Ok(given(100, 6, 1)));
-    assert_eq!(rt; call(&mut running.second, 2), Ok(given(3, 9, 1)));
-    Ok(())
+    ensure(linkage(&installed) == Some(Linkage::Linked(1)), "one link")?;
+    learn_both(running, &installed, 1)?;
+    call_gives(&mut running.first, 1, given(100, 6, 1))?;
+    call_gives(&mut running.second, 2, given(3, 9, 1))
 }
 
 /// The point of the link is invalidated.
-fn point_is_invalidated<N: Name, R: Wait + Abort>(
+fn point_is_invalidated<N: Name, R: Wait>(
     rt: &R,
     alloc: Global,
     running: &mut Running<N>,
 ) -> Result<(), Fail> {
     let points = Listing::from_vec(Vec::from_slice(alloc, &[0])?);
     let invalidated = running.live.invalidate(rt, points)?;
-    assert!(rt; is_done(&invalidated));
-    assert_eq!(rt; running.learn(&invalidated), 2);
-    assert_eq!(rt; call(&mut running.first, 1), Ok(given(-1, 6, 2)));
-    Ok(())
+    ensure(is_done(&invalidated), "an invalidation")?;
+    learn_both(running, &invalidated, 2)?;
+    call_gives(&mut running.first, 1, given(-1, 6, 2))
 }
 
 /// The site is retargeted.
-fn site_is_retargeted<N: Name, R: Wait + Abort>(
+fn site_is_retargeted<N: Name, R: Wait>(
     rt: &R,
     alloc: Global,
     running: &mut Running<N>,
 ) -> Result<(), Fail> {
     let targeted = running.live.set_target(rt, 0, negation(alloc)?)?;
-    assert!(rt; is_done(&targeted));
-    assert_eq!(rt; running.learn(&targeted), 3);
-    assert_eq!(rt; call(&mut running.second, 1), Ok(given(-1, 1, 3)));
-    Ok(())
+    ensure(is_done(&targeted), "a retargeting")?;
+    learn_both(running, &targeted, 3)?;
+    call_gives(&mut running.second, 1, given(-1, 1, 3))
 }
 
-/// The plan is installed again, which skips the site, and the history is full.
-fn site_is_skipped<N: Name, R: Wait + Abort>(rt: &R, running: &mut Running<N>) -> Result<(), Fail> {
+/// The plan is installed again, which skips the site.
+fn site_is_skipped<N: Name, R: Wait>(rt: &R, running: &mut Running<N>) -> Result<(), Fail> {
     let installed = running.live.install(rt, 1)?;
-    assert_eq!(rt; linkage(&installed), Some(Linkage::Skipped));
-    assert_eq!(rt; running.learn(&installed), 4);
-    assert_eq!(rt; call(&mut running.first, 1), Ok(given(-1, 1, 4)));
-    assert_eq!(rt; call(&mut running.second, 1), Ok(given(-1, 1, 4)));
-    let refused = running.live.snapshot(rt).err();
-    assert_eq!(rt; refused, Some(Refusal::HistoryFull));
-    assert_eq!(rt; Refusal::HistoryFull.number(), 2);
-    Ok(())
+    ensure(
+        linkage(&installed) == Some(Linkage::Skipped),
+        "a site that is skipped",
+    )?;
+    learn_both(running, &installed, 4)?;
+    call_gives(&mut running.first, 1, given(-1, 1, 4))?;
+    call_gives(&mut running.second, 1, given(-1, 1, 4))
+}
+
+/// Seven events, and why an eighth is refused.
+fn make_seven_events<N: Name, R: Wait + Threads + Sync>(
+    rt: &R,
+    alloc: Global,
+    running: &mut Running<N>,
+) -> Result<Option<Refusal>, Fail> {
+    hits_are_flushed(rt, running)?;
+    snapshot_is_taken(rt, running)?;
+    plan_is_published(rt, alloc, running)?;
+    plan_is_installed(rt, running)?;
+    point_is_invalidated(rt, alloc, running)?;
+    site_is_retargeted(rt, alloc, running)?;
+    site_is_skipped(rt, running)?;
+    Ok(running.live.snapshot(rt).err())
+}
+
+fn fill_the_history<N: Name, R: Wait + Threads + Sync>(
+    rt: &R,
+    alloc: Global,
+    opening: Opening,
+) -> Result<Option<Refusal>, Fail>
+    requires name { opening.name ≡ N.book }
+    requires definition { opening.definition ≡ N.definition }
+{
+    let mut running = start::<N>(opening)?;
+    make_seven_events(rt, alloc, &mut running)
 }
 
 #[test]
 fn seven_events_fill_the_history(rt: HostRuntime) -> Result<(), Fail> {
     let opening = open_pointed(rt.alloc(), 7)?;
-    fills_the_history::<Brand, _>(&rt, rt.alloc(), opening)
-}
-
-fn fills_the_history<N: Name, R: Wait + Abort + Threads + Sync>(
-    rt: &R,
-    alloc: Global,
-    opening: Opening,
-) -> Result<(), Fail>
-    requires name { opening.name ≡ N.book }
-    requires definition { opening.definition ≡ N.definition }
-{
-    let mut running = start::<N>(opening)?;
-    hits_are_flushed(rt, &mut running)?;
-    snapshot_is_taken(rt, &mut running)?;
-    plan_is_published(rt, alloc, &mut running)?;
-    plan_is_installed(rt, &mut running)?;
-    point_is_invalidated(rt, alloc, &mut running)?;
-    site_is_retargeted(rt, alloc, &mut running)?;
-    site_is_skipped(rt, &mut running)
+    let refused = fill_the_history::<Brand, _>(&rt, rt.alloc(), opening)?;
+    assert_eq!(rt; refused, Some(Refusal::HistoryFull));
+    assert_eq!(rt; Refusal::HistoryFull.number(), 2);
+    Ok(())
 }

@@ -1,73 +1,67 @@
 //! A definition and its world, each public call once.
 
+use crate::making::{link, linked_site, plain_site, tree_of, two_points};
 use mh_site::{
-    Control, Definition, DefinitionFault, Installation, KeptLinks, Link, Listing, Name, Point,
-    Points, Relinking, Retargeting, Site, World,
+    Control, Definition, Installation, KeptLinks, Link, Listing, Points, Relinking, Retargeting,
+    Site, World,
 };
-use mh_tree::{Declared, Handle, Prepared};
-use mh_type::{Kind, MethodType, Op, Value};
+use mh_tree::Prepared;
+use mh_type::{Kind, Op};
 use std::alloc::Global;
 use std::test::Fail;
 
-fn point_of(alloc: Global, name: &str, cost: u64) -> Result<Point, Fail> {
-    Ok(Point {
-        name: Name::new(alloc, name)?,
-        cost,
-    })
+/// Two points and these sites.
+fn define(alloc: Global, sites: Vec<Site>) -> Result<Definition, Fail> {
+    let points = two_points(alloc)?;
+    let made = Definition::new(alloc, points, Listing::from_vec(sites))?;
+    Ok(made)
 }
 
-fn link_of(alloc: Global, when: i32, weight: u64, needs: &[u32]) -> Result<Link, Fail> {
-    Ok(Link {
-        when: Value::Int(when),
-        weight,
-        needs: Listing::from_vec(Vec::from_slice(alloc, needs)?),
-    })
+/// A link for 1 that needs the point 0, and one for 2 that needs both.
+fn two_links(alloc: Global) -> Result<Vec<Link>, Fail> {
+    let mut links = Vec::new(alloc);
+    links.push(link(alloc, 1, 3, &[0])?)?;
+    links.push(link(alloc, 2, 1, &[1, 0])?)?;
+    Ok(links)
 }
 
-fn tree_of(alloc: Global, op: Op) -> Result<Declared, Fail> {
-    Ok(Declared::new(&Handle::op(alloc, op)?)?)
+/// A link for 1 that needs the point 0.
+fn one_link(alloc: Global) -> Result<Vec<Link>, Fail> {
+    let mut links = Vec::new(alloc);
+    links.push(link(alloc, 1, 3, &[0])?)?;
+    Ok(links)
 }
 
-fn site_of(alloc: Global, key: Option<usize>, links: Vec<Link>) -> Result<Site, Fail> {
-    Ok(Site {
-        name: Name::new(alloc, "f")?,
-        method_type: MethodType::unary(Kind::Int, Kind::Int),
-        key,
-        target: tree_of(alloc, Op::Ineg)?,
-        links: Listing::from_vec(links),
-    })
-}
-
-fn two_points(alloc: Global) -> Result<Listing<Point>, Fail> {
-    let mut points = Vec::new(alloc);
-    points.push(point_of(alloc, "a", 5)?)?;
-    points.push(point_of(alloc, "b", 7)?)?;
-    Ok(Listing::from_vec(points))
-}
-
-fn of_one_site(alloc: Global, site: Site) -> Result<Result<Definition, DefinitionFault>, Fail> {
+/// A site with two links, and one with one.
+fn two_linked_sites(alloc: Global) -> Result<Definition, Fail> {
     let mut sites = Vec::new(alloc);
-    sites.push(site)?;
-    Ok(Definition::new(alloc, two_points(alloc)?, Listing::from_vec(sites)))
+    let target = tree_of(alloc, Op::Ineg)?;
+    sites.push(linked_site(alloc, "f", target, two_links(alloc)?)?)?;
+    let target = tree_of(alloc, Op::Ineg)?;
+    sites.push(linked_site(alloc, "g", target, one_link(alloc)?)?)?;
+    define(alloc, sites)
+}
+
+/// Whether the first site's links need these points.
+fn first_needs(definition: &Definition, of_first: &[u32], of_second: &[u32]) -> bool {
+    let [site, _] = definition.sites() else {
+        return false;
+    };
+    let [first, second] = site.links.as_slice() else {
+        return false;
+    };
+    first.needs.as_slice() == of_first && second.needs.as_slice() == of_second
+}
+
+fn needs_in_order(alloc: Global) -> Result<bool, Fail> {
+    let definition = two_linked_sites(alloc)?;
+    let two = definition.points().len() == 2;
+    Ok(two && first_needs(&definition, &[0], &[0, 1]))
 }
 
 #[test]
 fn needs_are_put_in_order(rt: HostRuntime) -> Result<(), Fail> {
-    let alloc = rt.alloc();
-    let mut links = Vec::new(alloc);
-    links.push(link_of(alloc, 1, 3, &[0])?)?;
-    links.push(link_of(alloc, 2, 1, &[1, 0])?)?;
-    let definition = of_one_site(alloc, site_of(alloc, Some(0), links)?)??;
-    for site in definition.sites() {
-        for link in site.links.as_slice() {
-            match &link.when {
-                Value::Int(1) => assert!(rt; link.needs.as_slice() == &[0][..]),
-                _ => assert!(rt; link.needs.as_slice() == &[0, 1][..]),
-            }
-        }
-    }
-    assert_eq!(rt; definition.sites().len(), 1);
-    assert_eq!(rt; definition.points().len(), 2);
+    assert!(rt; needs_in_order(rt.alloc())?);
     Ok(())
 }
 
@@ -89,59 +83,91 @@ fn home_of(definition: &Definition, link: usize) -> Option<usize> {
     }
 }
 
+/// The number of the second site's first link, and the site of each link, with none after the last.
+fn numbering(alloc: Global) -> Result<[Option<usize>; 5], Fail> {
+    let definition = two_linked_sites(alloc)?;
+    Ok([
+        first_of(&definition, 1),
+        home_of(&definition, 0),
+        home_of(&definition, 1),
+        home_of(&definition, 2),
+        home_of(&definition, 3),
+    ])
+}
+
 #[test]
 fn links_are_numbered_site_by_site(rt: HostRuntime) -> Result<(), Fail> {
-    let alloc = rt.alloc();
-    let mut links = Vec::new(alloc);
-    links.push(link_of(alloc, 1, 3, &[0])?)?;
-    links.push(link_of(alloc, 2, 1, &[1])?)?;
-    let mut sites = Vec::new(alloc);
-    sites.push(site_of(alloc, Some(0), links)?)?;
-    let mut links = Vec::new(alloc);
-    links.push(link_of(alloc, 1, 3, &[0])?)?;
-    let mut second = site_of(alloc, Some(0), links)?;
-    second.name = Name::new(alloc, "g")?;
-    sites.push(second)?;
-    let definition = Definition::new(alloc, two_points(alloc)?, Listing::from_vec(sites))?;
-    assert_eq!(rt; definition.link_count(), 3);
-    assert_eq!(rt; first_of(&definition, 1), Some(2));
-    assert_eq!(rt; home_of(&definition, 1), Some(0));
-    assert_eq!(rt; home_of(&definition, 2), Some(1));
+    let numbers = numbering(rt.alloc())?;
+    assert_eq!(rt; numbers, [Some(2), Some(0), Some(0), Some(1), None]);
     Ok(())
+}
+
+/// One site without links.
+fn one_plain_site(alloc: Global) -> Result<Definition, Fail> {
+    let mut sites = Vec::new(alloc);
+    sites.push(plain_site(alloc, "f", Kind::Int, Op::Ineg)?)?;
+    define(alloc, sites)
+}
+
+/// How many of the two points are valid first, and after an invalidation of the second and a retargeting; and the front then.
+fn changes(alloc: Global) -> Result<[u64; 3], Fail> {
+    let points = Points::new(Vec::from_slice(alloc, &[1])?);
+    let target = Retargeting::new(0, tree_of(alloc, Op::Ineg)?)?;
+    let mut world = World::open(alloc, &one_plain_site(alloc)?)?;
+    let before = valid_points(&world);
+    world.absorb(Control::Invalidate(points));
+    world.absorb(Control::Target(target));
+    Ok([before, valid_points(&world), world.front()])
+}
+
+/// How many points are valid.
+fn valid_points(world: &World) -> u64 {
+    let mut valid = 0u64;
+    for point in world.valid() {
+        if *point {
+            valid = valid.saturating_add(1);
+        }
+    }
+    valid
 }
 
 #[test]
 fn controls_change_the_world(rt: HostRuntime) -> Result<(), Fail> {
-    let alloc = rt.alloc();
-    let site = site_of(alloc, None, Vec::new(alloc))?;
-    let definition = of_one_site(alloc, site)??;
-    let mut world = World::open(alloc, &definition)?;
-    assert!(rt; world.valid() == &[true, true][..]);
-    world.absorb(Control::Invalidate(Points::new(Vec::from_slice(alloc, &[1])?)));
-    assert!(rt; world.valid() == &[true, false][..]);
-    world.absorb(Control::Target(Retargeting::new(0, tree_of(alloc, Op::Ineg)?)?));
-    assert_eq!(rt; world.front(), 2);
+    assert_eq!(rt; changes(rt.alloc())?, [2, 1, 2]);
     Ok(())
+}
+
+/// The site 0 is to run the negation, of the link 3.
+fn relink(alloc: Global) -> Result<Relinking, Fail> {
+    let linked = Prepared::new(tree_of(alloc, Op::Ineg)?.handle())?;
+    let mut kept = KeptLinks::new();
+    kept.push(3);
+    Ok(Relinking::new(0, linked, kept))
+}
+
+/// Whether it has what it was made of.
+fn is_relinking(relinking: &Relinking) -> bool {
+    relinking.site() == 0
+        && relinking.linked().handle().size() == 1
+        && relinking.kept() == [3].as_slice()
+}
+
+/// Whether an installation has the relinking that it was made of, and the front after it.
+fn installation(alloc: Global) -> Result<(bool, u64), Fail> {
+    let mut changes = Vec::new(alloc);
+    changes.push(relink(alloc)?)?;
+    let installation = Installation::new(changes);
+    let whole = match installation.as_slice() {
+        [relinking] => is_relinking(relinking),
+        _ => false,
+    };
+    let mut world = World::open(alloc, &one_plain_site(alloc)?)?;
+    world.absorb(Control::Install(installation));
+    Ok((whole, world.front()))
 }
 
 #[test]
 fn a_relinked_site_runs_another_tree_over_its_base(rt: HostRuntime) -> Result<(), Fail> {
-    let alloc = rt.alloc();
-    let site = site_of(alloc, None, Vec::new(alloc))?;
-    let definition = of_one_site(alloc, site)??;
-    let mut world = World::open(alloc, &definition)?;
-    let linked = Prepared::new(tree_of(alloc, Op::Ineg)?.handle())?;
-    let mut kept = KeptLinks::new();
-    kept.push(3);
-    let relinking = Relinking::new(0, linked, kept);
-    assert_eq!(rt; relinking.site(), 0);
-    assert_eq!(rt; relinking.linked().handle().size(), 1);
-    assert!(rt; relinking.kept() == &[3][..]);
-    let mut changes = Vec::new(alloc);
-    changes.push(relinking)?;
-    let installation = Installation::new(changes);
-    assert_eq!(rt; installation.as_slice().len(), 1);
-    world.absorb(Control::Install(installation));
-    assert_eq!(rt; world.front(), 1);
+    assert_eq!(rt; installation(rt.alloc())?, (true, 1));
     Ok(())
 }

@@ -3,6 +3,7 @@
 ghost use Rattle.mh_ledger.specs.Ledgers.{AreHeld};
 
 use mh_ledger::{Ledger, TotalTooLarge, Totals};
+use std::alloc::Global;
 use std::test::Fail;
 
 /// Counts hits of a link, and answers whether the ledger took all.
@@ -61,38 +62,61 @@ fn counts(ledger: &Ledger, link: usize) -> Option<(u64, u64)> {
     }
 }
 
+/// The totals of the links 0 and 1 of three workers after two hits of the link 1 by each, before and after their flushes.
+fn totals_around_flushes(alloc: Global) -> Result<[Option<u64>; 3], Fail> {
+    let (mut totals, mut ledgers) = Totals::open(alloc, 2, 3, 10, 100)?;
+    hit_each(&totals, &mut ledgers, 1);
+    hit_each(&totals, &mut ledgers, 1);
+    let before = total(&totals, 1);
+    flush_each(&mut totals, &mut ledgers)?;
+    Ok([before, total(&totals, 0), total(&totals, 1)])
+}
+
 #[test]
 fn a_total_is_the_sum_of_what_was_flushed(rt: HostRuntime) -> Result<(), Fail> {
-    let (mut totals, mut ledgers) = Totals::open(rt.alloc(), 2, 3, 10, 100)?;
-    hit_each(&totals, &mut ledgers, 1);
-    hit_each(&totals, &mut ledgers, 1);
-    assert_eq!(rt; total(&totals, 1), Some(0));
-    assert!(rt; flush_each(&mut totals, &mut ledgers).is_ok());
-    assert_eq!(rt; total(&totals, 0), Some(0));
-    assert_eq!(rt; total(&totals, 1), Some(6));
+    let sums = totals_around_flushes(rt.alloc())?;
+    assert_eq!(rt; sums, [Some(0), Some(0), Some(6)]);
     Ok(())
+}
+
+/// Whether the second of two flushes of two hits is refused where a total has room for three, and the total then.
+fn total_past_its_limit(alloc: Global) -> Result<(bool, Option<u64>), Fail> {
+    let (mut totals, mut ledgers) = Totals::open(alloc, 1, 2, 10, 3)?;
+    hit_each(&totals, &mut ledgers, 0);
+    hit_each(&totals, &mut ledgers, 0);
+    let refused = flush_each(&mut totals, &mut ledgers).is_err();
+    if totals.workers() != 2 || totals.limit() != 3 {
+        return Err(Fail::from("the totals are of others"));
+    }
+    Ok((refused, total(&totals, 0)))
 }
 
 #[test]
 fn a_flush_past_the_limit_is_refused(rt: HostRuntime) -> Result<(), Fail> {
-    let (mut totals, mut ledgers) = Totals::open(rt.alloc(), 1, 2, 10, 3)?;
-    hit_each(&totals, &mut ledgers, 0);
-    hit_each(&totals, &mut ledgers, 0);
-    assert!(rt; flush_each(&mut totals, &mut ledgers).is_err());
-    assert_eq!(rt; total(&totals, 0), Some(2));
-    assert_eq!(rt; (totals.workers(), totals.limit()), (2, 3));
+    let told = total_past_its_limit(rt.alloc())?;
+    assert_eq!(rt; told, (true, Some(2)));
     Ok(())
+}
+
+/// The hits of a ledger with room for five: after six, of which it refuses one, and after its flush and another.
+fn hits_of_a_full_ledger(alloc: Global) -> Result<[Option<(u64, u64)>; 2], Fail> {
+    let (mut totals, mut ledgers) = Totals::open(alloc, 1, 1, 5, 100)?;
+    let Some(mut ledger) = ledgers.pop() else {
+        return Err(Fail::from("there is no ledger"));
+    };
+    let six = hit(&mut ledger, 0, 6);
+    let full = counts(&ledger, 0);
+    let flushed = flush(&mut totals, &mut ledger);
+    let one = hit(&mut ledger, 0, 1);
+    if six || !flushed || !one {
+        return Err(Fail::from("it takes other hits"));
+    }
+    Ok([full, counts(&ledger, 0)])
 }
 
 #[test]
 fn a_full_ledger_refuses_hits_until_its_flush(rt: HostRuntime) -> Result<(), Fail> {
-    let (mut totals, mut ledgers) = Totals::open(rt.alloc(), 1, 1, 5, 100)?;
-    for ledger in ledgers.iter_mut() {
-        assert!(rt; !hit(ledger, 0, 6));
-        assert_eq!(rt; counts(ledger, 0), Some((5, 5)));
-        assert!(rt; flush(&mut totals, ledger));
-        assert!(rt; hit(ledger, 0, 1));
-        assert_eq!(rt; counts(ledger, 0), Some((1, 6)));
-    }
+    let hits = hits_of_a_full_ledger(rt.alloc())?;
+    assert_eq!(rt; hits, [Some((5, 5)), Some((1, 6))]);
     Ok(())
 }

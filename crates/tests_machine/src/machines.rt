@@ -1,53 +1,26 @@
 //! What machines answer, and each public call once with ample memory.
 
-use mh_core::{Arguments, Book, Event, Limits, Machine, Refusal, Reply};
-use mh_site::{Definition, Listing, Name, Point, Site};
-use mh_tree::{Declared, Handle};
-use mh_type::{Kind, MethodType, Op, Outcome, Text, Value};
+use crate::making::{limits, plain_site, tree_of, two_points};
+use mh_core::{Arguments, Book, Event, Machine, Refusal, Reply};
+use mh_site::{Definition, Listing};
+use mh_type::{Kind, Op, Outcome, Text, Value};
 use std::alloc::Global;
 use std::test::Fail;
 
-/// An operation on one argument as a tree.
-fn tree_of(alloc: Global, op: Op) -> Result<Declared, Fail> {
-    Ok(Declared::new(&Handle::op(alloc, op)?)?)
-}
-
-/// A site that gives an int for an argument of this kind.
-fn site_of(alloc: Global, name: &str, kind: Kind, op: Op) -> Result<Site, Fail> {
-    Ok(Site {
-        name: Name::new(alloc, name)?,
-        method_type: MethodType::new(Kind::Int, &[kind])?,
-        key: None,
-        target: tree_of(alloc, op)?,
-        links: Listing::from_vec(Vec::new(alloc)),
-    })
-}
-
-/// One point, a site `f` that negates, and a site `g` that counts the bytes of a text.
+/// Two points, a site `f` that negates, and a site `g` that counts the bytes of a text.
 fn definition(alloc: Global) -> Result<Definition, Fail> {
-    let mut points = Vec::new(alloc);
-    points.push(Point {
-        name: Name::new(alloc, "a")?,
-        cost: 5,
-    })?;
+    let points = two_points(alloc)?;
     let mut sites = Vec::new(alloc);
-    sites.push(site_of(alloc, "f", Kind::Int, Op::Ineg)?)?;
-    sites.push(site_of(alloc, "g", Kind::Text, Op::Len)?)?;
-    let made = Definition::new(alloc, Listing::from_vec(points), Listing::from_vec(sites))?;
+    sites.push(plain_site(alloc, "f", Kind::Int, Op::Ineg)?)?;
+    sites.push(plain_site(alloc, "g", Kind::Text, Op::Len)?)?;
+    let made = Definition::new(alloc, points, Listing::from_vec(sites))?;
     Ok(made)
-}
-
-/// Limits with this many events.
-fn limits(history: u64) -> Result<Limits, Fail> {
-    match Limits::new(history, 1, 0) {
-        Some(limits) => Ok(limits),
-        None => Err(Fail::from("the limits are out of range")),
-    }
 }
 
 /// A machine of two workers.
 fn machine(alloc: Global, history: u64) -> Result<Machine, Fail> {
-    Ok(Machine::open(alloc, &definition(alloc)?, 2, limits(history)?)?)
+    let definition = definition(alloc)?;
+    Ok(Machine::open(alloc, &definition, 2, limits(history, 1, 0)?)?)
 }
 
 /// A call with one argument.
@@ -70,97 +43,174 @@ fn int(reply: &Reply) -> Option<i32> {
     }
 }
 
-/// Why an event was refused.
-fn refusal(reply: &Reply) -> Option<Refusal> {
-    match reply {
-        Reply::Refused(refusal) => Some(*refusal),
+/// Why the event of a reply was refused.
+fn refusal_at(replies: &[Reply], place: usize) -> Option<Refusal> {
+    match replies.get(place) {
+        Some(Reply::Refused(refusal)) => Some(*refusal),
         _ => None,
     }
 }
 
+/// Why four events were refused.
+fn refusals(replies: &[Reply]) -> [Option<Refusal>; 4] {
+    [
+        refusal_at(replies, 0),
+        refusal_at(replies, 1),
+        refusal_at(replies, 2),
+        refusal_at(replies, 3),
+    ]
+}
+
+/// The int that a call of a machine gives.
+fn call_int(machine: &mut Machine, event: Event) -> Option<i32> {
+    int(&machine.step(event))
+}
+
+/// The workers of a machine; and how many calls it has, how many accepted events, and how many records.
+type Counts = (u32, [usize; 3]);
+
+fn counts(machine: &Machine) -> Counts {
+    let records = machine.book().records().len();
+    let events = [machine.calls().len(), machine.accepted(), records];
+    (machine.workers(), events)
+}
+
+/// What the two sites give, and what the machine counts then.
+fn calls_of_two_sites(alloc: Global) -> Result<([Option<i32>; 2], Counts), Fail> {
+    let text = Text::new(alloc, "ab")?;
+    let mut machine = machine(alloc, 1 << 20)?;
+    let negated = call_int(&mut machine, call(0, 0, Value::Int(7)));
+    let length = call_int(&mut machine, call(1, 1, Value::Text(text)));
+    Ok(([negated, length], counts(&machine)))
+}
+
 #[test]
 fn each_site_answers_by_its_tree(rt: HostRuntime) -> Result<(), Fail> {
-    let alloc = rt.alloc();
-    let mut machine = machine(alloc, 1 << 20)?;
-    let negated = machine.step(call(0, 0, Value::Int(7)));
-    assert_eq!(rt; int(&negated), Some(-7));
-    let text = Value::Text(Text::new(alloc, "ab")?);
-    let counted = machine.step(call(1, 1, text));
-    assert_eq!(rt; int(&counted), Some(2));
-    assert_eq!(rt; machine.calls().len(), 2);
-    assert_eq!(rt; machine.accepted(), 2);
-    assert_eq!(rt; machine.book().records().len(), 0);
-    assert_eq!(rt; machine.workers(), 2);
+    let (ints, counts) = calls_of_two_sites(rt.alloc())?;
+    assert_eq!(rt; ints, [Some(-7), Some(2)]);
+    assert_eq!(rt; counts, (2, [2, 2, 0]));
     Ok(())
+}
+
+/// The ints of arguments, where all of them are.
+fn ints(arguments: &Arguments) -> [Option<i32>; 3] {
+    let values = arguments.as_slice();
+    [int_at(values, 0), int_at(values, 1), int_at(values, 2)]
+}
+
+/// The int at a place.
+fn int_at(values: &[Value], place: usize) -> Option<i32> {
+    match values.get(place) {
+        Some(Value::Int(number)) => Some(*number),
+        _ => None,
+    }
+}
+
+/// Three ints as arguments.
+fn three(alloc: Global) -> Result<Arguments, Fail> {
+    let mut values = Vec::new(alloc);
+    values.push(Value::Int(5))?;
+    values.push(Value::Int(6))?;
+    values.push(Value::Int(7))?;
+    Ok(Arguments::from_vec(values))
+}
+
+/// What three, two, one and no arguments are.
+fn lists_of_arguments(alloc: Global) -> Result<[[Option<i32>; 3]; 4], Fail> {
+    Ok([
+        ints(&three(alloc)?),
+        ints(&Arguments::two(Value::Int(1), Value::Int(2))),
+        ints(&Arguments::one(Value::Int(1))),
+        ints(&Arguments::none()),
+    ])
 }
 
 #[test]
 fn arguments_of_any_number_are_listed(rt: HostRuntime) -> Result<(), Fail> {
-    let alloc = rt.alloc();
-    let none = Arguments::none();
-    assert_eq!(rt; none.len(), 0);
-    let two = Arguments::two(Value::Int(1), Value::Long(2));
-    assert!(rt; matches!(two.as_slice(), [Value::Int(1), Value::Long(2)]));
-    let mut values = Vec::new(alloc);
-    values.push(Value::Int(5))?;
-    values.push(Value::Boolean(true))?;
-    values.push(Value::Int(7))?;
-    let three = Arguments::from_vec(values);
-    assert!(rt;
-        matches!(
-            three.as_slice(),
-            [Value::Int(5), Value::Boolean(true), Value::Int(7)]
-        )
-    );
+    let [three, two, one, none] = lists_of_arguments(rt.alloc())?;
+    assert_eq!(rt; three, [Some(5), Some(6), Some(7)]);
+    assert_eq!(rt; two, [Some(1), Some(2), None]);
+    assert_eq!(rt; one, [Some(1), None, None]);
+    assert_eq!(rt; none, [None, None, None]);
     Ok(())
 }
 
-#[test]
-fn a_full_history_is_tested_last(rt: HostRuntime) -> Result<(), Fail> {
-    let alloc = rt.alloc();
-    let mut machine = machine(alloc, 2)?;
+/// Three calls that fit the site 0, and one that does not.
+fn four_calls(alloc: Global) -> Result<Vec<Event>, Fail> {
     let mut events = Vec::new(alloc);
     for _ in 0..3 {
         events.push(call(0, 0, Value::Int(1)))?;
     }
     events.push(call(0, 0, Value::Boolean(true)))?;
-    let replies = machine.run(events)?;
-    let [first, second, third, fourth] = replies.as_slice() else {
-        return Err(Fail::from("there are other replies"));
-    };
-    assert_eq!(rt; int(first), Some(-1));
-    assert_eq!(rt; int(second), Some(-1));
-    assert_eq!(rt; refusal(third), Some(Refusal::HistoryFull));
-    assert_eq!(rt; refusal(fourth), Some(Refusal::WrongType));
-    assert!(rt; machine.book().is_full(machine.calls().len()));
+    Ok(events)
+}
+
+/// The refusals of four calls where two events fill the history, and whether it is full then.
+fn refusals_of_a_full_history(alloc: Global) -> Result<([Option<Refusal>; 4], bool), Fail> {
+    let mut machine = machine(alloc, 2)?;
+    let replies = machine.run(four_calls(alloc)?)?;
+    let full = machine.book().is_full(machine.calls().len());
+    Ok((refusals(replies.as_slice()), full))
+}
+
+#[test]
+fn a_full_history_is_tested_last(rt: HostRuntime) -> Result<(), Fail> {
+    let (told, full) = refusals_of_a_full_history(rt.alloc())?;
+    let (third, fourth) = (Refusal::HistoryFull, Refusal::WrongType);
+    assert_eq!(rt; told, [None, None, Some(third), Some(fourth)]);
+    assert!(rt; full);
     Ok(())
+}
+
+/// A book of one worker with room for three records.
+fn book(alloc: Global) -> Result<Book, Fail> {
+    let (book, _) = Book::open(alloc, &definition(alloc)?, 1, limits(3, 1, 0)?)?;
+    Ok(book)
+}
+
+/// Whether a book has what it was opened with, and the first of its two points is not valid.
+fn keeps_its_parts(book: &Book) -> bool {
+    book.definition().sites().len() == 2
+        && book.limits().history() == 3
+        && matches!(book.world().valid(), [false, true])
+}
+
+/// What a book answers to a retargeting of no site, to one of a site, and to an invalidation.
+fn changes(book: &mut Book, alloc: Global) -> Result<[Result<(), Refusal>; 3], Fail> {
+    let refused = book.target(2, tree_of(alloc, Op::Ineg)?);
+    let targeted = book.target(0, tree_of(alloc, Op::Ineg)?);
+    let points = Listing::from_vec(Vec::from_slice(alloc, &[0])?);
+    Ok([refused, targeted, book.invalidate(points)])
+}
+
+/// How many records it has, where it keeps its parts and has room for one event more.
+fn room(book: &Book) -> Option<usize> {
+    if keeps_its_parts(book) && !book.is_full(0) && book.is_full(1) {
+        Some(book.records().len())
+    } else {
+        None
+    }
+}
+
+/// Both.
+fn changes_of_a_book(alloc: Global) -> Result<([Result<(), Refusal>; 3], Option<usize>), Fail> {
+    let mut book = book(alloc)?;
+    let answers = changes(&mut book, alloc)?;
+    Ok((answers, room(&book)))
 }
 
 #[test]
 fn a_book_records_what_it_accepts(rt: HostRuntime) -> Result<(), Fail> {
-    let alloc = rt.alloc();
-    let (mut book, _) = Book::open(alloc, &definition(alloc)?, 1, limits(3)?)?;
-    assert_eq!(rt;
-        book.target(2, tree_of(alloc, Op::Ineg)?),
-        Err(Refusal::NoSite)
-    );
-    assert_eq!(rt; book.target(0, tree_of(alloc, Op::Ineg)?), Ok(()));
-    let points = Listing::from_vec(Vec::from_slice(alloc, &[0])?);
-    assert_eq!(rt; book.invalidate(points), Ok(()));
-    assert_eq!(rt; book.records().len(), 2);
-    assert!(rt; !book.is_full(0));
-    assert!(rt; book.is_full(1));
-    assert_eq!(rt; book.definition().sites().len(), 2);
-    assert_eq!(rt; book.limits().history(), 3);
-    assert!(rt; matches!(book.world().valid(), [false]));
+    let (answers, records) = changes_of_a_book(rt.alloc())?;
+    assert_eq!(rt; answers, [Err(Refusal::NoSite), Ok(()), Ok(())]);
+    assert_eq!(rt; records, Some(2));
     Ok(())
 }
 
 #[test]
 fn limits_keep_their_numbers(rt: HostRuntime) -> Result<(), Fail> {
-    let limits = limits(7)?;
-    assert_eq!(rt; limits.history(), 7);
-    assert_eq!(rt; limits.ledger(), 1);
-    assert_eq!(rt; limits.total(), 0);
+    let limits = limits(7, 1, 0)?;
+    let numbers = [limits.history(), limits.ledger(), limits.total()];
+    assert_eq!(rt; numbers, [7, 1, 0]);
     Ok(())
 }

@@ -7,7 +7,6 @@ use mh_flow::{LayerRun, max_flow};
 use mh_network::{LinkRow, Listing, Problem};
 use mh_plan::{Gate, OpenGate, plan, plan_counted};
 use std::alloc::Global;
-use std::process::Abort;
 use std::sync::atomic::{AtomicU64, Ordering};
 use std::test::Fail;
 use std::thread::Threads;
@@ -59,45 +58,36 @@ fn links_to_a_point(
     Ok(Problem::new(alloc, &rows, costs)?)
 }
 
-/// Two workers plan so many links, with this value, and the checker accepts the plan.
-fn assert_planned<R: Abort + Threads + Sync>(
-    rt: &R,
-    alloc: Global,
-    problem: &Problem,
-    links: usize,
-    value: i64,
-) -> Result<(), Fail> {
-    let plan = plan(rt, alloc, problem, 2, &OpenGate)?;
-    assert_eq!(rt; plan.links.as_slice().len(), links);
-    let worth = plan.value;
-    assert_eq!(rt; worth, value);
-    assert!(rt; check(alloc, problem, &plan).is_ok());
-    Ok(())
+/// How many links two workers plan and for which value, where each point costs so much, and the checker accepts the plan.
+fn planned_at<R: Threads + Sync>(rt: &R, alloc: Global, cost: u64) -> Result<(usize, i64), Fail> {
+    let costs = vec![in alloc; cost; 1024]?;
+    let problem = links_to_a_point(alloc, 4096, 4, costs.as_slice())?;
+    let plan = plan(rt, alloc, &problem, 2, &OpenGate)?;
+    check(alloc, &problem, &plan)?;
+    Ok((plan.links.as_slice().len(), plan.value))
 }
 
 #[test]
 fn planner_tries_all_sets(rt: HostRuntime) -> Result<(), Fail> {
-    let alloc = rt.alloc();
-    let costs = vec![in alloc; 11; 1024]?;
-    let problem = links_to_a_point(alloc, 4096, 4, costs.as_slice())?;
-    assert_planned(&rt, alloc, &problem, 4096, 1024)
+    let planned = planned_at(&rt, rt.alloc(), 11)?;
+    assert_eq!(rt; planned, (4096, 1024));
+    Ok(())
 }
 
 #[test]
 fn points_that_cost_more_are_left(rt: HostRuntime) -> Result<(), Fail> {
-    let alloc = rt.alloc();
-    let costs = vec![in alloc; 13; 1024]?;
-    let problem = links_to_a_point(alloc, 4096, 4, costs.as_slice())?;
-    assert_planned(&rt, alloc, &problem, 0, 0)
+    let planned = planned_at(&rt, rt.alloc(), 13)?;
+    assert_eq!(rt; planned, (0, 0));
+    Ok(())
 }
 
-/// All workers are at work at one time: each waits in its part for all the others.
-fn assert_meeting<R: Abort + Threads + Sync>(
+/// How many of the workers see all of them at work at one time: each waits in its part for all the others.
+fn meeting<R: Threads + Sync>(
     rt: &R,
     alloc: Global,
     problem: &Problem,
     workers: usize,
-) -> Result<(), Fail>
+) -> Result<u64, Fail>
     requires some { 0 < workers }
     requires few { workers ≤ 64 }
 {
@@ -107,52 +97,67 @@ fn assert_meeting<R: Abort + Threads + Sync>(
         met: AtomicU64::new(0),
     };
     plan(rt, alloc, problem, workers, &gate)?;
-    assert_eq!(rt; gate.met.load(Ordering::SeqCst), workers as u64);
-    Ok(())
+    Ok(gate.met.load(Ordering::SeqCst))
 }
 
 #[test]
 fn one_worker_plans_all(rt: HostRuntime) -> Result<(), Fail> {
     let alloc = rt.alloc();
     let problem = links_to_a_point(alloc, 2, 1, &[1, 1])?;
-    assert_meeting(&rt, alloc, &problem, 2)
+    assert_eq!(rt; meeting(&rt, alloc, &problem, 2)?, 2);
+    Ok(())
 }
 
 #[test]
 fn one_of_five_workers_plans_all(rt: HostRuntime) -> Result<(), Fail> {
     let alloc = rt.alloc();
     let problem = links_to_a_point(alloc, 5, 1, &[1, 1, 1, 1, 1])?;
-    assert_meeting(&rt, alloc, &problem, 5)
+    assert_eq!(rt; meeting(&rt, alloc, &problem, 5)?, 5);
+    Ok(())
+}
+
+/// The phases of the plan of a link whose point costs what it gains.
+fn phases_of_an_even_link<R: Threads + Sync>(rt: &R, alloc: Global) -> Result<Option<u64>, Fail> {
+    let problem = links_to_a_point(alloc, 1, 1, &[3])?;
+    let (_, phases) = plan_counted(rt, alloc, &problem, 1, &OpenGate)?;
+    Ok(match phases.as_slice() {
+        [phases] => Some(*phases),
+        _ => None,
+    })
 }
 
 #[test]
 fn a_link_that_pays_no_more_than_its_point_takes_two_phases(rt: HostRuntime) -> Result<(), Fail> {
-    let alloc = rt.alloc();
-    let problem = links_to_a_point(alloc, 1, 1, &[3])?;
-    let (_, phases) = plan_counted(&rt, alloc, &problem, 1, &OpenGate)?;
-    assert!(rt; phases.as_slice() == [2].as_slice());
+    let phases = phases_of_an_even_link(&rt, rt.alloc())?;
+    assert_eq!(rt; phases, Some(2));
     Ok(())
+}
+
+/// The phases of a flow where there is nothing, its rows, and what it reaches.
+fn flow_of_nothing(alloc: Global) -> Result<(u64, usize, usize), Fail> {
+    let problem = links_to_a_point(alloc, 0, 1, &[])?;
+    let run = max_flow(alloc, &problem)?;
+    Ok((run.phases(), run.rows().len(), run.reached().len()))
 }
 
 #[test]
 fn a_flow_of_nothing_takes_one_phase(rt: HostRuntime) -> Result<(), Fail> {
-    let alloc = rt.alloc();
-    let problem = links_to_a_point(alloc, 0, 1, &[])?;
-    let run = max_flow(alloc, &problem)?;
-    assert_eq!(rt; run.phases(), 1);
-    assert_eq!(rt; run.rows().len(), 0);
-    assert_eq!(rt; run.reached().len(), 0);
+    assert_eq!(rt; flow_of_nothing(rt.alloc())?, (1, 0, 0));
     Ok(())
+}
+
+/// Whether the first levels reach the sink, and the phases in the end.
+fn levels_of_a_run(alloc: Global) -> Result<(bool, u64), Fail> {
+    let problem = links_to_a_point(alloc, 1, 1, &[3])?;
+    let mut run = LayerRun::new(alloc, &problem)?;
+    run.build_levels()?;
+    let reaches = run.reaches_sink();
+    Ok((reaches, run.finish()?.phases()))
 }
 
 #[test]
 fn a_run_counts_its_levels(rt: HostRuntime) -> Result<(), Fail> {
-    let alloc = rt.alloc();
-    let problem = links_to_a_point(alloc, 1, 1, &[3])?;
-    let mut run = LayerRun::new(alloc, &problem)?;
-    run.build_levels()?;
-    assert!(rt; run.reaches_sink());
-    assert_eq!(rt; run.finish()?.phases(), 1);
+    assert_eq!(rt; levels_of_a_run(rt.alloc())?, (true, 1));
     Ok(())
 }
 

@@ -66,16 +66,25 @@ fn numbers_below(alloc: Global, count: u32) -> Result<Vec<u32>, Fail> {
     Ok(numbers)
 }
 
-#[test]
-fn a_large_plan_is_checked(rt: HostRuntime) -> Result<(), Fail> {
-    let alloc = rt.alloc();
+/// What the checker tells of the largest plan with this flow.
+fn large_answer(alloc: Global, flow: &[Row]) -> Result<Option<CheckFault>, Fail> {
     let problem = large_problem(alloc)?;
     let links = numbers_below(alloc, 4096)?;
     let points = numbers_below(alloc, 1024)?;
+    answer(alloc, &problem, &links, &points, 0, flow)
+}
+
+/// What it tells of the whole flow, and where its first row stands there once more.
+fn large_answers(alloc: Global) -> Result<[Option<CheckFault>; 2], Fail> {
     let mut flow = large_flow(alloc)?;
-    assert_eq!(rt; answer(alloc, &problem, &links, &points, 0, &flow)?, None);
+    let whole = large_answer(alloc, &flow)?;
     flow.push((0, 0, 1))?;
-    let told = answer(alloc, &problem, &links, &points, 0, &flow)?;
-    assert_eq!(rt; told, Some(CheckFault::BadFlowRow));
+    Ok([whole, large_answer(alloc, &flow)?])
+}
+
+#[test]
+fn a_large_plan_is_checked(rt: HostRuntime) -> Result<(), Fail> {
+    let told = large_answers(rt.alloc())?;
+    assert_eq!(rt; told, [None, Some(CheckFault::BadFlowRow)]);
     Ok(())
 }

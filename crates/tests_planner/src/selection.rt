@@ -37,39 +37,48 @@ fn gains_fault(alloc: Global, gains: &[u64]) -> Result<Option<ProblemFault>, Fai
     Ok(Problem::new(alloc, &rows, &[]).err())
 }
 
-#[test]
-fn a_gain_that_is_not_eligible_counts_as_none(rt: HostRuntime) -> Result<(), Fail> {
-    let alloc = rt.alloc();
+/// What the greatest gain is refused with beside a greater one that is not eligible.
+fn greatest_gain_fault(alloc: Global) -> Result<Option<ProblemFault>, Fail> {
     let mut rows = rows_of(alloc, &[MOST])?;
     rows.push(row_of(alloc, HALF, false, &[])?)?;
-    assert!(rt; Problem::new(alloc, &rows, &[]).is_ok());
+    Ok(Problem::new(alloc, &rows, &[]).err())
+}
+
+#[test]
+fn a_gain_that_is_not_eligible_counts_as_none(rt: HostRuntime) -> Result<(), Fail> {
+    assert_eq!(rt; greatest_gain_fault(rt.alloc())?, None);
     Ok(())
+}
+
+/// What too many links are refused with, and too many points, whose costs would be too much too.
+fn faults_of_too_many(alloc: Global) -> Result<[Option<ProblemFault>; 2], Fail> {
+    let gains = vec![in alloc; HALF; 4097]?;
+    let links = gains_fault(alloc, &gains)?;
+    let costs = vec![in alloc; HALF; 1025]?;
+    Ok([links, needs_fault(alloc, &[9], &costs)?])
 }
 
 #[test]
 fn too_many_are_refused(rt: HostRuntime) -> Result<(), Fail> {
-    let alloc = rt.alloc();
-    let gains = vec![in alloc; HALF; 4097]?;
-    assert_eq!(rt;
-        gains_fault(alloc, &gains)?,
-        Some(ProblemFault::TooManyLinks)
-    );
-    let costs = vec![in alloc; HALF; 1025]?;
-    assert_eq!(rt;
-        needs_fault(alloc, &[9], &costs)?,
-        Some(ProblemFault::TooManyPoints)
-    );
-    assert_eq!(rt; ProblemFault::TooManyPoints.number(), 7);
+    let (links, points) = (ProblemFault::TooManyLinks, ProblemFault::TooManyPoints);
+    let faults = faults_of_too_many(rt.alloc())?;
+    assert_eq!(rt; faults, [Some(links), Some(points)]);
+    assert_eq!(rt; points.number(), 7);
     Ok(())
+}
+
+/// Whether the items of a listing ascend, and when they are taken out and sorted.
+fn sorting_of_a_listing(alloc: Global) -> Result<(bool, bool), Fail> {
+    let listing = Listing::from_vec(Vec::from_slice(alloc, &[3, 1, 2])?);
+    let before = is_ascending(listing.as_slice());
+    let mut items = listing.into_vec();
+    items.sort_unstable();
+    Ok((before, is_ascending(&items)))
 }
 
 #[test]
 fn a_listing_gives_back_its_items(rt: HostRuntime) -> Result<(), Fail> {
-    let alloc = rt.alloc();
-    let listing = Listing::from_vec(Vec::from_slice(alloc, &[3, 1, 2])?);
-    assert!(rt; !is_ascending(listing.as_slice()));
-    let mut items = listing.into_vec();
-    items.sort_unstable();
-    assert!(rt; is_ascending(&items));
+    let sorted = sorting_of_a_listing(rt.alloc())?;
+    assert_eq!(rt; sorted, (false, true));
     Ok(())
 }

@@ -1,6 +1,7 @@
 //! Kinds, texts, values and method types.
 
 use mh_type::{Kind, MethodType, Op, Text, TypeFault, Value, begins_with, same_kinds};
+use std::alloc::Global;
 use std::test::Fail;
 
 const SIXTEEN: &str = "(int,int,int,int,int,int,int,int,int,int,int,int,int,int,int,int)String";
@@ -10,6 +11,12 @@ const SEVENTEEN: &str =
 
 const SEVENTEEN_WITH_AN_UNKNOWN_KIND: &str =
     "(int,int,int,int,int,int,int,int,int,int,int,int,int,int,int,int,byte)String";
+
+/// Whether a type is written so.
+fn is_written(alloc: Global, read: &MethodType, text: &str) -> Result<bool, Fail> {
+    let written = read.write(alloc)?;
+    Ok(written.as_str() == text)
+}
 
 /// A type that is read is written as the text that it was read from.
 #[test]
@@ -22,9 +29,8 @@ fn written_types_are_read(rt: HostRuntime) -> Result<(), Fail> {
         SIXTEEN,
     ];
     for text in texts {
-        let read = MethodType::parse(text)?;
-        let written = read.write(rt.alloc())?;
-        assert_eq!(rt; written.as_str(), text);
+        let same = is_written(rt.alloc(), &MethodType::parse(text)?, text)?;
+        assert!(rt; same, "at {text}");
     }
     Ok(())
 }
@@ -54,12 +60,17 @@ fn other_texts_are_refused(rt: HostRuntime) -> Result<(), Fail> {
     Ok(())
 }
 
-#[test]
-fn texts_keep_their_bytes(rt: HostRuntime) -> Result<(), Fail> {
-    let text = Text::new(rt.alloc(), "a \"b\" \\ ~")?;
+/// Whether a text that is shared is the same when the first owner is gone.
+fn shared_text_is(alloc: Global, wanted: &str) -> Result<bool, Fail> {
+    let text = Text::new(alloc, wanted)?;
     let other = text.share()?;
     drop(text);
-    assert_eq!(rt; other.as_str(), "a \"b\" \\ ~");
+    Ok(other.as_str() == wanted)
+}
+
+#[test]
+fn texts_keep_their_bytes(rt: HostRuntime) -> Result<(), Fail> {
+    assert!(rt; shared_text_is(rt.alloc(), "a \"b\" \\ ~")?);
     Ok(())
 }
 
@@ -72,69 +83,101 @@ fn texts_are_printable(rt: HostRuntime) -> Result<(), Fail> {
     Ok(())
 }
 
-#[test]
-fn texts_have_a_length(rt: HostRuntime) -> Result<(), Fail> {
-    let mut long = String::new(rt.alloc());
-    for _ in 0..65_536 {
+/// The length of a text of so many letters, or why there is none.
+fn length_of(alloc: Global, letters: usize) -> Result<Result<usize, TypeFault>, Fail> {
+    let mut long = String::new(alloc);
+    for _ in 0..letters {
         long.push('x')?;
     }
-    let text = Text::new(rt.alloc(), long.as_str())?;
-    assert_eq!(rt; text.as_str().len(), 65_536);
-    long.push('x')?;
-    let longer = Text::new(rt.alloc(), long.as_str());
-    assert_eq!(rt; longer.err(), Some(TypeFault::BadText));
+    Ok(match Text::new(alloc, long.as_str()) {
+        Ok(text) => Ok(text.as_str().len()),
+        Err(fault) => Err(fault),
+    })
+}
+
+#[test]
+fn texts_have_a_length(rt: HostRuntime) -> Result<(), Fail> {
+    assert_eq!(rt; length_of(rt.alloc(), 65_536)?, Ok(65_536));
+    assert_eq!(rt; length_of(rt.alloc(), 65_537)?, Err(TypeFault::BadText));
     Ok(())
+}
+
+/// The kind of a value, which its other owner has too, and which is found by its name.
+fn kind_of(value: &Value) -> Result<Option<Kind>, Fail> {
+    let kind = value.kind();
+    let same = value.share()?.kind().is(kind);
+    Ok(if same {
+        Kind::from_name(kind.name())
+    } else {
+        None
+    })
+}
+
+/// The kinds of a value of each.
+fn kinds(alloc: Global) -> Result<[Option<Kind>; 4], Fail> {
+    Ok([
+        kind_of(&Value::Int(-1))?,
+        kind_of(&Value::Long(-1))?,
+        kind_of(&Value::Boolean(true))?,
+        kind_of(&Value::Text(Text::new(alloc, "")?))?,
+    ])
 }
 
 #[test]
 fn values_have_their_kinds(rt: HostRuntime) -> Result<(), Fail> {
-    let values = [
-        (Value::Int(-1), Kind::Int),
-        (Value::Long(-1), Kind::Long),
-        (Value::Boolean(true), Kind::Boolean),
-        (Value::Text(Text::new(rt.alloc(), "")?), Kind::Text),
-    ];
-    for (value, kind) in values {
-        assert!(rt; value.kind().is(kind));
-        assert!(rt; value.share()?.kind().is(kind));
-        assert_eq!(rt; Kind::from_name(kind.name()), Some(kind));
-    }
+    let kinds = kinds(rt.alloc())?;
+    let [int, long, boolean, text] = [Kind::Int, Kind::Long, Kind::Boolean, Kind::Text];
+    assert_eq!(rt; kinds, [Some(int), Some(long), Some(boolean), Some(text)]);
     Ok(())
+}
+
+/// Whether types that are changed by place are those of these texts, and back again.
+fn changed_types_are(alloc: Global, more: &str, returning: &str) -> Result<[bool; 4], Fail> {
+    let made = MethodType::new(Kind::Long, &[Kind::Int, Kind::Text])?;
+    let inserted = made.insert(1, &[Kind::Boolean, Kind::Long])?;
+    let removed = inserted.remove(1, 2);
+    Ok([
+        is_written(alloc, &inserted, more)?,
+        is_written(alloc, &made.returning(Kind::Int), returning)?,
+        removed.equals(&made) && same_kinds(removed.parameters(), made.parameters()),
+        made.copy().equals(&made),
+    ])
 }
 
 #[test]
 fn types_are_changed_by_place(rt: HostRuntime) -> Result<(), Fail> {
+    let more = "(int,boolean,long,String)long";
+    let changed = changed_types_are(rt.alloc(), more, "(int,String)int")?;
+    assert_eq!(rt; changed, [true, true, true, true]);
+    Ok(())
+}
+
+#[test]
+fn types_have_their_parts(rt: HostRuntime) -> Result<(), Fail> {
     let made = MethodType::new(Kind::Long, &[Kind::Int, Kind::Text])?;
     assert_eq!(rt; made.count(), 2);
     assert!(rt; made.ret().is(Kind::Long));
     assert!(rt; made.parameter(1).is(Kind::Text));
-    let more = made.insert(1, &[Kind::Boolean, Kind::Long])?;
-    assert_eq!(rt;
-        more.write(rt.alloc())?.as_str(),
-        "(int,boolean,long,String)long"
-    );
-    assert!(rt; more.begins_with(&[Kind::Int, Kind::Boolean]));
-    assert!(rt; !more.begins_with(&[Kind::Boolean]));
-    assert!(rt; begins_with(more.parameters(), &[]));
-    assert_eq!(rt; more.count(), 4);
-    let fewer = more.remove(1, 2);
-    assert!(rt; fewer.equals(&made));
-    assert!(rt; same_kinds(fewer.parameters(), made.parameters()));
-    assert_eq!(rt;
-        made.returning(Kind::Int).write(rt.alloc())?.as_str(),
-        "(int,String)int"
-    );
-    assert!(rt; made.copy().equals(&made));
-    let many = [Kind::Int; 15];
-    assert_eq!(rt;
-        made.insert(2, &many).err(),
-        Some(TypeFault::TooManyParameters)
-    );
-    assert_eq!(rt;
-        MethodType::new(Kind::Int, &[Kind::Int; 17]).err(),
-        Some(TypeFault::TooManyParameters)
-    );
+    assert!(rt; made.begins_with(&[Kind::Int]));
+    assert!(rt; !made.begins_with(&[Kind::Text]));
+    assert!(rt; begins_with(made.parameters(), &[]));
     Ok(())
+}
+
+#[test]
+fn types_have_at_most_sixteen_parameters(rt: HostRuntime) -> Result<(), Fail> {
+    let made = MethodType::new(Kind::Long, &[Kind::Int, Kind::Text])?;
+    let more = made.insert(2, &[Kind::Int; 15]).err();
+    assert_eq!(rt; more, Some(TypeFault::TooManyParameters));
+    let made = MethodType::new(Kind::Int, &[Kind::Int; 17]).err();
+    assert_eq!(rt; made, Some(TypeFault::TooManyParameters));
+    Ok(())
+}
+
+/// Whether the operation of a name has this type.
+fn has_type(alloc: Global, name: &str, text: &str) -> Result<bool, Fail> {
+    let op = Op::from_name(name).ok_or("no operation")?;
+    is_written(alloc, &op.op_type(), text)
 }
 
 #[test]
@@ -156,22 +199,24 @@ fn operations_have_their_types(rt: HostRuntime) -> Result<(), Fail> {
         ("len", "(String)int"),
     ];
     for (name, text) in cases {
-        let op = Op::from_name(name).ok_or("no operation")?;
-        assert_eq!(rt; op.op_type().write(rt.alloc())?.as_str(), text, "at {name}");
+        let same = has_type(rt.alloc(), name, text)?;
+        assert!(rt; same, "at {name}");
     }
     assert_eq!(rt; Op::from_name("iAdd"), None);
     Ok(())
 }
 
+/// Whether a fault has this text, which begins with its number.
+fn is_shown(alloc: Global, fault: TypeFault, text: &str) -> Result<bool, Fail> {
+    let shown = fault.to_string(alloc)?;
+    Ok(shown.as_str() == text && text.as_bytes().first() == Some(&(b'0' + fault.number())))
+}
+
 #[test]
 fn faults_have_their_numbers(rt: HostRuntime) -> Result<(), Fail> {
-    for (fault, text) in [
-        (TypeFault::NoMemory, "1 NoMemory"),
-        (TypeFault::TooManyParameters, "2 TooManyParameters"),
-        (TypeFault::BadText, "3 BadText"),
-    ] {
-        assert_eq!(rt; fault.to_string(rt.alloc())?.as_str(), text);
-        assert_eq!(rt; text.as_bytes()[0], b'0' + fault.number());
-    }
+    assert!(rt; is_shown(rt.alloc(), TypeFault::NoMemory, "1 NoMemory")?);
+    let many = TypeFault::TooManyParameters;
+    assert!(rt; is_shown(rt.alloc(), many, "2 TooManyParameters")?);
+    assert!(rt; is_shown(rt.alloc(), TypeFault::BadText, "3 BadText")?);
     Ok(())
 }

@@ -1,5 +1,5 @@
 use Rattle.tests_live.proofs.beside.a_call_beside_a_retargeting_answers_by_its_front.Given as goal
 
 -- the list and the definition that were just opened
-abbrev pub ghosts-answers_by_its_front : goal.ghosts-answers_by_its_front
-ghosts-answers_by_its_front g a = record { book = a.opening.name; definition = a.opening.definition }
+abbrev pub ghosts-count_beside : goal.ghosts-count_beside
+ghosts-count_beside g a = record { book = a.opening.name; definition = a.opening.definition }

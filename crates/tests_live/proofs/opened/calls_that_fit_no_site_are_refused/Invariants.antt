@@ -1,5 +1,5 @@
 use Rattle.tests_live.proofs.opened.calls_that_fit_no_site_are_refused.Given as goal
 
 -- the list and the definition that were just opened
-abbrev pub ghosts-refuses_what_fits_no_site : goal.ghosts-refuses_what_fits_no_site
-ghosts-refuses_what_fits_no_site g a = record { book = a.opening.name; definition = a.opening.definition }
+abbrev pub ghosts-calls_that_do_not_fit : goal.ghosts-calls_that_do_not_fit
+ghosts-calls_that_do_not_fit g a = record { book = a.opening.name; definition = a.opening.definition }

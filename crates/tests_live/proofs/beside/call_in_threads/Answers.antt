@@ -1,0 +1,19 @@
+use denote.Exit.{no}
+use denote.Param.{param}
+use denote.Param.Send.{param_send, param_sync, arg_send, sendable}
+use Rattle.mh_live.proofs.Sending.{pass_send}
+use Rattle.tests_live.proofs.Sending.{called_send, word_sync}
+use Rattle.tests_live.proofs.beside.call_in_threads.Goals as goal
+
+pub map_vec-requires-send-J : goal.map_vec-requires-send-J
+map_vec-requires-send-J g c κs within =
+    param_send 1 _ (arg_send _ no _ (pass_send (param 0 g.row.N) g.N.Name (param_send 0 _ c.type_bounds.send-N) (param_sync 0 _ c.type_bounds.sync-N)))
+
+pub map_vec-requires-send-X : goal.map_vec-requires-send-X
+map_vec-requires-send-X g c κs within =
+    param_send 2 _ (arg_send _ no _ (called_send (param 0 g.row.N) g.N.Name (param_send 0 _ c.type_bounds.send-N) (param_sync 0 _ c.type_bounds.sync-N)))
+
+pub map_vec-requires-sync-F : goal.map_vec-requires-sync-F
+map_vec-requires-sync-F g c κs within =
+    let w = word_sync in
+    search sendable depth 60 fits 20000

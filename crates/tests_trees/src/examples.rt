@@ -1,0 +1,108 @@
+//! The trees that the tests run, and what they give.
+
+use mh_eval::{Stack, evaluate, fits, run};
+use mh_tree::{Handle, Prepared};
+use mh_type::{Kind, Op, Outcome, Throw, Value};
+use std::alloc::Global;
+use std::test::Fail;
+
+/// An operation as a tree.
+pub(crate) fn op(alloc: Global, op: Op) -> Result<Handle, Fail> {
+    Ok(Handle::op(alloc, op)?)
+}
+
+/// An operation behind the argument 1.
+fn with_one(alloc: Global, op: Op) -> Result<Handle, Fail> {
+    let op = Handle::op(alloc, op)?;
+    Ok(Handle::insert(alloc, &op, 1, &[Value::Int(1)])?)
+}
+
+/// 100, whatever the argument.
+fn hundred(alloc: Global) -> Result<Handle, Fail> {
+    let hundred = Handle::constant(alloc, &Value::Int(100))?;
+    Ok(Handle::drop(alloc, &hundred, 0, &[Kind::Int])?)
+}
+
+/// The target of the example site: 100 on 1 and else one more, while point 0 is valid; and then the
+/// negation.
+pub(crate) fn example(alloc: Global) -> Result<Handle, Fail> {
+    let test = with_one(alloc, Op::Ieq)?;
+    let next = with_one(alloc, Op::Iadd)?;
+    let guard = Handle::guard(alloc, &test, &hundred(alloc)?, &next)?;
+    Ok(Handle::point(alloc, 0, &guard, &op(alloc, Op::Ineg)?)?)
+}
+
+/// The same with its code, where each part of a guard and of a point was prepared before.
+pub(crate) fn prepared_example(alloc: Global) -> Result<Prepared, Fail> {
+    let test = Prepared::new(&with_one(alloc, Op::Ieq)?)?;
+    let next = Prepared::new(&with_one(alloc, Op::Iadd)?)?;
+    let hundred = Prepared::new(&hundred(alloc)?)?;
+    let guard = Prepared::guard(alloc, &test, &hundred, &next)?;
+    let negation = Prepared::new(&op(alloc, Op::Ineg)?)?;
+    Ok(Prepared::point(alloc, 0, &guard, &negation)?)
+}
+
+/// What a tree gives: an int, a throw, or neither; and its steps.
+#[derive(Clone, Copy, Debug, PartialEq, Eq)]
+pub(crate) struct Given {
+    int: Option<i32>,
+    throw: Option<Throw>,
+    steps: u64,
+}
+
+/// An int after so many steps.
+pub(crate) fn int(number: i32, steps: u64) -> Given {
+    Given {
+        int: Some(number),
+        throw: None,
+        steps,
+    }
+}
+
+/// A throw after so many steps.
+pub(crate) fn thrown(throw: Throw, steps: u64) -> Given {
+    Given {
+        int: None,
+        throw: Some(throw),
+        steps,
+    }
+}
+
+/// What an outcome is.
+fn read(outcome: &Outcome, steps: u64) -> Given {
+    let (int, throw) = match outcome {
+        Outcome::Value(Value::Int(number)) => (Some(*number), None),
+        Outcome::Value(_) => (None, None),
+        Outcome::Thrown(throw) => (None, Some(*throw)),
+    };
+    Given { int, throw, steps }
+}
+
+/// What a handle gives on arguments where the given points are valid.
+pub(crate) fn walked(
+    alloc: Global,
+    valid: &[bool],
+    handle: &Handle,
+    arguments: &[Value],
+) -> Result<Given, Fail> {
+    let (outcome, steps) = evaluate(alloc, valid, handle, arguments)?;
+    Ok(read(&outcome, steps))
+}
+
+/// What a handle with its code gives on one int, by one call more on a stack.
+pub(crate) fn ran(
+    stack: &mut Stack,
+    valid: &[bool],
+    handle: &Prepared,
+    argument: i32,
+) -> Result<Given, Fail> {
+    let arguments = [Value::Int(argument)];
+    if !fits(handle.handle().method_type(), &arguments) {
+        return Err("the argument does not fit".into());
+    }
+    if handle.handle().point_bound() > valid.len() {
+        return Err("a point is not there".into());
+    }
+    let (outcome, steps) = run(stack, valid, handle, &arguments)?;
+    Ok(read(&outcome, steps))
+}
