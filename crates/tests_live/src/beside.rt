@@ -5,7 +5,7 @@ ghost use Rattle.std.specs.Prelude.{◌≡◌};
 use crate::calling::{CallAnswer, call, ensure, given, sums};
 use crate::definitions::{negation, open_plain, successor};
 use mh_live::{Declared, Live, Name, Opening, Pass};
-use std::alloc::{AllocError, Global};
+use std::alloc::Global;
 use std::marker::Brand;
 use std::sync::Wait;
 use std::sync::atomic::{AtomicU64, Ordering};
@@ -65,15 +65,28 @@ fn await_calls(made: &AtomicU64, calls: u64) {
     }
 }
 
-/// Has each pass make so many calls in a thread of its own.
+/// The passes, each of whose calls was answered rightly.
+fn take_back<N: Name>(alloc: Global, workers: Vec<Called<N>>) -> Result<Vec<Pass<N>>, Fail> {
+    let mut passes = Vec::new(alloc);
+    for worker in workers {
+        let Called { pass, right } = worker;
+        ensure(right, "answers by the trees of their fronts")?;
+        passes.push(pass)?;
+    }
+    Ok(passes)
+}
+
+/// Has each pass make so many calls in a thread of its own, and gives the passes back where each call was
+/// answered rightly.
 fn call_in_threads<N: Name + Send + Sync, R: Threads + Sync>(
     rt: &R,
+    alloc: Global,
     passes: Vec<Pass<N>>,
     calls: u64,
     made: &AtomicU64,
-) -> Result<Vec<Called<N>>, AllocError> {
+) -> Result<Vec<Pass<N>>, Fail> {
     let work = |pass: Pass<N>| -> Called<N> { call_many(pass, calls, made) };
-    map_vec(rt, passes, &work)
+    take_back(alloc, map_vec(rt, passes, &work)?)
 }
 
 /// The tree of a turn.
@@ -119,26 +132,15 @@ fn call_beside<N: Name + Send + Sync, R: Wait + Threads + Sync>(
     passes: Vec<Pass<N>>,
     calls: u64,
     retargetings: u64,
-) -> Result<Vec<Called<N>>, Fail> {
+) -> Result<Vec<Pass<N>>, Fail> {
     let made = AtomicU64::new(0);
     let (called, changed) = join(
         rt,
-        || call_in_threads(rt, passes, calls, &made).ok(),
+        || call_in_threads(rt, alloc, passes, calls, &made),
         || retarget_many(rt, alloc, live, retargetings, &made),
     );
     changed?;
-    Ok(called.ok_or("there is no memory")?)
-}
-
-/// The passes, each of whose calls was answered rightly.
-fn take_back<N: Name>(alloc: Global, workers: Vec<Called<N>>) -> Result<Vec<Pass<N>>, Fail> {
-    let mut passes = Vec::new(alloc);
-    for worker in workers {
-        let Called { pass, right } = worker;
-        ensure(right, "answers by the trees of their fronts")?;
-        passes.push(pass)?;
-    }
-    Ok(passes)
+    called
 }
 
 /// The hits of the link 0, made, flushed and not flushed; and the length of the list of changes.
@@ -169,8 +171,7 @@ fn count_beside<N: Name + Send + Sync, R: Wait + Threads + Sync>(
     requires definition { opening.definition ≡ N.definition }
 {
     let (live, passes) = opening.open::<N>()?;
-    let called = call_beside(rt, alloc, &live, passes, calls, retargetings)?;
-    let passes = take_back(alloc, called)?;
+    let passes = call_beside(rt, alloc, &live, passes, calls, retargetings)?;
     counts(rt, alloc, live, passes)
 }
 

@@ -1,9 +1,15 @@
 use denote.Exit.{no}
 use denote.Param.{param}
-use denote.Param.Send.{param_send, param_sync, arg_send, sendable}
-use Rattle.mh_live.proofs.Sending.{pass_send}
-use Rattle.tests_live.proofs.Sending.{called_send, word_sync}
+use denote.Param.Send.{IsSend, IsSync, param_send, param_sync, arg_send, sendable}
+use denote.RattleType.{RattleType}
+use Rattle.mh_live.specs.declared.front.Name.{Ghosts}
+use Rattle.mh_live.proofs.Sending.{pass_send, plain}
+use Rattle.tests_live.proofs.Sending.{word_sync}
+use Rattle.tests_live.specs.contracts.beside.Called as Called
 use Rattle.tests_live.proofs.beside.call_in_threads.Goals as goal
+
+called_send : (N : RattleType) (n : Ghosts N.Denot) → IsSend N → IsSync N → IsSend (Called.the_row N n)
+called_send N n s y = let p = pass_send N n s y in search plain depth 60 fits 20000
 
 pub map_vec-requires-send-J : goal.map_vec-requires-send-J
 map_vec-requires-send-J g c κs within =
