@@ -2,7 +2,7 @@
 
 ghost use Rattle.std.specs.Prelude.{◌≡◌};
 
-use crate::calling::{CallAnswer, call, ensure, given, sums};
+use crate::calling::{CallAnswer, call, given, sums};
 use crate::definitions::{negation, open_plain, successor};
 use mh_live::{Declared, Live, Name, Opening, Pass};
 use std::alloc::Global;
@@ -65,28 +65,29 @@ fn await_calls(made: &AtomicU64, calls: u64) {
     }
 }
 
-/// The passes, each of whose calls was answered rightly.
-fn take_back<N: Name>(alloc: Global, workers: Vec<Called<N>>) -> Result<Vec<Pass<N>>, Fail> {
+/// The passes, or none where a call was answered wrongly or there is no memory.
+fn take_back<N: Name>(alloc: Global, workers: Vec<Called<N>>) -> Option<Vec<Pass<N>>> {
     let mut passes = Vec::new(alloc);
     for worker in workers {
         let Called { pass, right } = worker;
-        ensure(right, "answers by the trees of their fronts")?;
-        passes.push(pass)?;
+        if !right {
+            return None;
+        }
+        passes.push(pass).ok()?;
     }
-    Ok(passes)
+    Some(passes)
 }
 
-/// Has each pass make so many calls in a thread of its own, and gives the passes back where each call was
-/// answered rightly.
+/// Has each pass make so many calls in a thread of its own, and gives back the passes.
 fn call_in_threads<N: Name + Send + Sync, R: Threads + Sync>(
     rt: &R,
     alloc: Global,
     passes: Vec<Pass<N>>,
     calls: u64,
     made: &AtomicU64,
-) -> Result<Vec<Pass<N>>, Fail> {
+) -> Option<Vec<Pass<N>>> {
     let work = |pass: Pass<N>| -> Called<N> { call_many(pass, calls, made) };
-    take_back(alloc, map_vec(rt, passes, &work)?)
+    take_back(alloc, map_vec(rt, passes, &work).ok()?)
 }
 
 /// The tree of a turn.
@@ -140,7 +141,7 @@ fn call_beside<N: Name + Send + Sync, R: Wait + Threads + Sync>(
         || retarget_many(rt, alloc, live, retargetings, &made),
     );
     changed?;
-    called
+    Ok(called.ok_or("a call was answered by another tree than that of its front")?)
 }
 
 /// The hits of the link 0, made, flushed and not flushed; and the length of the list of changes.

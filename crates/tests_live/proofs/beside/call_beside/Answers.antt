@@ -2,13 +2,13 @@ use denote.Param.{param}
 use denote.Param.Send.{param_send, param_sync, sendable}
 use Rattle.std.proofs.Crossing as crossing
 use Rattle.std.proofs.alloc.Global.TheSendSync as global
-use Rattle.std.proofs.result.Result.TheSendSync as result
+use Rattle.std.proofs.option.Option.TheSendSync as option
 use Rattle.std.proofs.vec.Vec.TheSendSync as vec
 use Rattle.mh_live.proofs.Sending.{pass_send}
 use Rattle.tests_live.proofs.Sending.{word_sync}
 use Rattle.tests_live.proofs.beside.call_beside.Goals as goal
 
-ruleset lists = (vec.the_send, global.the_send, global.the_sync, global.the_field_send, global.the_field_sync, result.the_send, result.the_field_send, crossing.crosses, sendable)
+ruleset lists = (vec.the_send, global.the_send, global.the_sync, global.the_field_send, global.the_field_sync, option.the_send, option.the_field_send, crossing.crosses, sendable)
 
 pub join-called-requires-send-F : goal.join-called-requires-send-F
 join-called-requires-send-F g c κs within =
