@@ -141,7 +141,7 @@ fn call_beside<N: Name + Send + Sync, R: Wait + Threads + Sync>(
         || retarget_many(rt, alloc, live, retargetings, &made),
     );
     changed?;
-    Ok(called.ok_or("a call was answered by another tree than that of its front")?)
+    Ok(called.ok_or("memory, and calls answered by the trees of their fronts")?)
 }
 
 /// The hits of the link 0, made, flushed and not flushed; and the length of the list of changes.

@@ -182,7 +182,7 @@ fn refused_plans<N: Name, R: Wait>(
     Ok([problem, installed, published])
 }
 
-/// Both.
+/// Why an office refuses three changes, and what is asked of three plans.
 fn refuse_all<N: Name, R: Wait>(
     rt: &R,
     alloc: Global,

@@ -26,7 +26,7 @@ fn work<N: Name, R: Wait>(rt: &R, live: &Live<N>, pass: &mut Pass<N>) -> Result<
 }
 
 /// What comes back from a settlement that is refused.
-fn refused<N: Name, R: Wait>(
+fn fail_to_settle<N: Name, R: Wait>(
     rt: &R,
     alloc: Global,
     live: Live<N>,
@@ -39,7 +39,7 @@ fn refused<N: Name, R: Wait>(
 }
 
 /// What stands after a settlement.
-fn settled<N: Name, R: Wait>(
+fn settle<N: Name, R: Wait>(
     rt: &R,
     alloc: Global,
     live: Live<N>,
@@ -77,7 +77,7 @@ fn settles_all_hits<N: Name, R: Wait>(
 {
     let (live, mut passes) = opening.open::<N>()?;
     work_each(rt, &live, &mut passes)?;
-    let settled = settled(rt, alloc, live, passes)?;
+    let settled = settle(rt, alloc, live, passes)?;
     ensure(settled.front().len() == 0, "no change")?;
     Ok((sums(&settled), settled.book().records().len()))
 }
@@ -103,7 +103,7 @@ fn leave_one_out<N: Name, R: Wait>(
     let (live, mut passes) = opening.open::<N>()?;
     let mut kept = passes.pop().ok_or("there is no pass")?;
     work(rt, &live, &mut kept)?;
-    let unsettled = refused(rt, alloc, live, passes)?;
+    let unsettled = fail_to_settle(rt, alloc, live, passes)?;
     Ok((unsettled, kept))
 }
 
@@ -123,7 +123,7 @@ fn works_and_settles<N: Name, R: Wait>(
     flush(rt, &live, &mut kept)?;
     ensure(hits(&kept) == Some((0, 3)), "three hits that are flushed")?;
     passes.push(kept)?;
-    let settled = settled(rt, alloc, live, passes)?;
+    let settled = settle(rt, alloc, live, passes)?;
     Ok(sums(&settled))
 }
 

@@ -69,7 +69,7 @@ fn linkage<N: Name>(receipt: &Receipt<N>) -> Option<Linkage> {
 /// Calls with a pass, which is to give this.
 fn call_gives<N: Name>(pass: &mut Pass<N>, argument: i32, wanted: CallAnswer) -> Result<(), Fail> {
     let answer = call(pass, argument)?;
-    ensure(answer == wanted, "another answer of a call")
+    ensure(answer == wanted, "the answer that a call is to give")
 }
 
 /// Both passes learn a receipt, whose list is to be this long.
@@ -79,7 +79,7 @@ fn learn_both<N: Name>(
     front: u64,
 ) -> Result<(), Fail> {
     let learnt = running.learn(receipt);
-    ensure(learnt == front, "another front of a receipt")
+    ensure(learnt == front, "as many changes as a receipt is to have")
 }
 
 /// Both passes call, and the first flushes.

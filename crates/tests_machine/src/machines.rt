@@ -192,7 +192,7 @@ fn room(book: &Book) -> Option<usize> {
     }
 }
 
-/// Both.
+/// What a book answers to three changes, and how many records it has then.
 fn changes_of_a_book(alloc: Global) -> Result<([Result<(), Refusal>; 3], Option<usize>), Fail> {
     let mut book = book(alloc)?;
     let answers = changes(&mut book, alloc)?;
