@@ -1,4 +1,4 @@
-//! Calls by the evaluators, which are functions of another crate: each is behind a call that is not inlined.
+//! Calls by the evaluators, each behind a call that is not inlined.
 
 ghost use Rattle.std.specs.Prelude.{◌≡◌, ◌*◌, ◌≤◌, length, IfOk};
 ghost use Rattle.mh_bench.specs.Tallies.{magnitude};
@@ -12,6 +12,7 @@ use mh_tree::{Handle, Prepared};
 use mh_type::{Outcome, Value};
 
 /// One call of a prepared handle.
+#[inline(never)]
 pub(crate) fn run_once(
     stack: &mut Stack,
     valid: &[bool],
@@ -27,6 +28,7 @@ pub(crate) fn run_once(
 }
 
 /// One call of a plain handle.
+#[inline(never)]
 pub(crate) fn eval_once(
     stack: &mut Stack,
     valid: &[bool],

@@ -6,8 +6,9 @@ use Rattle.clap.specs.Words.{App, Row, Rule, new_app, new_rule, one_of, subcomma
 use Rattle.clap.specs.declared.builder.action.ArgAction.TheVariants.{SetTrue}
 use Rattle.clap.specs.declared.builder.value_parser.ValueParser.TheVariants.{Signed}
 use Rattle.clap.specs.declared.error.kind.ErrorKind.{ErrorKind}
+use Rattle.mh_text.specs.Script.{most_workers}
 use Rattle.mh_text.specs.declared.streams.planning.PlanOptions.{PlanOptions}
-use Rattle.mh_stress.specs.Stress.{AreLawful}
+use Rattle.mh_stress.specs.Stress.{AreLawful, most_rounds}
 use Rattle.mh_stress.specs.declared.stress.StressOptions.{StressOptions}
 use Rattle.mh_command.specs.Statuses.{status_answered}
 use Rattle.mh_command.specs.declared.request.Request.{Request}
@@ -23,12 +24,12 @@ workers_rule = record (new_rule (codes "workers")) {
   long = Some (codes "workers");
   value_names = 1;
   defaults = codes "1" ∷ [];
-  parser = Some (Signed (pos 1) (pos 64));
+  parser = Some (Signed (pos 1) (pos most_workers));
 }
 
 -- the same, and the script's where it is not given
 abbrev pub callers_rule : Rule
-callers_rule = record (new_rule (codes "workers")) { long = Some (codes "workers"); value_names = 1; parser = Some (Signed (pos 1) (pos 64)) }
+callers_rule = record (new_rule (codes "workers")) { long = Some (codes "workers"); value_names = 1; parser = Some (Signed (pos 1) (pos most_workers)) }
 
 -- `--rounds N`, N from 1 to 1,000,000, and 1 where it is not given
 abbrev pub rounds_rule : Rule
@@ -36,7 +37,7 @@ rounds_rule = record (new_rule (codes "rounds")) {
   long = Some (codes "rounds");
   value_names = 1;
   defaults = codes "1" ∷ [];
-  parser = Some (Signed (pos 1) (pos 1000000));
+  parser = Some (Signed (pos 1) (pos most_rounds));
 }
 
 -- a word that is there or not
@@ -59,7 +60,7 @@ program = with_subcommand (with_subcommand plain_app plan_app.top) stress_app.to
 
 -- there are from 1 to 64 workers, and some rounds
 abbrev pub HasWorkers : Request → Type 0
-HasWorkers (Plan options) = (0 < options.workers) × (options.workers ≤ 64)
+HasWorkers (Plan options) = (0 < options.workers) × (options.workers ≤ most_workers)
 HasWorkers (Stress options) = AreLawful options
 HasWorkers _ = ⊤
 
@@ -76,7 +77,7 @@ truth_text false = false_text
 pub record AreOptions (options : PlanOptions) (rows : List Row) : Type 0 where
   pub workers : IsNumber (one_of (codes "workers") rows) options.workers
   pub some : 0 < options.workers
-  pub few : options.workers ≤ 64
+  pub few : options.workers ≤ most_workers
   pub certificate : one_of (codes "certificate") rows ≡ Some (truth_text options.certificate)
   pub phases : one_of (codes "phases") rows ≡ Some (truth_text options.phases)
 

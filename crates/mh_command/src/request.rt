@@ -3,6 +3,7 @@ ghost use Rattle.std.specs.Prelude.{◌≡◌, ◌<◌, ◌≤◌, ◌⊎◌, []
 ghost use Rattle.clap.specs.Words.{app_of, fault_of, found_of, kind_of, new_app, rows_of, rule_of, subcommand_rows_of, with_rule};
 ghost use Rattle.clap.specs.declared.builder.command.Command.TheViews.{out-Command};
 ghost use Rattle.clap.specs.declared.error.kind.ErrorKind.{ErrorKind};
+ghost use Rattle.mh_text.specs.Script.{most_workers};
 ghost use Rattle.mh_stress.specs.Stress.{AreLawful};
 ghost use Rattle.mh_stress.specs.declared.stress.StressOptions.{StressOptions};
 ghost use Rattle.mh_command.specs.CommandLine.{root_app, plain_app, plan_app, stress_app, program, workers_rule, callers_rule, rounds_rule, flag_rule, AreOptions, AreStressed, AsksFor, HasWorkers, IsNamed};
@@ -217,7 +218,7 @@ fn build<'a>(alloc: Global) -> Result<Command<'a>, AllocError>
 fn options_of(matches: &ArgMatches) -> Option<PlanOptions>
     ensures value { (options : PlanOptions) → AreOptions options (rows_of (found_of matches.now)) → result ≡ Some options }
     ensures some { IfSome result (λ options. 0 < options.workers) }
-    ensures few { IfSome result (λ options. options.workers ≤ 64) }
+    ensures few { IfSome result (λ options. options.workers ≤ most_workers) }
 {
     let workers = matches.get_one::<u8>("workers")?;
     if workers == 0 || workers > 64 {
@@ -231,7 +232,7 @@ fn options_of(matches: &ArgMatches) -> Option<PlanOptions>
 }
 
 /// The number as one of 32 bits.
-fn widened(number: Option<u8>) -> Option<u32>
+fn widen(number: Option<u8>) -> Option<u32>
     ensures value { result ≡ number }
 {
     match number {
@@ -261,7 +262,7 @@ fn stress_options_of(matches: &ArgMatches) -> Option<StressOptions>
     ensures value { (options : StressOptions) → AreStressed options (rows_of (found_of matches.now)) → result ≡ Some options }
     ensures lawful { IfSome result AreLawful }
 {
-    let workers = widened(matches.get_one::<u8>("workers"));
+    let workers = widen(matches.get_one::<u8>("workers"));
     let rounds = matches.get_one::<u32>("rounds")?;
     lawful(StressOptions { workers, rounds })
 }

@@ -1,8 +1,7 @@
 -- What a machine keeps with one event more.
-use Rattle.std.proofs.Common.{◌≡◌, Result, Vec, Global, ℕ, ◌+◌, ◌<◌, ◌≤◌, Bool, true, false, List, [], ◌∷◌, length, map, slice_index_or, slice_set, refl, ap, sym, subst, ◌∙◌, arith}
+use Rattle.std.proofs.Common.{◌≡◌, Result, ℕ, ◌+◌, ◌<◌, ◌≤◌, Bool, true, false, List, [], ◌∷◌, length, map, slice_index_or, slice_set, refl, ap, sym, subst, ◌∙◌, arith}
 use Rattle.std.specs.List.{range_with_len}
-use Rattle.std.specs.Prelude.{reverse, vec_len, OnOk, IfErr, ◌↔◌}
-use Rattle.std.proofs.lemmas.List.{length-reverse}
+use Rattle.std.specs.Prelude.{OnOk, IfErr, ◌↔◌}
 use Rattle.std.proofs.lemmas.Result.{on_ok_weaker, IfErr-weaker}
 use Rattle.mh_type.specs.declared.value.Value.{Value}
 use Rattle.mh_ledger.specs.Ledgers.{AreHeld, LedgerState, at, opened_ledger, settled}
@@ -47,10 +46,6 @@ pub refuses_same : (b : BookState) (n k : ℕ) (e f : Record) (told : Refusal) �
 refuses_same b n k e f told same alike p =
     subst (λ (m : ℕ). Refuses (tests b.definition b.limits (length b.records + m) b.records f) told) same
     (subst (λ (g : Record). Refuses (tests b.definition b.limits (length b.records + n) b.records g) told) alike p)
-
--- how many calls there are
-pub calls_count : (v : Vec AcceptedCall Global) (n : ℕ) → n ≡ vec_len v → n ≡ length (reverse v.items)
-calls_count v n e = omega (arith, e, v.ok.0, length-reverse v.items)
 
 module _ (b : BookState) (calls : List AcceptedCall) (workers : ℕ) (ledgers : List LedgerState) (is : IsMachine b calls workers ledgers (joined calls b.records)) where
   abbrev h : List Event

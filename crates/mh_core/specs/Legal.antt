@@ -3,6 +3,7 @@ use Rattle.std.specs.Prelude.{◌≡◌, ◌⊎◌, ℕ, ◌+◌, ◌<◌, true,
 use Rattle.mh_type.specs.Fits.{Fits}
 use Rattle.mh_type.specs.declared.value.Value.{Value}
 use Rattle.mh_tree.specs.Meaning.{mean, steps}
+use Rattle.mh_eval.specs.Entered.{EntersPlain}
 use Rattle.mh_site.specs.Defined.{DefinitionData, site_at}
 use Rattle.mh_site.specs.Links.{links}
 use Rattle.mh_core.specs.declared.event.Event.{Event}
@@ -77,6 +78,11 @@ module _ (x : Setting) where
   answer h Snapshot = answers.Taken (snapshots (records x.definition h) + 1)
   answer h (Publish n plan) = answers.Published (plans (records x.definition h) + 1) plan
   answer h (Install m) = answers.Installed (report x.definition (records x.definition h) m)
+
+  -- a call whose tree enters no node that has String in its type, so that it asks for no memory
+  abbrev pub TakesNoMemory : List Event → Event → Type 0
+  TakesNoMemory h (Call w s a) = let r = records x.definition h in EntersPlain (valid_points x.definition r) (linked x.definition r s).tree a
+  TakesNoMemory h _ = ⊥
 
   -- the event passes its tests, is answered and is in the history; or it is refused, and is not
   abbrev pub Step : List Event → Event → Reply → List Event → Type 0

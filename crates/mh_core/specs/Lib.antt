@@ -19,6 +19,8 @@ pub mod Codes
 pub mod BookViews
 pub mod MachineViews
 pub mod ArgumentViews
+pub mod Pasts
+pub mod CallViews
 pub use Rattle.mh_cert.specs.Plans
 pub use Rattle.mh_ledger.specs.Ledgers
 pub use Rattle.mh_network.specs.Selection

@@ -1,6 +1,17 @@
 -- The limits of a book or a machine.
 use Rattle.std.specs.Prelude.{ℕ, ◌≤◌, ◌^◌}
 
+-- the most events of a history
+abbrev pub most_events : ℕ
+most_events = 2 ^ 20
+
+-- the most hits of a link that a worker may hold, and that the totals may hold
+abbrev pub most_held : ℕ
+most_held = 2 ^ 20
+
+abbrev pub most_hits : ℕ
+most_hits = 2 ^ 40
+
 -- accepted events, hits of a link that a worker holds, hits of a link in the totals
 pub record LimitsData : Type 0 where
   pub history : ℕ
@@ -8,10 +19,10 @@ pub record LimitsData : Type 0 where
   pub total : ℕ
 
 pub record IsLimits (l : LimitsData) : Type 0 where
-  pub history : l.history ≤ 2 ^ 20
+  pub history : l.history ≤ most_events
   pub least : 1 ≤ l.ledger
-  pub ledger : l.ledger ≤ 2 ^ 20
-  pub total : l.total ≤ 2 ^ 40
+  pub ledger : l.ledger ≤ most_held
+  pub total : l.total ≤ most_hits
 
 -- the most snapshots, and the most plans, of a history
 abbrev pub most_snapshots : ℕ

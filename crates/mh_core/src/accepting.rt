@@ -1,6 +1,7 @@
 //! How a machine takes an event that passes its tests: all growths come first, and then nothing can fail.
 
-ghost use Rattle.std.specs.Prelude.{◌≡◌, ◌<◌, ℕ, List, ◌∷◌, length, IfOk, OnOk, OnErr};
+ghost use Rattle.std.specs.Prelude.{◌≡◌, ◌<◌, ℕ, List, ◌∷◌, length, IfOk, IsOk, OnOk, OnErr};
+ghost use Rattle.mh_eval.specs.Entered.{EntersPlain};
 ghost use Rattle.mh_type.specs.Fits.{Fits};
 ghost use Rattle.mh_ledger.specs.Ledgers.{ledger_at};
 ghost use Rattle.mh_site.specs.Defined.{site_at};
@@ -9,7 +10,9 @@ ghost use Rattle.mh_core.specs.Books.{AreLedgers};
 ghost use Rattle.mh_core.specs.declared.event.Event.{Event};
 ghost use Rattle.mh_core.specs.declared.event.Event.TheVariants.{Call, Flush, Target, Invalidate, Snapshot, Publish, Install};
 ghost use Rattle.mh_core.specs.declared.reply.Reply.TheVariants.{Called};
-ghost use Rattle.mh_core.specs.Legal.{tests, answer, answer_of_call, extended, HasRoom};
+ghost use Rattle.mh_core.specs.Installations.{linked as linked_of};
+ghost use Rattle.mh_core.specs.Legal.{tests, answer, answer_of_call, extended, HasRoom, TakesNoMemory};
+ghost use Rattle.mh_core.specs.Records.{valid_points};
 ghost use Rattle.mh_core.specs.Tests.{Passes};
 
 use crate::arguments::Arguments;
@@ -33,6 +36,7 @@ impl Machine {
         ensures reply { IfOk result (λ reply. reply ≡ answer self.old.setting self.old.history event) }
         ensures taken { OnOk result (self.new ≡ extended self.old event) }
         ensures refused { OnErr result (self.new ≡ self.old) }
+        ensures memory { TakesNoMemory self.old.setting self.old.history event → IsOk result }
     {
         match event {
             Event::Call {
@@ -59,13 +63,13 @@ impl Machine {
         ensures reply { IfOk result (λ reply. reply ≡ answer self.old.setting self.old.history (Call worker site arguments)) }
         ensures taken { OnOk result (self.new ≡ extended self.old (Call worker site arguments)) }
         ensures refused { OnErr result (self.new ≡ self.old) }
+        ensures memory { TakesNoMemory self.old.setting self.old.history (Call worker site arguments) → IsOk result }
     {
-        self.calls.reserve(1)?;
         let values = arguments.as_slice();
-        let (outcome, steps) = evaluated(&mut self.stack, &self.book, site, values)?;
+        let (outcome, steps) = evaluate_call(&mut self.stack, &self.book, site, values)?;
         count_hit(&mut self.ledgers, &self.book, worker, site, values);
         let place = self.book.records().len();
-        self.calls.push_reserved(AcceptedCall {
+        self.calls.add(AcceptedCall {
             place,
             worker,
             site,
@@ -164,7 +168,7 @@ fn count_hit(ledgers: &mut Vec<Ledger>, book: &Book, worker: u32, site: usize, a
 }
 
 // What a site's linked tree gives on arguments that fit.
-fn evaluated(
+fn evaluate_call(
     stack: &mut Stack,
     book: &Book,
     site: usize,
@@ -173,6 +177,7 @@ fn evaluated(
     requires inside { site < length book.now.definition.sites }
     requires fits { Fits (site_at book.now.definition site).method_type arguments.now }
     ensures answer { IfOk result (λ p. Called p.0 p.1 ≡ answer_of_call book.now.definition book.now.records site arguments.now) }
+    ensures memory { EntersPlain (valid_points book.now.definition book.now.records) (linked_of book.now.definition book.now.records site).tree arguments.now → IsOk result }
 {
     let world = book.world();
     // Read for what a tree keeps.

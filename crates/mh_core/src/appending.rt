@@ -11,7 +11,7 @@ ghost use Rattle.mh_core.specs.Tests.{Passes};
 
 use crate::book::Book;
 use crate::fault::NoMemory;
-use crate::hits::counted;
+use crate::hits::hits_of;
 use crate::install_report::InstallReport;
 use crate::plan::{PublishedPlan, SharedPlan};
 use crate::record::Record;
@@ -32,7 +32,7 @@ impl Book {
         ensures kept { OnErr result (ledger.new ≡ ledger.old) }
     {
         let worker = ledger.worker();
-        let hits = counted(self.alloc, ledger.unflushed_hits())?;
+        let hits = hits_of(self.alloc, ledger.unflushed_hits())?;
         self.records.reserve(1)?;
         // The tests saw that the totals have room.
         let _room = self.totals.flush(ledger);

@@ -4,7 +4,7 @@ ghost use Rattle.std.specs.Prelude.{◌≡◌, ◌<◌, ◌↔◌, length, true,
 ghost use Rattle.mh_type.specs.Fits.{Fits};
 ghost use Rattle.mh_site.specs.Defined.{site_at};
 ghost use Rattle.mh_core.specs.declared.event.Event.TheVariants.{Call, Flush};
-ghost use Rattle.mh_core.specs.Legal.{tests, HasRoom};
+ghost use Rattle.mh_core.specs.Legal.{tests, HasRoom, TakesNoMemory};
 ghost use Rattle.mh_core.specs.Tests.{Passes, Refuses};
 
 use crate::arguments::Arguments;
@@ -20,6 +20,7 @@ impl Machine {
     pub(crate) fn test(&self, event: &Event) -> Result<(), Refusal>
         ensures passes { OnOk result (Passes (tests self.now.setting self.now.history event.now)) }
         ensures refuses { IfErr result (λ told. Refuses (tests self.now.setting self.now.history event.now) told) }
+        ensures memory { TakesNoMemory self.now.setting self.now.history event.now → IfErr result (λ told. told ≡ Refusal.NoMemory → ⊥) }
     {
         let calls = self.calls.len();
         match event {
@@ -40,6 +41,7 @@ impl Machine {
     fn test_call(&self, worker: u32, site: usize, arguments: &Arguments) -> Result<(), Refusal>
         ensures passes { OnOk result (Passes (tests self.now.setting self.now.history (Call worker site arguments.now))) }
         ensures refuses { IfErr result (λ told. Refuses (tests self.now.setting self.now.history (Call worker site arguments.now)) told) }
+        ensures memory { IfErr result (λ told. told ≡ Refusal.NoMemory → ⊥) }
     {
         let definition = self.book.definition();
         if worker >= self.workers {

@@ -1,16 +1,16 @@
-//! Calls that a machine accepted.
+//! Calls that a machine accepted, as its history has them.
 
 use crate::arguments::Arguments;
 
 /// An accepted call, and its place among the records of the machine's book.
 #[derive(Drop)]
-pub struct AcceptedCall {
+pub(crate) struct AcceptedCall {
     /// How many records were there when it was accepted.
-    pub place: usize,
+    pub(crate) place: usize,
     /// The worker that called.
-    pub worker: u32,
+    pub(crate) worker: u32,
     /// The site that was called.
-    pub site: usize,
+    pub(crate) site: usize,
     /// The arguments.
-    pub arguments: Arguments,
+    pub(crate) arguments: Arguments,
 }

@@ -46,7 +46,7 @@ fn place_of(links: &[Link], key: &Value) -> Option<usize>
 }
 
 // The links that were hit, each with its number of hits, where each link has this number.
-pub(crate) fn counted(alloc: Global, counts: &[u64]) -> Result<Listing<(usize, u64)>, NoMemory>
+pub(crate) fn hits_of(alloc: Global, counts: &[u64]) -> Result<Listing<(usize, u64)>, NoMemory>
     ensures value { IfOk result (λ hits. hits ≡ hits_in counts.now) }
 {
     let mut hits = Vec::new(alloc);

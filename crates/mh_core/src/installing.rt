@@ -107,17 +107,17 @@ impl Book {
         ensures value { IfOk result (λ r. r ≡ relinked self.now.definition self.now.records plan site) }
     {
         let kept = self.usable(plan, site);
-        let linked = self.cached(plan, site, kept.as_slice())?;
+        let linked = self.make_cache(plan, site, kept.as_slice())?;
         Ok(Relinking::new(site, linked, kept))
     }
 
     // The inline cache of the usable links of a site over its base tree.
-    fn cached(&self, plan: usize, site: usize, links: &[usize]) -> Result<Prepared, NoMemory>
+    fn make_cache(&self, plan: usize, site: usize, links: &[usize]) -> Result<Prepared, NoMemory>
         requires inside { site < length self.now.definition.sites }
         requires usable { links.now ≡ usable_of self.now.definition self.now.records plan site }
         ensures value { IfOk result (λ p. p ≡ cached self.now.definition site (base self.now.definition self.now.records site) links.now) }
     {
-        let base = prepared(self.world.base(site).handle())?;
+        let base = prepare(self.world.base(site).handle())?;
         let Some(key_place) = self.definition.key(site) else {
             return Ok(base);
         };
@@ -248,7 +248,7 @@ fn linkage(links: &[usize]) -> Linkage
 }
 
 // A tree with its code.
-fn prepared(handle: &Handle) -> Result<Prepared, NoMemory>
+fn prepare(handle: &Handle) -> Result<Prepared, NoMemory>
     ensures value { IfOk result (λ p. p ≡ handle.now) }
 {
     Prepared::new(handle).map_err(|_| NoMemory)

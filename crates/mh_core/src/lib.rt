@@ -20,6 +20,7 @@ mod arguments;
 mod asking;
 mod book;
 mod call;
+mod call_history;
 mod event;
 mod fault;
 mod hits;
@@ -39,7 +40,6 @@ mod testing;
 
 pub use arguments::Arguments;
 pub use book::Book;
-pub use call::AcceptedCall;
 pub use event::Event;
 pub use fault::NoMemory;
 pub use hits::hit_link;

@@ -1,11 +1,12 @@
 //! Machines: a book with the calls of its workers and their ledgers, and the history of all.
 
-ghost use Rattle.std.specs.Prelude.{◌≡◌, ◌+◌, length, reverse, IfOk, OnErr};
-ghost use Rattle.mh_core.specs.Histories.{joined, records};
-ghost use Rattle.mh_core.specs.Legal.{MachineState, Step, Run, opened_machine};
+ghost use Rattle.std.specs.Prelude.{◌≡◌, ◌+◌, length, IfOk, OnErr};
+ghost use Rattle.mh_core.specs.declared.reply.Reply.TheVariants.{Refused};
+ghost use Rattle.mh_core.specs.Histories.{records};
+ghost use Rattle.mh_core.specs.Legal.{MachineState, Step, Run, TakesNoMemory, opened_machine};
 
 use crate::book::Book;
-use crate::call::AcceptedCall;
+use crate::call_history::CallHistory;
 use crate::event::Event;
 use crate::fault::NoMemory;
 use crate::limits::Limits;
@@ -19,20 +20,20 @@ use std::marker::Model;
 
 /// A book with the ledgers of its workers, and the history of its accepted events with the workers' calls.
 ///
-/// A contract sees what does not change, and the history, newest first. The history is kept once: as the
-/// book's records, and beside them the calls, each with the number of records before it.
+/// A contract sees what does not change, and the history, newest first: the book's records with the calls
+/// among them. Of the calls their number is kept, and the hits in the ledgers; all else of them stands in
+/// the proofs alone, so that a call takes no memory that stays.
 #[derive(Drop)]
 pub struct Machine {
     pub(crate) alloc: Global,
     pub(crate) book: Book,
     pub(crate) workers: u32,
     pub(crate) ledgers: Vec<Ledger>,
-    pub(crate) calls: Vec<AcceptedCall>,
+    pub(crate) calls: CallHistory,
     pub(crate) stack: Stack,
 }
 
 impl Model for Machine {
-    ghost use Rattle.std.specs.Prelude.{reverse};
     ghost use Rattle.mh_core.specs.Books.{IsMachine};
     ghost use Rattle.mh_core.specs.Legal.{MachineState};
     ghost use Rattle.mh_core.specs.Codes.{coded_machine};
@@ -45,7 +46,7 @@ impl Model for Machine {
 
     ghost view = { machine_state };
 
-    ghost invariant = { λ m. IsMachine m.book (reverse m.calls.items) m.workers m.ledgers.items (machine_state m).history };
+    ghost invariant = { λ m. IsMachine m.book m.calls m.workers m.ledgers.items (machine_state m).history };
 }
 
 impl Machine {
@@ -66,7 +67,7 @@ impl Machine {
             book,
             workers,
             ledgers,
-            calls: Vec::new(alloc),
+            calls: CallHistory::new(),
             stack,
         })
     }
@@ -80,12 +81,11 @@ impl Machine {
         &self.book
     }
 
-    /// The accepted calls, oldest first, each with its place among the book's records: with these they are
-    /// the history.
-    pub fn calls(&self) -> &[AcceptedCall]
-        ensures value { joined (reverse result.now) (records self.now.setting.definition self.now.history) ≡ self.now.history }
+    /// The number of accepted calls.
+    pub fn calls(&self) -> usize
+        ensures count { length (records self.now.setting.definition self.now.history) + result ≡ length self.now.history }
     {
-        self.calls.as_slice()
+        self.calls.len()
     }
 
     /// The number of accepted events.
@@ -102,10 +102,12 @@ impl Machine {
         self.workers
     }
 
-    /// Answers one event. Where a test fails or memory is refused, nothing changes.
+    /// Answers one event. Where a test fails or memory is refused, nothing changes. A call of which no node that
+    /// is entered has String in its type is not refused with `NoMemory`.
     pub fn step(&mut self, event: Event) -> Reply
         ensures step { Step self.old.setting self.old.history event result self.new.history }
         ensures setting { self.new.setting ≡ self.old.setting }
+        ensures memory { TakesNoMemory self.old.setting self.old.history event → result ≡ Refused Refusal.NoMemory → ⊥ }
     {
         if let Err(told) = self.test(&event) {
             return Reply::Refused(told);

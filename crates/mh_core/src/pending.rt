@@ -118,7 +118,7 @@ impl Book {
         ensures same { SameBook self.old self.new }
         ensures refused { OnErr result (self.new ≡ self.old) }
     {
-        let base = another(&tree)?;
+        let base = share(&tree)?;
         let control = Control::Target(Retargeting::new(site, base)?);
         self.records.reserve(1)?;
         let entry = Record::Targeted { site, tree };
@@ -139,7 +139,7 @@ impl Book {
         ensures same { SameBook self.old self.new }
         ensures refused { OnErr result (self.new ≡ self.old) }
     {
-        let recorded = copied(self.alloc, &points)?;
+        let recorded = copy_numbers(self.alloc, &points)?;
         self.records.reserve(1)?;
         let entry = Record::Invalidated { points: recorded };
         let control = Control::Invalidate(Points::new(points.into_vec()));
@@ -175,14 +175,14 @@ impl Book {
 }
 
 // Another owner of a tree.
-fn another(tree: &Declared) -> Result<Declared, NoMemory>
+fn share(tree: &Declared) -> Result<Declared, NoMemory>
     ensures value { IfOk result (λ t. t ≡ tree.now) }
 {
     tree.share().map_err(|_| NoMemory)
 }
 
 // The same numbers.
-fn copied(alloc: Global, numbers: &Listing<u32>) -> Result<Listing<u32>, NoMemory>
+fn copy_numbers(alloc: Global, numbers: &Listing<u32>) -> Result<Listing<u32>, NoMemory>
     ensures value { IfOk result (λ copied. copied ≡ numbers.now) }
 {
     let items = numbers.as_slice().to_vec(alloc)?;

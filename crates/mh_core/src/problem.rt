@@ -7,6 +7,7 @@ ghost use Rattle.mh_network.specs.Tests.{Passes};
 ghost use Rattle.mh_ledger.specs.Ledgers.{at};
 ghost use Rattle.mh_site.specs.Lawful.{IsDefinition};
 ghost use Rattle.mh_site.specs.Links.{links as links_of, link_at};
+ghost use Rattle.mh_core.specs.Limits.{most_gains, most_hits};
 ghost use Rattle.mh_core.specs.Records.{numbers};
 ghost use Rattle.mh_core.specs.Tables.{are_valid, row_in};
 
@@ -24,8 +25,8 @@ pub(crate) fn make_problem(
 ) -> Result<Problem, NoMemory>
     requires lawful { IsDefinition definition.now }
     requires links { length totals.now ≡ length (links_of definition.now) }
-    requires few { All (λ n. n ≤ 2 ^ 40) totals.now }
-    requires gains { sum_by kept_gain (map (row_in definition.now totals.now valid.now) (numbers (length (links_of definition.now)))) ≤ 2 ^ 62 }
+    requires few { All (λ n. n ≤ most_hits) totals.now }
+    requires gains { sum_by kept_gain (map (row_in definition.now totals.now valid.now) (numbers (length (links_of definition.now)))) ≤ most_gains }
     ensures value { IfOk result (λ p. p ≡ problem_of (map (row_in definition.now totals.now valid.now) (numbers (length (links_of definition.now)))) (map (λ p. p.cost) definition.now.points)) }
 {
     let rows = make_rows(alloc, definition, totals, valid)?;
@@ -50,7 +51,7 @@ fn make_rows(
     valid: &[bool],
 ) -> Result<Vec<LinkRow>, NoMemory>
     requires links { length totals.now ≡ length (links_of definition.now) }
-    requires few { All (λ n. n ≤ 2 ^ 40) totals.now }
+    requires few { All (λ n. n ≤ most_hits) totals.now }
     ensures value { IfOk result (λ v. v.items ≡ map (row_in definition.now totals.now valid.now) (numbers (length (links_of definition.now)))) }
 {
     let mut rows = Vec::new(alloc);
@@ -69,7 +70,7 @@ fn make_row(
 ) -> Result<LinkRow, NoMemory>
     requires inside { link < length (links_of definition.now) }
     requires links { length totals.now ≡ length (links_of definition.now) }
-    requires few { All (λ n. n ≤ 2 ^ 40) totals.now }
+    requires few { All (λ n. n ≤ most_hits) totals.now }
     ensures value { IfOk result (λ row. row ≡ row_in definition.now totals.now valid.now link) }
 {
     let declared = link_of(definition, link);
@@ -95,8 +96,8 @@ fn make_costs(alloc: Global, definition: &Definition) -> Result<Vec<u64>, NoMemo
 // nothing wraps.
 pub(crate) fn gains_fit(definition: &Definition, totals: &[u64], valid: &[bool]) -> bool
     requires links { length totals.now ≡ length (links_of definition.now) }
-    requires few { All (λ n. n ≤ 2 ^ 40) totals.now }
-    ensures decides { IsTrue result ↔ (sum_by kept_gain (map (row_in definition.now totals.now valid.now) (numbers (length (links_of definition.now)))) ≤ 2 ^ 62) }
+    requires few { All (λ n. n ≤ most_hits) totals.now }
+    ensures decides { IsTrue result ↔ (sum_by kept_gain (map (row_in definition.now totals.now valid.now) (numbers (length (links_of definition.now)))) ≤ most_gains) }
 {
     let mut sum: u64 = 0;
     for link in 0..definition.link_count() {
@@ -109,7 +110,7 @@ pub(crate) fn gains_fit(definition: &Definition, totals: &[u64], valid: &[bool])
 fn gain(definition: &Definition, totals: &[u64], valid: &[bool], link: usize) -> u64
     requires inside { link < length (links_of definition.now) }
     requires links { length totals.now ≡ length (links_of definition.now) }
-    requires few { All (λ n. n ≤ 2 ^ 40) totals.now }
+    requires few { All (λ n. n ≤ most_hits) totals.now }
     ensures value { result ≡ kept_gain (row_in definition.now totals.now valid.now link) }
 {
     let declared = link_of(definition, link);

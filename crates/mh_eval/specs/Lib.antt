@@ -1,5 +1,6 @@
 pub mod Answers
 pub mod Entered
+pub mod Entering
 pub mod Frames
 pub mod Height
 pub mod Quiet

@@ -18,7 +18,7 @@ use crate::fault::NoMemory;
 use crate::frames::{
     put, put_copies, put_first, put_inserted, put_reordered, put_taken_out, put_values,
 };
-use crate::operations::{operate, shared};
+use crate::operations::{operate, share};
 use crate::stack::Stack;
 use mh_tree::{Handle, Node};
 use mh_type::{Kind, MethodType, Op, Outcome, Value};
@@ -99,8 +99,8 @@ fn run(
     ensures room { vec_capacity stack.old ≤ vec_capacity stack.new }
 {
     match node {
-        Node::Constant(value) => (shared(value), 1),
-        Node::Identity(_) => (shared(&stack[from]), 1),
+        Node::Constant(value) => (share(value), 1),
+        Node::Identity(_) => (share(&stack[from]), 1),
         Node::Operation(op) => (run_operation(alloc, *op, arguments_from(stack, from)), 1),
         Node::Insert {
             target,

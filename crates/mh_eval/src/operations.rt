@@ -62,7 +62,7 @@ fn long_less(first: &Value, second: &Value) -> bool
 
 // The other truth value.
 #[inline(always)]
-fn negated(first: &Value, second: &Value) -> bool
+fn negate(first: &Value, second: &Value) -> bool
     ensures value { outcome_of Op.Not (first.now ∷ second.now ∷ []) ≡ Outcome.Value (Value.Boolean result) }
 {
     match first {
@@ -103,7 +103,7 @@ pub(crate) fn truth(op: Op, first: &Value, second: &Value) -> Option<bool>
         Op::Ilt => Some(int_less(first, second)),
         Op::Leq => Some(long_equal(first, second)),
         Op::Llt => Some(long_less(first, second)),
-        Op::Not => Some(negated(first, second)),
+        Op::Not => Some(negate(first, second)),
         Op::Beq => Some(truth_equal(first, second)),
         Op::Seq => Some(text_equal(first, second)),
         _ => None,
@@ -159,7 +159,7 @@ pub(crate) fn operate(alloc: Global, op: Op, first: &Value, second: &Value) -> A
         Op::Ilt => Answer::Boolean(int_less(first, second)),
         Op::Leq => Answer::Boolean(long_equal(first, second)),
         Op::Llt => Answer::Boolean(long_less(first, second)),
-        Op::Not => Answer::Boolean(negated(first, second)),
+        Op::Not => Answer::Boolean(negate(first, second)),
         Op::Beq => Answer::Boolean(truth_equal(first, second)),
         Op::Seq => Answer::Boolean(text_equal(first, second)),
     }
@@ -239,7 +239,7 @@ fn concat(alloc: Global, some: &Text, more: &Text) -> Answer
 
 // Another owner of a value.
 #[inline(always)]
-pub(crate) fn shared(value: &Value) -> Answer
+pub(crate) fn share(value: &Value) -> Answer
     ensures value { Gives result (Outcome.Value value.now) }
     ensures quiet { (kind_of value.now ≡ Kind.Text → ⊥) → IsAnswered result }
 {
@@ -247,13 +247,13 @@ pub(crate) fn shared(value: &Value) -> Answer
         Value::Int(number) => Answer::Int(*number),
         Value::Long(number) => Answer::Long(*number),
         Value::Boolean(truth) => Answer::Boolean(*truth),
-        Value::Text(text) => shared_text(text),
+        Value::Text(text) => share_text(text),
     }
 }
 
 // Another owner of a text.
 #[inline(never)]
-fn shared_text(text: &Text) -> Answer
+fn share_text(text: &Text) -> Answer
     ensures value { Gives result (Outcome.Value (Value.Text text.now)) }
 {
     match text.share() {

@@ -20,6 +20,7 @@ use mh_type::{Outcome, Value};
 /// parameters. A throw of any part that runs is the outcome, and nothing after it runs. Refused with
 /// `NoMemory` alone, and not where no node that is entered has String in its type; the stack is as
 /// before.
+#[inline(always)]
 pub fn run(
     stack: &mut Stack,
     valid: &[bool],

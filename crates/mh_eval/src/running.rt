@@ -1,19 +1,44 @@
 //! Running prepared code on the stack.
 
-ghost use Rattle.std.specs.Prelude.{◌≡◌, ◌+◌, ◌≤◌, length, vec_capacity};
-ghost use Rattle.mh_eval.specs.Answers.{Ran, PushedBy, IsPushed};
+ghost use Rattle.std.specs.Prelude.{◌≡◌, ◌+◌, ◌≤◌, ◌∷◌, [], length, take, vec_capacity, IfOk, IfErr};
+ghost use Rattle.mh_eval.specs.Answers.{Gives, Ran, PushedBy, IsPushed};
+ghost use Rattle.mh_tree.specs.Code.{bind, branch};
 ghost use Rattle.mh_tree.specs.CodeOf.{code_of};
+ghost use Rattle.mh_eval.specs.Entering.{Leaves, EndsWith};
 ghost use Rattle.mh_eval.specs.Quiet.{IsAnswered, IsQuiet, deep};
-ghost use Rattle.mh_tree.specs.Running.{run_code as code_outcome, code_steps, weight};
-ghost use Rattle.mh_tree.specs.Scoped.{IsScoped};
+ghost use Rattle.mh_tree.specs.Running.{run_code as code_outcome, code_steps, value_of, weight};
+ghost use Rattle.mh_tree.specs.Scoped.{IsIn, IsScoped};
+ghost use Rattle.mh_type.specs.Operations.{operate as outcome_of};
 
 use crate::answer::{Answer, Pushed};
-use crate::operations::{operate, shared};
+use crate::operations::{operate, share};
 use crate::reading::read;
 use crate::walking::walk;
-use mh_tree::Piece;
-use mh_type::Value;
+use mh_tree::{Operand, Piece};
+use mh_type::{Op, Value};
 use std::alloc::Global;
+
+// The answer of an operation on two operands.
+#[inline(always)]
+fn apply(
+    alloc: Global,
+    arguments: &[Value],
+    stack: &Vec<Value>,
+    op: &Op,
+    first: &Operand,
+    second: &Operand,
+) -> Answer
+    requires first { IsIn (length arguments.now) (length stack.now.items) first.now }
+    requires second { IsIn (length arguments.now) (length stack.now.items) second.now }
+    ensures value { Gives result (outcome_of op.now
+        (value_of arguments.now stack.now.items first.now
+        ∷ value_of arguments.now stack.now.items second.now ∷ [])) }
+    ensures quiet { (op.now ≡ Op.Concat → ⊥) → IsAnswered result }
+{
+    let first = read(arguments, stack.as_slice(), first);
+    let second = read(arguments, stack.as_slice(), second);
+    operate(alloc, *op, first, second)
+}
 
 // The answer of prepared code on arguments, below the locals on the stack, and the steps so far. Where only
 // points, branches on one operation and a leaf run, nothing is called and no local is put.
@@ -37,7 +62,7 @@ pub(crate) fn run_code(
     let (node, total) = walk(stack.as_slice(), valid, code, arguments, before);
     match node {
         Piece::Leaf { operand, steps } => {
-            let answer = shared(read(arguments, stack.as_slice(), operand));
+            let answer = share(read(arguments, stack.as_slice(), operand));
             (answer, total + u64::from(*steps))
         }
         Piece::Apply {
@@ -46,16 +71,14 @@ pub(crate) fn run_code(
             second,
             steps,
         } => {
-            let first = read(arguments, stack.as_slice(), first);
-            let second = read(arguments, stack.as_slice(), second);
-            let answer = operate(alloc, *op, first, second);
+            let answer = apply(alloc, arguments, stack, op, first, second);
             (answer, total + u64::from(*steps))
         }
         _ => run_on(alloc, stack, valid, node, arguments, total),
     }
 }
 
-// The same, with locals. Its own last parts run in the loop, so that their answers are copied once.
+// The same, with locals. Its last parts run in the loop, so that their answers pass through no further call.
 #[inline(never)]
 #[cycle(run_on)]
 fn run_on(
@@ -78,79 +101,145 @@ fn run_on(
     let mut node = code;
     let mut total = before;
     loop {
-        let (next, so_far) = walk(stack.as_slice(), valid, node, arguments, total);
+        let (piece, so_far) = walk(stack.as_slice(), valid, node, arguments, total);
+        let (next, after) = enter(alloc, stack, valid, piece, arguments, so_far);
         match next {
-            Piece::Leaf { operand, steps } => {
-                let answer = shared(read(arguments, stack.as_slice(), operand));
+            Ok(next) => node = next,
+            Err(answer) => {
                 stack.truncate(depth);
-                return (answer, so_far + u64::from(*steps));
-            }
-            Piece::Apply {
-                op,
-                first,
-                second,
-                steps,
-            } => {
-                let first = read(arguments, stack.as_slice(), first);
-                let second = read(arguments, stack.as_slice(), second);
-                let answer = operate(alloc, *op, first, second);
-                stack.truncate(depth);
-                return (answer, so_far + u64::from(*steps));
-            }
-            Piece::Bind { first, then, steps } => {
-                let entered = so_far + u64::from(*steps);
-                let (pushed, after) = push_first(alloc, stack, valid, first, arguments, entered);
-                match pushed {
-                    Pushed::Value => {
-                        node = then;
-                        total = after;
-                    }
-                    Pushed::Thrown(throw) => {
-                        stack.truncate(depth);
-                        return (Answer::Thrown(throw), after);
-                    }
-                    Pushed::NoMemory => {
-                        stack.truncate(depth);
-                        return (Answer::NoMemory, after);
-                    }
-                }
-            }
-            Piece::Branch {
-                test,
-                target,
-                fallback,
-                steps,
-            } => {
-                let entered = so_far + u64::from(*steps);
-                let (answer, after) = run_on(alloc, stack, valid, test, arguments, entered);
-                node = match answer {
-                    Answer::Boolean(true) => target,
-                    Answer::Thrown(throw) => {
-                        stack.truncate(depth);
-                        return (Answer::Thrown(throw), after);
-                    }
-                    Answer::NoMemory => {
-                        stack.truncate(depth);
-                        return (Answer::NoMemory, after);
-                    }
-                    _ => fallback,
-                };
-                total = after;
-            }
-            Piece::Point {
-                point,
-                target,
-                fallback,
-                steps,
-            } => {
-                total = so_far + u64::from(*steps);
-                node = if valid[*point as usize] {
-                    target
-                } else {
-                    fallback
-                };
+                return (answer, after);
             }
         }
+        total = after;
+    }
+}
+
+// The piece that is left to run once a piece is entered, or the answer that ends it, and the steps.
+// A first part that ran has put its value on the stack.
+#[inline(always)]
+#[cycle(run_on)]
+fn enter<'a>(
+    alloc: Global,
+    stack: &mut Vec<Value>,
+    valid: &[bool],
+    piece: &'a Piece,
+    arguments: &[Value],
+    before: u64,
+) -> (Result<&'a Piece, Answer>, u64)
+    requires scoped { IsScoped (length valid.now) (length arguments.now) (length stack.old.items)
+        (code_of piece.now) }
+    requires few { before + weight (code_of piece.now) ≤ 262144 }
+    ensures left { IfOk result.0 (λ p. Leaves valid.now arguments.now
+        (code_of piece.now) stack.old.items before (code_of p.now) stack.new.items result.1) }
+    ensures ends { IfErr result.0 (λ r. EndsWith valid.now arguments.now
+        (code_of piece.now) stack.old.items before (vec_capacity stack.old) r result.1) }
+    ensures kept { take (length stack.old.items) stack.new.items ≡ stack.old.items }
+    ensures room { vec_capacity stack.old ≤ vec_capacity stack.new }
+{
+    match piece {
+        Piece::Leaf { operand, steps } => {
+            let answer = share(read(arguments, stack.as_slice(), operand));
+            (Err(answer), before + u64::from(*steps))
+        }
+        Piece::Apply {
+            op,
+            first,
+            second,
+            steps,
+        } => {
+            let answer = apply(alloc, arguments, stack, op, first, second);
+            (Err(answer), before + u64::from(*steps))
+        }
+        Piece::Bind { first, then, steps } => {
+            let used = before + u64::from(*steps);
+            enter_bind(alloc, stack, valid, first, then, arguments, used)
+        }
+        Piece::Branch {
+            test,
+            target,
+            fallback,
+            steps,
+        } => {
+            let used = before + u64::from(*steps);
+            enter_branch(alloc, stack, valid, test, target, fallback, arguments, used)
+        }
+        Piece::Point {
+            point,
+            target,
+            fallback,
+            steps,
+        } => {
+            let is_valid = valid[*point as usize];
+            let next = if is_valid { target } else { fallback };
+            (Ok(next), before + u64::from(*steps))
+        }
+    }
+}
+
+// The same of a first piece and then a second, whose own steps are among those so far.
+#[inline(always)]
+#[cycle(run_on)]
+fn enter_bind<'a>(
+    alloc: Global,
+    stack: &mut Vec<Value>,
+    valid: &[bool],
+    first: &Piece,
+    then: &'a Piece,
+    arguments: &[Value],
+    before: u64,
+) -> (Result<&'a Piece, Answer>, u64)
+    requires scoped { IsScoped (length valid.now) (length arguments.now) (length stack.old.items)
+        (bind 0 (code_of first.now) (code_of then.now)) }
+    requires few { before + weight (bind 0 (code_of first.now) (code_of then.now)) ≤ 262144 }
+    ensures left { IfOk result.0 (λ p. Leaves valid.now arguments.now
+        (bind 0 (code_of first.now) (code_of then.now))
+        stack.old.items before (code_of p.now) stack.new.items result.1) }
+    ensures ends { IfErr result.0 (λ r. EndsWith valid.now arguments.now
+        (bind 0 (code_of first.now) (code_of then.now))
+        stack.old.items before (vec_capacity stack.old) r result.1) }
+    ensures kept { take (length stack.old.items) stack.new.items ≡ stack.old.items }
+    ensures room { vec_capacity stack.old ≤ vec_capacity stack.new }
+{
+    let (pushed, after) = push_first(alloc, stack, valid, first, arguments, before);
+    match pushed {
+        Pushed::Value => (Ok(then), after),
+        Pushed::Thrown(throw) => (Err(Answer::Thrown(throw)), after),
+        Pushed::NoMemory => (Err(Answer::NoMemory), after),
+    }
+}
+
+// The same of one of two pieces, by a test; the own steps are among those so far.
+#[inline(always)]
+#[cycle(run_on)]
+fn enter_branch<'a>(
+    alloc: Global,
+    stack: &mut Vec<Value>,
+    valid: &[bool],
+    test: &Piece,
+    target: &'a Piece,
+    fallback: &'a Piece,
+    arguments: &[Value],
+    before: u64,
+) -> (Result<&'a Piece, Answer>, u64)
+    requires scoped { IsScoped (length valid.now) (length arguments.now) (length stack.old.items)
+        (branch 0 (code_of test.now) (code_of target.now) (code_of fallback.now)) }
+    requires few { before + weight
+        (branch 0 (code_of test.now) (code_of target.now) (code_of fallback.now)) ≤ 262144 }
+    ensures left { IfOk result.0 (λ p. Leaves valid.now arguments.now
+        (branch 0 (code_of test.now) (code_of target.now) (code_of fallback.now))
+        stack.old.items before (code_of p.now) stack.new.items result.1) }
+    ensures ends { IfErr result.0 (λ r. EndsWith valid.now arguments.now
+        (branch 0 (code_of test.now) (code_of target.now) (code_of fallback.now))
+        stack.old.items before (vec_capacity stack.old) r result.1) }
+    ensures kept { stack.new.items ≡ stack.old.items }
+    ensures room { vec_capacity stack.old ≤ vec_capacity stack.new }
+{
+    let (answer, after) = run_on(alloc, stack, valid, test, arguments, before);
+    match answer {
+        Answer::Boolean(true) => (Ok(target), after),
+        Answer::Thrown(throw) => (Err(Answer::Thrown(throw)), after),
+        Answer::NoMemory => (Err(Answer::NoMemory), after),
+        _ => (Ok(fallback), after),
     }
 }
 

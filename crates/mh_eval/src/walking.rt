@@ -1,16 +1,38 @@
 //! The way down to the piece that gives the answer.
 
-ghost use Rattle.std.specs.Prelude.{◌≡◌, ◌+◌, ◌≤◌, length};
+ghost use Rattle.std.specs.Prelude.{◌≡◌, ◌+◌, ◌≤◌, ◌∷◌, [], length, IfSome};
 ghost use Rattle.mh_tree.specs.CodeOf.{code_of};
 ghost use Rattle.mh_eval.specs.Height.{height};
 ghost use Rattle.mh_eval.specs.Quiet.{IsQuiet, deep};
-ghost use Rattle.mh_tree.specs.Running.{run_code, code_steps, weight};
-ghost use Rattle.mh_tree.specs.Scoped.{IsScoped};
+ghost use Rattle.mh_tree.specs.Running.{run_code, code_steps, value_of, weight};
+ghost use Rattle.mh_tree.specs.Scoped.{IsIn, IsScoped};
+ghost use Rattle.mh_type.specs.Operations.{operate as outcome_of};
+ghost use Rattle.mh_type.specs.declared.outcome.Outcome.{Outcome};
 
 use crate::operations::truth;
 use crate::reading::read;
-use mh_tree::Piece;
-use mh_type::Value;
+use mh_tree::{Operand, Piece};
+use mh_type::{Op, Value};
+
+// The truth of an operation that compares two operands.
+#[inline(always)]
+fn compare(
+    arguments: &[Value],
+    locals: &[Value],
+    op: &Op,
+    first: &Operand,
+    second: &Operand,
+) -> Option<bool>
+    requires first { IsIn (length arguments.now) (length locals.now) first.now }
+    requires second { IsIn (length arguments.now) (length locals.now) second.now }
+    ensures value { IfSome result (λ b. outcome_of op.now
+        (value_of arguments.now locals.now first.now
+        ∷ value_of arguments.now locals.now second.now ∷ []) ≡ Outcome.Value (Value.Boolean b)) }
+{
+    let first = read(arguments, locals, first);
+    let second = read(arguments, locals, second);
+    truth(*op, first, second)
+}
 
 // The piece behind points and behind branches whose test is one operation, with the steps so far.
 #[inline(always)]
@@ -41,12 +63,9 @@ pub(crate) fn walk<'a>(
                 fallback,
                 steps,
             } => {
+                let is_valid = valid[*point as usize];
                 total += u64::from(*steps);
-                node = if valid[*point as usize] {
-                    target
-                } else {
-                    fallback
-                };
+                node = if is_valid { target } else { fallback };
             }
             Piece::Branch {
                 test,
@@ -63,9 +82,7 @@ pub(crate) fn walk<'a>(
                 else {
                     return (node, total);
                 };
-                let first = read(arguments, locals, first);
-                let second = read(arguments, locals, second);
-                let Some(holds) = truth(*op, first, second) else {
+                let Some(holds) = compare(arguments, locals, op, first, second) else {
                     return (node, total);
                 };
                 total += u64::from(*steps) + u64::from(*more);

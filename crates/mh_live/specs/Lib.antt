@@ -9,6 +9,7 @@ pub mod Receipts
 pub mod Settled
 pub mod Codes
 pub mod Faults
+pub mod Limits
 pub use Rattle.mh_core.specs.Books
 pub use Rattle.mh_core.specs.Defined
 pub use Rattle.mh_core.specs.Fits

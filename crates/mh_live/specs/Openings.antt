@@ -9,6 +9,7 @@ use Rattle.mh_site.specs.Links.{links}
 use Rattle.mh_site.specs.Worlds.{WorldState, opened}
 use Rattle.mh_core.specs.Books.{BookState, opened_book}
 use Rattle.mh_core.specs.Limits.{LimitsData}
+use Rattle.mh_live.specs.Limits.{most_workers}
 
 -- which list of controls it begins, what is declared, how many workers, and the limits
 pub record OpeningState : Type 0 where
@@ -27,4 +28,4 @@ pub record IsOpening (o : OpeningState) (b : BookState) (ledgers : List LedgerSt
   pub definition_is : d ≡ o.definition
   pub lawful : IsDefinition o.definition
   pub one : 0 < o.workers
-  pub few : o.workers ≤ 64
+  pub few : o.workers ≤ most_workers

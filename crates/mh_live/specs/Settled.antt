@@ -7,6 +7,7 @@ use Rattle.mh_site.specs.Defined.{DefinitionData}
 use Rattle.mh_site.specs.Links.{links}
 use Rattle.mh_site.specs.declared.control.Control.{Control}
 use Rattle.mh_core.specs.Books.{BookState, IsBook}
+use Rattle.mh_live.specs.Limits.{most_hits_of_all}
 use Rattle.mh_live.specs.Offices.{list_of}
 use Rattle.mh_live.specs.Passes.{PassState}
 
@@ -38,7 +39,7 @@ pub record IsSettled (d : DefinitionData) (s : SettledState) : Type 0 where
   pub lawful : IsBook s.book
   pub definition : s.book.definition ≡ d
   pub links_are : length s.unflushed ≡ length (links d)
-  pub within : All (λ n. n ≤ 2 ^ 126) s.unflushed
+  pub within : All (λ n. n ≤ most_hits_of_all) s.unflushed
   pub shows : s.front ≡ list_of s.book
 
 -- what these passes made of each link is its total and what they did not flush

@@ -1,7 +1,8 @@
 //! The one list of controls. It exists in the proofs alone; what threads share is a word, its length.
 
-ghost use Rattle.std.specs.Prelude.{◌≡◌, ◌+◌, ◌<◌, ◌≤◌, ◌^◌, ◌++◌, ◌∷◌, ◌⊎◌, [], length, IfSome, None as none_of};
+ghost use Rattle.std.specs.Prelude.{◌≡◌, ◌+◌, ◌<◌, ◌≤◌, ◌++◌, ◌∷◌, ◌⊎◌, [], length, IfSome, None as none_of};
 ghost use mathlib.Core.List.{IsPrefix};
+ghost use Rattle.mh_live.specs.Limits.{most_controls};
 ghost use Rattle.mh_live.specs.Pasts.{head_of};
 
 use logbook::{Gain, Offer, Plain, Play, Rule, Seen, Start, Word};
@@ -108,7 +109,7 @@ impl Unnamed {
     }
 
     /// The list under its name: the word, and the front without controls.
-    pub fn named<N: Name>(self) -> (Head<N>, Front<N>)
+    pub fn with_name<N: Name>(self) -> (Head<N>, Front<N>)
         requires name { self.past.book ≡ N.book }
         ensures value { result.1 ≡ [] }
     {
@@ -219,8 +220,8 @@ impl<N: Name> Front<N> {
     }
 
     /// The front with the control at its end. None where the list is longer than this front.
-    pub fn extended(&self, head: &Head<N>, mut intent: Intent) -> Option<Front<N>>
-        requires room { length self.now < 2 ^ 62 }
+    pub fn with_control(&self, head: &Head<N>, mut intent: Intent) -> Option<Front<N>>
+        requires room { length self.now < most_controls }
         requires intent { (intent.state ≡ none_of) × (intent.names ≡ []) }
         ensures value { IfSome result (λ f. f ≡ self.now ++ intent.ask ∷ []) }
     {

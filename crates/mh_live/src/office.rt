@@ -168,7 +168,7 @@ impl<N: Name> Office<N> {
         // Read for what a book keeps.
         let _records = self.book.records();
         let Ok(recorded) = plan.share() else {
-            return Err(unshared(&self.book, snapshot));
+            return Err(refusal_of_plan(&self.book, snapshot));
         };
         let number = self.book.publish(snapshot, recorded)?;
         Ok(Receipt::new(Reply::Published { number, plan }, self.front.copy()))
@@ -300,7 +300,7 @@ impl<N: Name> Office<N> {
 }
 
 // What is told of a plan of which no further owner could be made.
-fn unshared(book: &Book, snapshot: usize) -> Refusal
+fn refusal_of_plan(book: &Book, snapshot: usize) -> Refusal
     ensures value { ((result ≡ Refusal.NoSnapshot) × (IsTaken book.now.records snapshot → ⊥)) ⊎ ((result ≡ Refusal.NoMemory) × IsTaken book.now.records snapshot) }
 {
     match book.problem(snapshot) {

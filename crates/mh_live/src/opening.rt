@@ -8,6 +8,7 @@ ghost use Rattle.mh_site.specs.Lawful.{IsDefinition};
 ghost use Rattle.mh_site.specs.Links.{links};
 ghost use Rattle.mh_site.specs.Worlds.{opened};
 ghost use Rattle.mh_core.specs.Books.{opened_book};
+ghost use Rattle.mh_live.specs.Limits.{most_workers};
 ghost use Rattle.mh_live.specs.Passes.{new_pass, new_passes};
 ghost use Rattle.mh_live.specs.Rules.{Stands};
 
@@ -66,7 +67,7 @@ impl Opening {
         workers: u32,
         limits: Limits,
     ) -> Result<Opening, OpenFault>
-        requires workers { (0 < workers) × (workers ≤ 64) }
+        requires workers { (0 < workers) × (workers ≤ most_workers) }
         ensures definition { IfOk result (λ o. o.definition ≡ definition.now) }
         ensures workers { IfOk result (λ o. o.workers ≡ workers) }
         ensures limits { IfOk result (λ o. o.limits ≡ limits) }
@@ -108,7 +109,7 @@ impl Opening {
             workers,
             alloc,
         } = self;
-        let (head, front) = list.named::<N>();
+        let (head, front) = list.with_name::<N>();
         let writer = desk(alloc, first, second, &front, workers as usize)?;
         match seats(alloc, &writer, &front, ledgers, &definition) {
             Ok(passes) => Ok((Live::new(Office::new(book, head, front, writer)), passes)),
@@ -131,7 +132,7 @@ fn desk<N: Name>(
     requires worlds { (first ≡ opened N.definition) × (second ≡ opened N.definition) }
     requires lawful { IsDefinition N.definition }
     requires front { front.now ≡ [] }
-    requires workers { (0 < workers) × (workers ≤ 64) }
+    requires workers { (0 < workers) × (workers ≤ most_workers) }
     ensures writer { IfOk result (λ w. Stands N.book N.definition w.desk.shown.value × (w.desk.shown.value.past.log ≡ []) × (drop w.behind w.log.items ≡ [])) }
 {
     let past = front.past();

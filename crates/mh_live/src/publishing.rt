@@ -1,8 +1,9 @@
 //! How a control reaches the published world.
 
-ghost use Rattle.std.specs.Prelude.{◌≡◌, ◌++◌, ◌∷◌, ◌<◌, ◌^◌, [], drop, fold, length, IfErr, IfOk, MatchBool, MatchResult, OnOk};
+ghost use Rattle.std.specs.Prelude.{◌≡◌, ◌++◌, ◌∷◌, ◌<◌, [], drop, fold, length, IfErr, IfOk, MatchBool, MatchResult, OnOk};
 ghost use Rattle.mh_core.specs.Standing.{AreStanding};
 ghost use Rattle.mh_site.specs.Worlds.{after};
+ghost use Rattle.mh_live.specs.Limits.{most_controls};
 ghost use Rattle.mh_live.specs.Offices.{CanShow};
 ghost use Rattle.mh_live.specs.Rules.{Stands};
 ghost use Rattle.mh_live.specs.Steps.{stepped};
@@ -59,7 +60,7 @@ pub(crate) fn show<N: Name, R: Wait>(
     requires stands { Stands N.book N.definition writer.old.desk.shown.value }
     requires list { writer.old.desk.shown.value.past.log ≡ front.now }
     requires still { drop writer.old.behind writer.old.log.items ≡ [] }
-    requires few { length front.now < 2 ^ 62 }
+    requires few { length front.now < most_controls }
     requires standing { AreStanding N.definition (after writer.old.desk.shown.value.world control) }
     ensures list { IfOk result (λ f. (f ≡ front.now ++ control ∷ []) × (writer.new.desk.shown.value.past.log ≡ f)) }
     ensures stands { Stands N.book N.definition writer.new.desk.shown.value }
@@ -70,7 +71,7 @@ pub(crate) fn show<N: Name, R: Wait>(
     if !append(writer, Step::Change(control)) {
         return Err(Halt::Before);
     }
-    let Some(longer) = front.extended(head, intent) else {
+    let Some(longer) = front.with_control(head, intent) else {
         return Err(Halt::Midway);
     };
     if !append(writer, Step::Stamp(longer.past())) {

@@ -1,8 +1,9 @@
 //! Which passes are back, and what they have not flushed.
 
-ghost use Rattle.std.specs.Prelude.{◌≡◌, ◌<◌, ◌==◌, ◌↔◌, ◌≤◌, ◌^◌, ℕ, length, map, IfErr, IfOk, IsTrue, OnOk};
+ghost use Rattle.std.specs.Prelude.{◌≡◌, ◌<◌, ◌==◌, ◌↔◌, ◌≤◌, ℕ, length, map, IfErr, IfOk, IsTrue, OnOk};
 ghost use Rattle.std.specs.List.{All, count_by, range_with_len};
 ghost use Rattle.mh_ledger.specs.Ledgers.{Holds, IsTotals};
+ghost use Rattle.mh_live.specs.Limits.{most_hits_of_all};
 ghost use Rattle.mh_live.specs.Settled.{AreBack, IsWithin, unflushed_by};
 
 use crate::front::{Front, Name};
@@ -21,7 +22,7 @@ pub(crate) fn unflushed_hits<N: Name>(
     ensures totals { IsTotals office.now.book.totals }
     ensures back { OnOk result (AreBack office.now.book.totals passes.now) }
     ensures value { IfOk result (λ v. v.items ≡ map (unflushed_by passes.now) (range_with_len 0 (length office.now.book.totals.total))) }
-    ensures within { IfOk result (λ v. All (λ n. n ≤ 2 ^ 126) v.items) }
+    ensures within { IfOk result (λ v. All (λ n. n ≤ most_hits_of_all) v.items) }
     ensures missing { (result ≡ Err SettleFault.MissingPass) ↔ (AreBack office.now.book.totals passes.now → ⊥) }
 {
     let totals = office.book().totals();
@@ -44,7 +45,7 @@ fn unflushed_of<N: Name>(totals: &Totals, passes: &[Pass<N>], link: usize) -> u1
     requires back { AreBack totals.now passes.now }
     requires inside { link < length totals.now.total }
     ensures value { result ≡ unflushed_by passes.now link }
-    ensures within { result ≤ 2 ^ 126 }
+    ensures within { result ≤ most_hits_of_all }
 {
     // Read for what totals keep.
     let _links = totals.links();

@@ -1,10 +1,11 @@
 //! What stands once all passes are back.
 
-ghost use Rattle.std.specs.Prelude.{◌≡◌, ◌+◌, ◌<◌, ◌≤◌, ◌^◌, length};
+ghost use Rattle.std.specs.Prelude.{◌≡◌, ◌+◌, ◌<◌, ◌≤◌, length};
 ghost use Rattle.std.specs.List.{All};
 ghost use Rattle.mh_ledger.specs.Ledgers.{at};
 ghost use Rattle.mh_site.specs.Links.{links};
 ghost use Rattle.mh_core.specs.Books.{IsBook};
+ghost use Rattle.mh_live.specs.Limits.{most_hits, most_hits_of_all};
 ghost use Rattle.mh_live.specs.Offices.{list_of};
 ghost use Rattle.mh_live.specs.Settled.{IsSettled};
 
@@ -70,7 +71,7 @@ impl<N: Name> Settled<N> {
     pub fn total(&self, link: usize) -> u64
         requires inside { link < length (links N.definition) }
         ensures value { result ≡ at self.now.book.totals.total link }
-        ensures within { result ≤ 2 ^ 62 }
+        ensures within { result ≤ most_hits }
     {
         let totals = self.book.totals();
         // Read for what totals keep.
@@ -82,7 +83,7 @@ impl<N: Name> Settled<N> {
     pub fn unflushed(&self, link: usize) -> u128
         requires inside { link < length (links N.definition) }
         ensures value { result ≡ at self.now.unflushed link }
-        ensures within { result ≤ 2 ^ 126 }
+        ensures within { result ≤ most_hits_of_all }
     {
         self.unflushed[link]
     }

@@ -11,7 +11,7 @@ ghost use Rattle.mh_pic.specs.Keys.{key_test as key_test_of};
 ghost use Rattle.mh_pic.specs.Specialised.{specialised};
 
 use crate::entry::Entry;
-use crate::fault::{NoMemory, made};
+use crate::fault::{NoMemory, expect_made};
 use crate::key_tests::key_test;
 use crate::specialising::specialise;
 use mh_tree::{Declared, Handle};
@@ -45,12 +45,12 @@ pub fn chain(
     let base = base.handle();
     // The type is the tree's, and has at most 16 parameters.
     let _typed = base.method_type().parameters();
-    let cache = chained(alloc, base, key_place, entries)?;
+    let cache = chain_over(alloc, base, key_place, entries)?;
     Ok(cache)
 }
 
 // The cache over a base that is within the limits of declared trees.
-fn chained(
+fn chain_over(
     alloc: Global,
     base: &Handle,
     key_place: usize,
@@ -64,7 +64,7 @@ fn chained(
         let cache = base.share().map_err(|_| NoMemory)?;
         return Ok(cache);
     };
-    let others = chained(alloc, base, key_place, rest)?;
+    let others = chain_over(alloc, base, key_place, rest)?;
     let cache = link(alloc, base, key_place, entry, &others)?;
     Ok(cache)
 }
@@ -95,7 +95,7 @@ fn link(
     let test = key_test(alloc, before, entry.key())?;
     let target = specialise(alloc, base, entry.needs(), key_place, entry.key())?;
     let target = points(alloc, entry.needs(), &target, base)?;
-    let cache = made(Handle::guard(alloc, &test, &target, others))?;
+    let cache = expect_made(Handle::guard(alloc, &test, &target, others))?;
     Ok(cache)
 }
 
@@ -113,6 +113,6 @@ fn points(alloc: Global, needs: &[u32], target: &Handle, base: &Handle) -> Resul
         return Ok(same);
     };
     let inner = points(alloc, rest, target, base)?;
-    let switched = made(Handle::point(alloc, *need, &inner, base))?;
+    let switched = expect_made(Handle::point(alloc, *need, &inner, base))?;
     Ok(switched)
 }

@@ -11,7 +11,7 @@ use thiserror::Error;
 pub struct NoMemory;
 
 // What a constructor made whose tests all pass: it is refused memory alone.
-pub(crate) fn made<T>(built: Result<T, TreeFault>) -> Result<T, NoMemory>
+pub(crate) fn expect_made<T>(built: Result<T, TreeFault>) -> Result<T, NoMemory>
     requires passed { IfErr built (λ e. e ≡ TreeFault.NoMemory) }
     ensures value { IfOk result (λ h. built ≡ Ok h) }
 {

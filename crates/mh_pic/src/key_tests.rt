@@ -5,7 +5,7 @@ ghost use Rattle.mh_type.specs.declared.kind.Kind.TheVariants as kinds;
 ghost use Rattle.mh_type.specs.Kinds.{kind_of};
 ghost use Rattle.mh_pic.specs.Keys.{equality as equality_of, first_test as first_test_of, key_test as key_test_of};
 
-use crate::fault::{NoMemory, made};
+use crate::fault::{NoMemory, expect_made};
 use mh_tree::Handle;
 use mh_type::{Kind, Op, Value};
 use std::alloc::Global;
@@ -23,7 +23,7 @@ fn equality(kind: Kind) -> Op
 }
 
 // Another owner of a value.
-fn another(value: &Value) -> Result<Value, NoMemory>
+fn share(value: &Value) -> Result<Value, NoMemory>
     ensures value { IfOk result (λ v. v ≡ value.now) }
 {
     value.share().map_err(|_| NoMemory)
@@ -33,9 +33,9 @@ fn another(value: &Value) -> Result<Value, NoMemory>
 fn first_test(alloc: Global, key: &Value) -> Result<Handle, NoMemory>
     ensures value { IfOk result (λ h. h ≡ record { tree = first_test_of key.now; signature = record { ret = kinds.Boolean; parameters = kind_of key.now ∷ [] } }) }
 {
-    let equality = made(Handle::op(alloc, equality(key.kind())))?;
-    let key = another(key)?;
-    let test = made(Handle::insert(alloc, &equality, 1, &[key]))?;
+    let equality = expect_made(Handle::op(alloc, equality(key.kind())))?;
+    let key = share(key)?;
+    let test = expect_made(Handle::insert(alloc, &equality, 1, &[key]))?;
     Ok(test)
 }
 
@@ -48,6 +48,6 @@ pub(crate) fn key_test(alloc: Global, before: &[Kind], key: &Value) -> Result<Ha
     if before.is_empty() {
         return Ok(first);
     }
-    let test = made(Handle::drop(alloc, &first, 0, before))?;
+    let test = expect_made(Handle::drop(alloc, &first, 0, before))?;
     Ok(test)
 }

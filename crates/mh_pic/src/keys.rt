@@ -2,7 +2,7 @@
 
 ghost use Rattle.std.specs.Prelude.{◌≡◌, option_copied};
 ghost use Rattle.mh_tree.specs.TreeOf.{tree_of};
-ghost use Rattle.mh_pic.specs.Keys.{decided as key_decided, equality_kind as kind_of_equality, first_key as first_key_in, key_in as key_in_tree, one_of_kind as one_of};
+ghost use Rattle.mh_pic.specs.Keys.{decided, equality_kind as kind_of_equality, first_key as first_key_in, key_in as key_in_tree, one_of_kind as one_of};
 
 use mh_tree::Node;
 use mh_type::{Kind, Op, Value, same_kinds, same_value};
@@ -75,8 +75,8 @@ pub fn key_in<'a>(node: &'a Node, before: &[Kind]) -> Option<&'a Value>
 
 /// What a key test of this key, if it is one of the other key's kind, answers where the argument is the
 /// other key.
-pub fn decided(key: &Value, tested: Option<&Value>) -> Option<bool>
-    ensures value { result ≡ key_decided key.now (option_copied tested.entry) }
+pub fn decide_by_key(key: &Value, tested: Option<&Value>) -> Option<bool>
+    ensures value { result ≡ decided key.now (option_copied tested.entry) }
 {
     let tested = tested?;
     if tested.kind().is(key.kind()) {

@@ -11,7 +11,7 @@ ghost use Rattle.mh_pic.specs.Keys.{key_test as key_test_of};
 ghost use Rattle.mh_pic.specs.Specialised.{specialised};
 
 use crate::entry::Entry;
-use crate::fault::{NoMemory, made};
+use crate::fault::{NoMemory, expect_made};
 use crate::key_tests::key_test;
 use crate::specialising::specialise;
 use mh_tree::{Handle, Prepared};
@@ -63,16 +63,16 @@ fn link(
 {
     let handle = base.handle();
     let before = &handle.method_type().parameters()[..key_place];
-    let test = prepared(key_test(alloc, before, entry.key())?)?;
+    let test = prepare(key_test(alloc, before, entry.key())?)?;
     let target = specialise(alloc, handle, entry.needs(), key_place, entry.key())?;
-    let target = prepared(target)?;
+    let target = prepare(target)?;
     let target = points(alloc, entry.needs(), &target, base)?;
-    let cache = made(Prepared::guard(alloc, &test, &target, others))?;
+    let cache = expect_made(Prepared::guard(alloc, &test, &target, others))?;
     Ok(cache)
 }
 
 // A handle with its code.
-fn prepared(handle: Handle) -> Result<Prepared, NoMemory>
+fn prepare(handle: Handle) -> Result<Prepared, NoMemory>
     ensures value { IfOk result (λ p. p ≡ handle) }
 {
     Prepared::new(&handle).map_err(|_| NoMemory)
@@ -97,6 +97,6 @@ fn points(
         return Ok(same);
     };
     let inner = points(alloc, rest, target, base)?;
-    let switched = made(Prepared::point(alloc, *need, &inner, base))?;
+    let switched = expect_made(Prepared::point(alloc, *need, &inner, base))?;
     Ok(switched)
 }

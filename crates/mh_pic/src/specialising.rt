@@ -9,7 +9,7 @@ ghost use Rattle.mh_pic.specs.Specialised.{specialised, Serves};
 ghost use Rattle.mh_pic.specs.Outcomes.{made_or};
 
 use crate::fault::NoMemory;
-use crate::keys::{decided, key_in};
+use crate::keys::{decide_by_key, key_in};
 use crate::rebuilding::{guard, owner, point};
 use crate::stripping::strip;
 use mh_tree::{Handle, Node, TreeFault};
@@ -35,12 +35,12 @@ pub fn specialise(
     let before = &handle.method_type().parameters()[..key_place];
     let made = specialise_node(alloc, handle.root(), needs, before, key);
     let made = made.map_err(|_| NoMemory)?;
-    let made = rebuilt(alloc, handle, made)?;
+    let made = rebuild(alloc, handle, made)?;
     Ok(made)
 }
 
 // The tree that was made, as a handle of the old one's type; the old one where none was made.
-fn rebuilt(alloc: Global, old: &Handle, made: Option<Arc<Node>>) -> Result<Handle, NoMemory>
+fn rebuild(alloc: Global, old: &Handle, made: Option<Arc<Node>>) -> Result<Handle, NoMemory>
     requires sound { IsSound (made_or made old.now.tree) old.now.signature }
     ensures value { IfOk result (λ h. h ≡ record { tree = made_or made old.now.tree; signature = old.now.signature }) }
 {
@@ -109,7 +109,7 @@ fn specialise_guard(
         specialised needs.now before.now key.now (guard_tree (tree_of (arc_value test.now)) (tree_of (arc_value target.now)) (tree_of (arc_value fallback.now)))) }
     ensures refused { IfErr result (λ e. e ≡ TreeFault.NoMemory) }
 {
-    match decided(key, key_in(test, before)) {
+    match decide_by_key(key, key_in(test, before)) {
         Some(true) => {
             let made = specialise_node(alloc, target, needs, before, key)?;
             Ok(Some(owner(made, target)?))

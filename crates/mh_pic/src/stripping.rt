@@ -1,8 +1,9 @@
 //! Trees without needed points.
 
 ghost use Rattle.std.specs.Prelude.{◌≡◌, IfOk, IfErr};
+ghost use Rattle.std.specs.Arc.{arc_value};
 ghost use Rattle.mh_tree.specs.TreeOf.{tree_of, filter_trees};
-ghost use Rattle.mh_tree.specs.Tree.{filters_of};
+ghost use Rattle.mh_tree.specs.Tree.{filters_of, filter as filter_tree, filter_return as filter_return_tree, fold as fold_tree, guard as guard_tree, point as point_tree};
 ghost use Rattle.mh_pic.specs.Specialised.{stripped, stripped_filters};
 ghost use Rattle.mh_pic.specs.Outcomes.{made_or};
 
@@ -27,69 +28,133 @@ pub fn strip(alloc: Global, node: &Node, needs: &[u32]) -> Result<Option<Arc<Nod
             target,
             position,
             values,
-        } => {
-            let made = strip(alloc, target, needs)?;
-            insert(alloc, made, *position, values)
-        }
+        } => insert(alloc, strip(alloc, target, needs)?, *position, values),
         Node::Drop {
             target,
             position,
             kinds,
-        } => {
-            let made = strip(alloc, target, needs)?;
-            discard(alloc, made, *position, kinds)
-        }
+        } => discard(alloc, strip(alloc, target, needs)?, *position, kinds),
         Node::Permute {
             target,
             new_type,
             reorder,
-        } => {
-            let made = strip(alloc, target, needs)?;
-            permute(alloc, made, new_type, reorder)
-        }
+        } => permute(alloc, strip(alloc, target, needs)?, new_type, reorder),
         Node::Filter {
             target,
             position,
             filters,
-        } => {
-            let made = strip(alloc, target, needs)?;
-            let filters = strip_filters(alloc, filters, needs)?;
-            filter(alloc, made, target, *position, filters)
-        }
-        Node::FilterReturn { target, filter } => {
-            let made = strip(alloc, target, needs)?;
-            let last = strip(alloc, filter, needs)?;
-            filter_return(alloc, made, target, last, filter)
-        }
-        Node::Fold { target, combiner } => {
-            let made = strip(alloc, target, needs)?;
-            let first = strip(alloc, combiner, needs)?;
-            fold(alloc, made, target, first, combiner)
-        }
+        } => strip_filter(alloc, target, *position, filters, needs),
+        Node::FilterReturn { target, filter } => strip_filter_return(alloc, target, filter, needs),
+        Node::Fold { target, combiner } => strip_fold(alloc, target, combiner, needs),
         Node::Guard {
             test,
             target,
             fallback,
-        } => {
-            let asked = strip(alloc, test, needs)?;
-            let made = strip(alloc, target, needs)?;
-            let other = strip(alloc, fallback, needs)?;
-            guard(alloc, asked, test, made, target, other, fallback)
-        }
+        } => strip_guard(alloc, test, target, fallback, needs),
         Node::Point {
-            point: place,
+            point,
             target,
             fallback,
-        } => {
-            let made = strip(alloc, target, needs)?;
-            if needs.contains(place) {
-                let target = owner(made, target)?;
-                return Ok(Some(target));
-            }
-            let other = strip(alloc, fallback, needs)?;
-            point(alloc, *place, made, target, other, fallback)
-        }
+        } => strip_point(alloc, *point, target, fallback, needs),
     }
+}
+
+// The filter of these parts, without the needed points.
+#[cycle(strips)]
+fn strip_filter(
+    alloc: Global,
+    target: &Arc<Node>,
+    position: usize,
+    filters: &[Option<Arc<Node>>],
+    needs: &[u32],
+) -> Result<Option<Arc<Node>>, TreeFault>
+    ensures value { let t = filter_tree (tree_of (arc_value target.now)) position
+        (filters_of (filter_trees filters.now)) in
+        IfOk result (λ o. made_or o t ≡ stripped needs.now t) }
+    ensures refused { IfErr result (λ e. e ≡ TreeFault.NoMemory) }
+{
+    let made = strip(alloc, target, needs)?;
+    let filters = strip_filters(alloc, filters, needs)?;
+    filter(alloc, made, target, position, filters)
+}
+
+// The filter of the result of these parts, likewise.
+#[cycle(strips)]
+fn strip_filter_return(
+    alloc: Global,
+    target: &Arc<Node>,
+    filter: &Arc<Node>,
+    needs: &[u32],
+) -> Result<Option<Arc<Node>>, TreeFault>
+    ensures value { let t = filter_return_tree
+        (tree_of (arc_value target.now)) (tree_of (arc_value filter.now)) in
+        IfOk result (λ o. made_or o t ≡ stripped needs.now t) }
+    ensures refused { IfErr result (λ e. e ≡ TreeFault.NoMemory) }
+{
+    let made = strip(alloc, target, needs)?;
+    let last = strip(alloc, filter, needs)?;
+    filter_return(alloc, made, target, last, filter)
+}
+
+// The fold of these parts, likewise.
+#[cycle(strips)]
+fn strip_fold(
+    alloc: Global,
+    target: &Arc<Node>,
+    combiner: &Arc<Node>,
+    needs: &[u32],
+) -> Result<Option<Arc<Node>>, TreeFault>
+    ensures value { let t = fold_tree
+        (tree_of (arc_value target.now)) (tree_of (arc_value combiner.now)) in
+        IfOk result (λ o. made_or o t ≡ stripped needs.now t) }
+    ensures refused { IfErr result (λ e. e ≡ TreeFault.NoMemory) }
+{
+    let made = strip(alloc, target, needs)?;
+    let first = strip(alloc, combiner, needs)?;
+    fold(alloc, made, target, first, combiner)
+}
+
+// The guard of these parts, likewise.
+#[cycle(strips)]
+fn strip_guard(
+    alloc: Global,
+    test: &Arc<Node>,
+    target: &Arc<Node>,
+    fallback: &Arc<Node>,
+    needs: &[u32],
+) -> Result<Option<Arc<Node>>, TreeFault>
+    ensures value { let t = guard_tree (tree_of (arc_value test.now))
+        (tree_of (arc_value target.now)) (tree_of (arc_value fallback.now)) in
+        IfOk result (λ o. made_or o t ≡ stripped needs.now t) }
+    ensures refused { IfErr result (λ e. e ≡ TreeFault.NoMemory) }
+{
+    let asked = strip(alloc, test, needs)?;
+    let made = strip(alloc, target, needs)?;
+    let other = strip(alloc, fallback, needs)?;
+    guard(alloc, asked, test, made, target, other, fallback)
+}
+
+// The switch of these parts by a point, likewise: the stripped target where the point is needed.
+#[cycle(strips)]
+fn strip_point(
+    alloc: Global,
+    place: u32,
+    target: &Arc<Node>,
+    fallback: &Arc<Node>,
+    needs: &[u32],
+) -> Result<Option<Arc<Node>>, TreeFault>
+    ensures value { let t = point_tree place
+        (tree_of (arc_value target.now)) (tree_of (arc_value fallback.now)) in
+        IfOk result (λ o. made_or o t ≡ stripped needs.now t) }
+    ensures refused { IfErr result (λ e. e ≡ TreeFault.NoMemory) }
+{
+    let made = strip(alloc, target, needs)?;
+    if needs.contains(&place) {
+        let target = owner(made, target)?;
+        return Ok(Some(target));
+    }
+    let other = strip(alloc, fallback, needs)?;
+    point(alloc, place, made, target, other, fallback)
 }
 
 // The filters, each without the needed points.

@@ -1,5 +1,5 @@
 -- What a stress of a script writes.
-use Rattle.std.specs.Prelude.{ℕ, ◌≡◌, ◌⊎◌, ◌+◌, ◌*◌, ◌<◌, ◌≤◌, List, [], ◌∷◌, ◌++◌, Option, Some, None, Ok, codes, length, max, min, IfSome}
+use Rattle.std.specs.Prelude.{ℕ, ◌≡◌, ◌⊎◌, ◌+◌, ◌*◌, ◌<◌, ◌≤◌, ◌^◌, List, [], ◌∷◌, ◌++◌, Option, Some, None, Ok, codes, length, max, min, IfSome}
 use Rattle.std.specs.Fmt.{decimal}
 use Rattle.std.specs.Io.KnownBytes.{Keeps}
 use Rattle.std.specs.List.{range_with_len, sum_by}
@@ -9,6 +9,7 @@ use Rattle.mh_core.specs.Books.{Legal}
 use Rattle.mh_core.specs.Limits.{LimitsData}
 use Rattle.mh_core.specs.Records.{total}
 use Rattle.mh_core.specs.declared.record.Record.{Record}
+use Rattle.mh_live.specs.Limits.{most_workers}
 use Rattle.mh_live.specs.declared.open_fault.OpenFault.{OpenFault}
 use Rattle.mh_live.specs.declared.open_fault.OpenFault.TheVariants as opening
 use Rattle.mh_text.specs.Output.{EndsReading, IsUnread, outside, script_of_input}
@@ -23,6 +24,14 @@ use Rattle.mh_stress.specs.declared.division.Call.{Call}
 use Rattle.mh_stress.specs.declared.stress.StressOptions.{StressOptions}
 use Rattle.mh_stress.specs.declared.sums.Sums.{Sums}
 
+-- the most rounds of each worker
+abbrev pub most_rounds : ℕ
+most_rounds = 1000000
+
+-- the most hits of a link that no worker flushed
+abbrev pub most_unflushed : ℕ
+most_unflushed = 2 ^ 90
+
 -- what an office is not opened for, as a cause of a fault
 abbrev pub cause_of : OpenFault → TextFault
 cause_of opening.NoMemory = NoMemory
@@ -30,14 +39,14 @@ cause_of opening.NoReader = NoReader
 
 -- from 1 to 64 workers, where they are said, and from 1 to 1,000,000 rounds
 pub record AreLawful (options : StressOptions) : Type 0 where
-  pub workers : IfSome options.workers (λ n. (0 < n) × (n ≤ 64))
+  pub workers : IfSome options.workers (λ n. (0 < n) × (n ≤ most_workers))
   pub some : 0 < options.rounds
-  pub few : options.rounds ≤ 1000000
+  pub few : options.rounds ≤ most_rounds
 
 -- those that are said, or the script's, which has from 1 to 64
 abbrev pub workers_of : Option ℕ → ℕ → ℕ
 workers_of (Some n) own = n
-workers_of None own = max 1 (min own 64)
+workers_of None own = max 1 (min own most_workers)
 
 -- what was flushed and what was not, over the first links
 abbrev pub sums_over : ℕ → (ℕ → ℕ) → (ℕ → ℕ) → Sums

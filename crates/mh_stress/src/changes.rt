@@ -1,5 +1,6 @@
 //! What the main thread does meanwhile.
 ghost use Rattle.std.specs.Prelude.{◌<◌, ◌≤◌};
+ghost use Rattle.mh_text.specs.Script.{most_workers};
 
 use mh_core::{Event, Refusal};
 use mh_live::{Live, Name, Receipt};
@@ -17,7 +18,7 @@ pub(crate) fn make_changes<N: Name, T: Threads + Wait + Sync>(
     workers: usize,
 )
     requires some { 0 < workers }
-    requires few { workers ≤ 64 }
+    requires few { workers ≤ most_workers }
 {
     for step in changes {
         let _receipt = make_change(rt, alloc, live, step, workers);
@@ -33,7 +34,7 @@ fn make_change<N: Name, T: Threads + Wait + Sync>(
     workers: usize,
 ) -> Option<Result<Receipt<N>, Refusal>>
     requires some { 0 < workers }
-    requires few { workers ≤ 64 }
+    requires few { workers ≤ most_workers }
 {
     match step {
         Step::Plan { snapshot } => Some(publish(rt, alloc, live, snapshot, workers)),
@@ -50,7 +51,7 @@ fn publish<N: Name, T: Threads + Wait + Sync>(
     workers: usize,
 ) -> Result<Receipt<N>, Refusal>
     requires some { 0 < workers }
-    requires few { workers ≤ 64 }
+    requires few { workers ≤ most_workers }
 {
     let problem = live.problem(rt, snapshot)?;
     let plan = best_plan(rt, alloc, &problem, workers)?;

@@ -5,6 +5,7 @@ ghost use Rattle.mh_text.specs.Bytes.{HasFailed};
 ghost use Rattle.mh_text.specs.Gives.{IsEndOf};
 ghost use Rattle.mh_text.specs.Output.{outside};
 ghost use Rattle.mh_text.specs.declared.fault.TextFault.TheVariants.{NoMemory, NoReader};
+ghost use Rattle.mh_live.specs.Limits.{most_workers};
 ghost use Rattle.mh_stress.specs.Stress.{AreLawful, FailsStress, cause_of, IsSettlement, IsSettlementOf, IsStressed, workers_of};
 ghost use Rattle.mh_stress.specs.Rounds.{AreFresh};
 
@@ -52,7 +53,7 @@ fn settle_rounds<N: Name + Send + Sync, T: Threads + Wait + Sync>(
     rounds: u32,
 ) -> Result<Sums, Fault>
     requires fresh { AreFresh N.definition passes.items }
-    requires workers { (0 < length passes.items) × (length passes.items ≤ 64) }
+    requires workers { (0 < length passes.items) × (length passes.items ≤ most_workers) }
     requires rounds { rounds ≤ 1000000 }
     ensures settled { IfOk result (IsSettlement N.definition division.calls.items (length passes.items) rounds) }
     ensures told { IfErr result (λ e. e ≡ outside NoMemory) }
@@ -78,7 +79,7 @@ fn run_threads<N: Name + Send + Sync, T: Threads + Wait + Sync>(
 ) -> Result<Sums, Fault>
     requires name { opening.name ≡ N.book }
     requires definition { opening.definition ≡ N.definition }
-    requires workers { (0 < opening.workers) × (opening.workers ≤ 64) }
+    requires workers { (0 < opening.workers) × (opening.workers ≤ most_workers) }
     requires rounds { rounds ≤ 1000000 }
     ensures settled { IfOk result (IsSettlement opening.definition division.calls.items opening.workers rounds) }
     ensures told { IfErr result (λ e. (e ≡ outside NoMemory) ⊎ (e ≡ outside NoReader)) }
@@ -94,7 +95,7 @@ fn workers_for(options: StressOptions, own: u32) -> u32
     requires options { AreLawful options }
     ensures value { result ≡ workers_of options.workers own }
     ensures some { 0 < result }
-    ensures few { result ≤ 64 }
+    ensures few { result ≤ most_workers }
 {
     match options.workers {
         Some(workers) => workers,

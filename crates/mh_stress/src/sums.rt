@@ -1,10 +1,10 @@
 //! What all workers made.
-ghost use Rattle.std.specs.Prelude.{◌≡◌, ◌<◌, ◌≤◌, ◌^◌, ◌+◌, ℕ, string_bytes, length, IfOk};
+ghost use Rattle.std.specs.Prelude.{◌≡◌, ◌<◌, ◌≤◌, ◌+◌, ℕ, string_bytes, length, IfOk};
 ghost use Rattle.std.specs.List.{sum_by, range_with_len};
 ghost use Rattle.mh_ledger.specs.Ledgers.{at};
 ghost use Rattle.mh_site.specs.Links.{links};
 ghost use Rattle.mh_live.specs.Settled.{IsSettled};
-ghost use Rattle.mh_stress.specs.Stress.{settled_line, settled_text, sums_over};
+ghost use Rattle.mh_stress.specs.Stress.{most_unflushed, settled_line, settled_text, sums_over};
 
 use mh_live::{Name, Settled};
 use std::alloc::{AllocError, Global};
@@ -19,7 +19,7 @@ pub struct Sums {
 
 /// The sums over all links.
 pub(crate) fn sums_of<N: Name>(settled: &Settled<N>) -> Sums
-    requires small { (j : ℕ) → j < length (links N.definition) → at settled.now.unflushed j ≤ 2 ^ 90 }
+    requires small { (j : ℕ) → j < length (links N.definition) → at settled.now.unflushed j ≤ most_unflushed }
     ensures settled { IsSettled N.definition settled.now }
     ensures value { result ≡ sums_over (length (links N.definition)) (at settled.now.book.totals.total) (at settled.now.unflushed) }
 {

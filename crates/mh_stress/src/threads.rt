@@ -1,5 +1,6 @@
 //! The workers in threads of their own, and the changes beside them.
 ghost use Rattle.std.specs.Prelude.{◌<◌, ◌≤◌, IfOk, IfSome};
+ghost use Rattle.mh_live.specs.Limits.{most_workers};
 ghost use Rattle.mh_stress.specs.Rounds.{HasWorked, HaveWorked};
 
 use crate::changes::make_changes;
@@ -40,7 +41,7 @@ pub(crate) fn work_beside<N: Name + Send + Sync, T: Threads + Wait + Sync>(
     workers: usize,
 ) -> Option<Vec<Pass<N>>>
     requires some { 0 < workers }
-    requires few { workers ≤ 64 }
+    requires few { workers ≤ most_workers }
     ensures worked { IfSome result (λ after. HaveWorked N.definition division.calls.items rounds passes.items after.items) }
 {
     let Division { calls, changes } = division;
@@ -49,7 +50,7 @@ pub(crate) fn work_beside<N: Name + Send + Sync, T: Threads + Wait + Sync>(
         rt,
         || work(rt, live, passes, calls, rounds).ok(),
         ||
-            requires { (0 < workers) × (workers ≤ 64) }
+            requires { (0 < workers) × (workers ≤ most_workers) }
         { make_changes(rt, alloc, live, changes, workers) },
     );
     after

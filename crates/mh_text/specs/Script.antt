@@ -136,11 +136,15 @@ declarations_of d = do
   definition ← caused of_definition (definition_made points sites)
   Ok (record { definition = definition; scope = scope; sites = site_names_of definition.sites })
 
+-- the most workers that call, or plan
+abbrev pub most_workers : ℕ
+most_workers = 64
+
 -- the number of workers: 1 to 64
 abbrev pub workers_of : Data → Result ℕ ReadFault
 workers_of d = do
   workers ← member_of (codes "workers") d
-  workers ← count_of 64 workers
+  workers ← count_of most_workers workers
   if workers == 0 then Err BadShape else Ok workers
 
 -- a limit, which is the greatest where it is absent

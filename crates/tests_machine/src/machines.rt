@@ -71,7 +71,7 @@ type Counts = (u32, [usize; 3]);
 
 fn counts(machine: &Machine) -> Counts {
     let records = machine.book().records().len();
-    let events = [machine.calls().len(), machine.accepted(), records];
+    let events = [machine.calls(), machine.accepted(), records];
     (machine.workers(), events)
 }
 
@@ -149,7 +149,7 @@ fn four_calls(alloc: Global) -> Result<Vec<Event>, Fail> {
 fn refusals_of_a_full_history(alloc: Global) -> Result<([Option<Refusal>; 4], bool), Fail> {
     let mut machine = machine(alloc, 2)?;
     let replies = machine.run(four_calls(alloc)?)?;
-    let full = machine.book().is_full(machine.calls().len());
+    let full = machine.book().is_full(machine.calls());
     Ok((refusals(replies.as_slice()), full))
 }
 

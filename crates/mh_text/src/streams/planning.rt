@@ -6,6 +6,7 @@ ghost use Rattle.mh_text.specs.Bytes.{HasFailed};
 ghost use Rattle.mh_text.specs.Gives.{IsEndOf, IsOfInput};
 ghost use Rattle.mh_text.specs.Output.{IsUnread, outside};
 ghost use Rattle.mh_text.specs.Planning.{IsProblemInput, IsProblemFault, IsPlanOf, IsPlanned, IsCutShort, FailsPlan, line_where, lines_for};
+ghost use Rattle.mh_text.specs.Script.{most_workers};
 
 use crate::fault::Fault;
 use crate::json::certificate::plan_json;
@@ -90,7 +91,7 @@ fn plan_problem<T: Threads + Sync>(
     problem: &Problem,
 ) -> Result<String, Fault>
     requires some { 0 < options.workers }
-    requires few { options.workers ≤ 64 }
+    requires few { options.workers ≤ most_workers }
     ensures planned { IfOk result (λ s. IsPlanOf options problem.now (string_bytes s)) }
     ensures memory { IfErr result (λ e. e ≡ outside text.NoMemory) }
 {
@@ -125,7 +126,7 @@ pub fn plan_bytes<T: Threads + Sync, R: Read, W: Write>(
     writer: &mut Watched<W>,
 ) -> Result<(), Fault>
     requires some { 0 < options.workers }
-    requires few { options.workers ≤ 64 }
+    requires few { options.workers ≤ most_workers }
     ensures ok { OnOk result (IfSome (R.remaining reader.old.inner) (λ input. (text : List ℕ) × IsPlanned options input text
         × Appends (W.contents writer.old.inner) (W.contents writer.new.inner) text)) }
     ensures failed { IfErr result (FailsPlan options (R.remaining reader.old.inner)

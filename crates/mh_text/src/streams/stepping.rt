@@ -2,6 +2,7 @@
 ghost use Rattle.std.specs.Prelude.{◌≡◌, ◌<◌, ◌≤◌, IfOk, IfErr};
 ghost use Rattle.mh_network.specs.Selection.{IsLeast, member};
 ghost use Rattle.mh_cert.specs.Plans.{Matches};
+ghost use Rattle.mh_text.specs.Script.{most_workers};
 ghost use Rattle.mh_text.specs.Steps.{Answers, IsUnplanned, IsBestFor};
 ghost use Rattle.mh_text.specs.declared.json.step.Step.TheVariants.{Plan as ask_plan};
 
@@ -70,7 +71,7 @@ pub fn best_plan<T: Threads + Sync>(
     workers: usize,
 ) -> Result<SharedPlan, Refusal>
     requires some { 0 < workers }
-    requires few { workers ≤ 64 }
+    requires few { workers ≤ most_workers }
     ensures matching { IfOk result (λ plan. Matches problem.now plan) }
     ensures least { IfOk result (λ plan. IsLeast problem.now (member plan.links)) }
     ensures refused { IfErr result (λ told. told ≡ Refusal.NoMemory) }

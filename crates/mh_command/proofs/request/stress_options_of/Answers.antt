@@ -21,6 +21,6 @@ returns-clause-value c = λ options are.
     let is = c.in_ok-rounds.was in
     let rounds : c.in_ok-rounds.rounds ≡ options.rounds = cc in
     let callers = callers_are (found_of c.args.matches.now) options are (λ bs r. ParsesUnsigned 8 10 bs r × ExplainsUnsignedError 10 bs r × HasUnsignedDigitsIfOk bs r) (λ t x g. g.0) c.get_one.result c.get_one.ensures.none c.get_one.ensures.value in
-    let workers : c.widened-workers.result ≡ options.workers = c.widened-workers.ensures.value ∙ callers in
-    let made = made_of c.widened-workers.result c.in_ok-rounds.rounds options workers rounds in
+    let workers : c.widen-workers.result ≡ options.workers = c.widen-workers.ensures.value ∙ callers in
+    let made = made_of c.widen-workers.result c.in_ok-rounds.rounds options workers rounds in
     c.lawful.ensures.same (subst AreLawful (sym made) are.lawful) ∙ ap (λ (o : StressOptions). Some o) made

@@ -62,7 +62,7 @@ run-returns-in-Identity-clause-walked t c =
     let zero : c.args.from + 0 ≡ c.args.from = omega arith in
     let is : c.index.result.now ≡ argument (drop c.args.from old) 0 =
     c.index.ensures ∙ get_or_default old c.args.from c.index.result.now (Boolean false) inside ∙ sym (get_or-drop c.args.from old 0 (Boolean false) ∙ ap (argument old) zero) in
-    rw e (identity_walks c.args.valid.now c.in-Identity.field-0 (drop c.args.from old) _ _ _ _ _ runs is c.shared-in-Identity.ensures.value c.shared-in-Identity.ensures.quiet)
+    rw e (identity_walks c.args.valid.now c.in-Identity.field-0 (drop c.args.from old) _ _ _ _ _ runs is c.share-in-Identity.ensures.value c.share-in-Identity.ensures.quiet)
 
 pub run-returns-in-Operation-clause-walked : goal.run-returns-in-Operation-clause-walked
 run-returns-in-Operation-clause-walked t c =

@@ -6,19 +6,28 @@ use Rattle.mh_tree.specs.Running.{run_code, code_steps, weight}
 use Rattle.mh_tree.specs.Scoped.{IsScoped}
 use Rattle.mh_eval.proofs.running.+run_on.Given as goal
 
--- what is left to do: two for each level, and one for the call that has entered a piece
+-- what is left to do: four for each level, and one to three for the call that has entered a piece
 abbrev pub decreases-run_on : goal.decreases-run_on
-decreases-run_on l = 2 * height (code_of l.code.now)
+decreases-run_on l = 4 * height (code_of l.code.now) + 2
+
+abbrev pub decreases-enter : goal.decreases-enter
+decreases-enter l = 4 * height (code_of l.piece.now) + 1
+
+abbrev pub decreases-enter_bind : goal.decreases-enter_bind
+decreases-enter_bind l = 4 * height (code_of l.first.now) + 4
+
+abbrev pub decreases-enter_branch : goal.decreases-enter_branch
+decreases-enter_branch l = 4 * height (code_of l.test.now) + 3
 
 abbrev pub decreases-push_first : goal.decreases-push_first
-decreases-push_first l = 2 * height (code_of l.first.now) + 1
+decreases-push_first l = 4 * height (code_of l.first.now) + 3
 
-abbrev pub decreases-run_on-loop-operand : goal.decreases-run_on-loop-operand
-decreases-run_on-loop-operand l = height (code_of l.node)
+abbrev pub decreases-run_on-loop-next : goal.decreases-run_on-loop-next
+decreases-run_on-loop-next l = height (code_of l.node)
 
 -- the piece so far, below the locals so far, does what the code does below those that were there
-abbrev pub invariant-run_on-loop-operand : goal.invariant-run_on-loop-operand
-invariant-run_on-loop-operand l =
+abbrev pub invariant-run_on-loop-next : goal.invariant-run_on-loop-next
+invariant-run_on-loop-next l =
     record {
       kept : take l.depth l.stack.items ≡ l.initial.stack.items;
       outcome : run_code l.valid (code_of l.node) l.arguments l.stack.items ≡ run_code l.valid (code_of l.code) l.arguments l.initial.stack.items;

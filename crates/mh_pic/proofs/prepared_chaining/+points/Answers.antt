@@ -4,8 +4,8 @@ use Rattle.mh_pic.proofs.Linking.{points_passed}
 use Rattle.mh_pic.proofs.Passing.{memory_alone, settled}
 use Rattle.mh_pic.proofs.prepared_chaining.+points.Goals as goal
 
-pub made-requires : goal.made-requires
-made-requires t c =
+pub expect_made-requires : goal.expect_made-requires
+expect_made-requires t c =
     let whole : c.args.needs.now ≡ c.in-Some.need.now ∷ c.in-Some.rest.now = search rules in
     let short : length c.in-Some.rest.now ≤ 7 = omega (arith, ap (λ (ps : List ℕ). length ps) whole, c.requires.few) in
     let passes = points_passed c.in-Some.need.now c.in-Some.rest.now c.args.target.now c.args.base.now _ c.requires.first c.requires.second c.requires.parameters short c.in_ok-inner.ensures.value in

@@ -13,8 +13,8 @@ points-requires-clause-first c =
     let tree : c.in_ok-target-2.target.tree ≡ specialised e.needs (take c.args.key_place m.parameters) e.key c.args.base.now.tree = search rules in
     specialised_declared m c.args.key_place e c.args.base.now.tree c.requires.declared _ tree
 
-pub made-requires : goal.made-requires
-made-requires c =
+pub expect_made-requires : goal.expect_made-requires
+expect_made-requires c =
     let m = c.args.base.now.signature in
     let e = c.args.entry.now in
     let base = c.args.base.now.tree in

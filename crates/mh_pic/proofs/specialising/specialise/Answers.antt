@@ -5,8 +5,8 @@ use Rattle.mh_pic.specs.Specialised.{specialised, Serves}
 use Rattle.mh_pic.proofs.Serving.{specialised_sound, specialised_serves}
 use Rattle.mh_pic.proofs.specialising.specialise.Goals as goal
 
-pub rebuilt-requires : goal.rebuilt-requires
-rebuilt-requires c =
+pub rebuild-requires : goal.rebuild-requires
+rebuild-requires c =
     let m = c.args.handle.now.signature in
     let made : made_or c.in_ok-made.made c.args.handle.now.tree ≡ specialised c.args.needs.now (take c.args.key_place m.parameters) c.args.key.now c.args.handle.now.tree = search rules in
     record { sound = subst (λ t. IsSound t m) (sym made) (specialised_sound c.args.needs.now (take c.args.key_place m.parameters) c.args.key.now c.args.handle.now.tree m c.method_type.ensures.sound) }

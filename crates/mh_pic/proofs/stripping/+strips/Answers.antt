@@ -1,4 +1,4 @@
-use Rattle.std.proofs.Common.{◌≡◌, ◌++◌, [], ◌∷◌, refl, ap, sym, ◌∙◌, arith, List, Option, Some}
+use Rattle.std.proofs.Common.{◌≡◌, ◌++◌, [], ◌∷◌, refl, ap, sym, subst, ◌∙◌, arith, IfOk, List, Option, Some}
 use Rattle.mh_pic.proofs.stripping.+strips.Goals.{strip_filters-in-None, strip_filters-in-Some+in_ok-made-in-Some+in_ok-owner-in-Some}
 use Rattle.std.specs.declared.alloc.Global.{Global}
 use Rattle.std.specs.declared.sync.Arc.{Arc}
@@ -9,29 +9,24 @@ use Rattle.mh_tree.specs.TreeOf.{tree_of, filter_trees}
 use Rattle.mh_tree.specs.declared.node.Node.{Node}
 use Rattle.mh_pic.specs.Outcomes.{made_or}
 use Rattle.mh_pic.specs.Specialised.{stripped, stripped_filters}
-use Rattle.mh_pic.proofs.StrippedFilters.{if_ok, member_size, pushed_at}
+use Rattle.mh_pic.proofs.StrippedFilters.{member_size, pushed_at}
 use Rattle.mh_pic.proofs.stripping.+strips.Goals as goal
 
-pub strip-strip_filters-requires : goal.strip-strip_filters-requires
-strip-strip_filters-requires t c =
+pub strip-strip_filter-requires : goal.strip-strip_filter-requires
+strip-strip_filter-requires t c =
     let e = ap tree_of c.in-Filter.is ∙ tree_of_filter c.in-Filter.target c.in-Filter.position c.in-Filter.filters in
-    let f : filters_of (filter_trees c.deref-in-Filter-2.result.now) ≡ filters_of (filter_trees c.in-Filter.filters.items) =
-    ap (λ (fs : List (Option (Arc Node Global))). filters_of (filter_trees fs)) c.deref-in-Filter-2.ensures.value in
+    let f : filters_of (filter_trees c.deref-in-Filter.result.now) ≡ filters_of (filter_trees c.in-Filter.filters.items) =
+    ap (λ (fs : List (Option (Arc Node Global))). filters_of (filter_trees fs)) c.deref-in-Filter.ensures.value in
     (omega (arith, ap size e, ap total_size f), tt)
 
-pub strip-returns-in_ok-filters-in-Filter-clause-value : goal.strip-returns-in_ok-filters-in-Filter-clause-value
-strip-returns-in_ok-filters-in-Filter-clause-value t c =
+pub strip-returns-in-Filter-clause-value : goal.strip-returns-in-Filter-clause-value
+strip-returns-in-Filter-clause-value t c =
     let e = ap tree_of c.in-Filter.is ∙ tree_of_filter c.in-Filter.target c.in-Filter.position c.in-Filter.filters in
-    let f : filters_of (filter_trees c.deref-in-Filter-2.result.now) ≡ filters_of (filter_trees c.in-Filter.filters.items) =
-    ap (λ (fs : List (Option (Arc Node Global))). filters_of (filter_trees fs)) c.deref-in-Filter-2.ensures.value in
-    let n : tree_of c.deref-in-Filter.result.now ≡ tree_of c.in-Filter.target.value = ap tree_of c.deref-in-Filter.ensures in
-    let first : made_or c.in_ok-made-in-Filter.made (tree_of c.in-Filter.target.value) ≡ stripped c.args.needs.now (tree_of c.in-Filter.target.value) =
-    rw n at c.in_ok-made-in-Filter.ensures.value in
-    let rest : filters_of (filter_trees c.in_ok-filters-in-Filter.filters.items) ≡ stripped_filters c.args.needs.now (filters_of (filter_trees c.in-Filter.filters.items)) =
-    c.in_ok-filters-in-Filter.ensures.value ∙ ap (stripped_filters c.args.needs.now) f in
-    if_ok _ _ c.filter.result
-    (λ o g. g (tree_of c.args.node.now) ∙ (λ i. filter (first i) c.in-Filter.position (rest i)) ∙ sym (ap (stripped c.args.needs.now) e))
-    c.filter.ensures.value
+    let f : filters_of (filter_trees c.deref-in-Filter.result.now) ≡ filters_of (filter_trees c.in-Filter.filters.items) =
+    ap (λ (fs : List (Option (Arc Node Global))). filters_of (filter_trees fs)) c.deref-in-Filter.ensures.value in
+    let whole : filter (tree_of c.in-Filter.target.value) c.in-Filter.position (filters_of (filter_trees c.deref-in-Filter.result.now)) ≡ tree_of c.args.node.now =
+    ap (filter (tree_of c.in-Filter.target.value) c.in-Filter.position) f ∙ sym e in
+    subst (λ u. IfOk c.strip_filter.result (λ o. made_or o u ≡ stripped c.args.needs.now u)) whole c.strip_filter.ensures.value
 
 pub strip_filters-strip-requires : goal.strip_filters-strip-requires
 strip_filters-strip-requires t c =

@@ -1,5 +1,4 @@
 use Rattle.std.proofs.Common.{◌+◌, List, length, refl, ap, sym, ◌∙◌}
-use Rattle.std.specs.Prelude.{reverse}
 use Rattle.mh_core.specs.declared.record.Record.{Record}
 use Rattle.mh_core.specs.declared.record.Record.TheVariants.{Published}
 use Rattle.mh_core.specs.declared.reply.Reply.TheVariants as reply
@@ -8,15 +7,15 @@ use Rattle.mh_core.specs.Installations.{PublishedPlan}
 use Rattle.mh_core.specs.Legal.{MachineState}
 use Rattle.mh_core.specs.Books.{Takes}
 use Rattle.mh_core.specs.Records.{plans}
-use Rattle.mh_core.proofs.Machines.{calls_count, machine_takes, passes_record, passes_same, takes_same, view_takes}
+use Rattle.mh_core.proofs.Machines.{machine_takes, passes_record, passes_same, takes_same, view_takes}
 use Rattle.mh_core.proofs.PlanTables.{plans_count}
 use Rattle.mh_core.proofs.machine.Machine.accept_plan.Goals as goal
 
 pub append_publish-requires : goal.append_publish-requires
 append_publish-requires c =
     let m = c.self.inside in
-    let calls = reverse m.calls.items in
-    let p = passes_record m.book calls m.workers m.ledgers.items c.self.invariant c.args.self.now c.len-calls.result c.self.view_is (calls_count m.calls c.len-calls.result c.len-calls.ensures) (Published c.args.snapshot c.args.plan) c.requires.passes in
+    let calls = m.calls in
+    let p = passes_record m.book calls m.workers m.ledgers.items c.self.invariant c.args.self.now c.len-calls.result c.self.view_is c.len-calls.ensures.value (Published c.args.snapshot c.args.plan) c.requires.passes in
     record {
       passes = passes_same m.book c.len-calls.result c.len-calls.result (Published c.args.snapshot c.args.plan) (Published c.args.snapshot c.in_ok-recorded.recorded) refl (ap (Published c.args.snapshot) (sym c.in_ok-recorded.ensures.value)) p;
     }
@@ -29,13 +28,13 @@ takes c =
 pub invariant_of-self-2 : goal.invariant_of-self-2
 invariant_of-self-2 c =
     let m = c.self.inside in
-    machine_takes m.book (reverse m.calls.items) m.workers m.ledgers.items c.self.invariant c.args.self.now c.len-calls.result c.self.view_is (calls_count m.calls c.len-calls.result c.len-calls.ensures) (Published c.args.snapshot c.args.plan)
+    machine_takes m.book m.calls m.workers m.ledgers.items c.self.invariant c.args.self.now c.len-calls.result c.self.view_is c.len-calls.ensures.value (Published c.args.snapshot c.args.plan)
     c.append_publish.new.self (takes c) refl (λ w j. refl) c.in_ok-number.ensures.totals
 
 pub returns-clause-taken : goal.returns-clause-taken
 returns-clause-taken c =
     let m = c.self.inside in
-    view_takes m.book (reverse m.calls.items) m.workers m.ledgers.items c.self.invariant c.args.self.now c.len-calls.result c.self.view_is (calls_count m.calls c.len-calls.result c.len-calls.ensures) (Published c.args.snapshot c.args.plan)
+    view_takes m.book m.calls m.workers m.ledgers.items c.self.invariant c.args.self.now c.len-calls.result c.self.view_is c.len-calls.ensures.value (Published c.args.snapshot c.args.plan)
     c.append_publish.new.self (takes c)
 
 pub returns-clause-reply : goal.returns-clause-reply

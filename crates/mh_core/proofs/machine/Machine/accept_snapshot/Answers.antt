@@ -1,5 +1,4 @@
 use Rattle.std.proofs.Common.{◌+◌, List, length, refl, ap, ◌∙◌}
-use Rattle.std.specs.Prelude.{reverse}
 use Rattle.mh_core.specs.declared.record.Record.{Record}
 use Rattle.mh_core.specs.declared.record.Record.TheVariants.{Snapped}
 use Rattle.mh_core.specs.declared.reply.Reply.TheVariants as reply
@@ -8,26 +7,26 @@ use Rattle.mh_core.specs.Legal.{MachineState}
 use Rattle.mh_core.specs.Records.{snapshots}
 use Rattle.mh_core.specs.Snapshots.{SnapshotState}
 use Rattle.mh_core.proofs.PastSnapshots.{snapshots_count}
-use Rattle.mh_core.proofs.Machines.{calls_count, machine_takes, passes_record, view_takes}
+use Rattle.mh_core.proofs.Machines.{machine_takes, passes_record, view_takes}
 use Rattle.mh_core.proofs.machine.Machine.accept_snapshot.Goals as goal
 
 pub append_snapshot-requires : goal.append_snapshot-requires
 append_snapshot-requires c =
     let m = c.self.inside in
     record {
-      passes = passes_record m.book (reverse m.calls.items) m.workers m.ledgers.items c.self.invariant c.args.self.now c.len-calls.result c.self.view_is (calls_count m.calls c.len-calls.result c.len-calls.ensures) Snapped c.requires.passes;
+      passes = passes_record m.book m.calls m.workers m.ledgers.items c.self.invariant c.args.self.now c.len-calls.result c.self.view_is c.len-calls.ensures.value Snapped c.requires.passes;
     }
 
 pub invariant_of-self-2 : goal.invariant_of-self-2
 invariant_of-self-2 c =
     let m = c.self.inside in
-    machine_takes m.book (reverse m.calls.items) m.workers m.ledgers.items c.self.invariant c.args.self.now c.len-calls.result c.self.view_is (calls_count m.calls c.len-calls.result c.len-calls.ensures) Snapped
+    machine_takes m.book m.calls m.workers m.ledgers.items c.self.invariant c.args.self.now c.len-calls.result c.self.view_is c.len-calls.ensures.value Snapped
     c.append_snapshot.new.self c.in_ok-snapshot.ensures.taken refl (λ w j. refl) c.in_ok-snapshot.ensures.totals
 
 pub returns-clause-taken : goal.returns-clause-taken
 returns-clause-taken c =
     let m = c.self.inside in
-    view_takes m.book (reverse m.calls.items) m.workers m.ledgers.items c.self.invariant c.args.self.now c.len-calls.result c.self.view_is (calls_count m.calls c.len-calls.result c.len-calls.ensures) Snapped
+    view_takes m.book m.calls m.workers m.ledgers.items c.self.invariant c.args.self.now c.len-calls.result c.self.view_is c.len-calls.ensures.value Snapped
     c.append_snapshot.new.self c.in_ok-snapshot.ensures.taken
 
 pub returns-clause-reply : goal.returns-clause-reply

@@ -1,7 +1,6 @@
 use Rattle.std.proofs.Common.{◌≡◌, ◌<◌, ◌≤◌, ◌+◌, Bool, ℕ, true, false, ap, refl, subst, arith, rules, length, inl, inr}
-use Rattle.std.specs.Prelude.{IsTrue, reverse, ◌↔◌}
+use Rattle.std.specs.Prelude.{IsTrue, ◌↔◌}
 use Rattle.std.proofs.lemmas.Bool.{cases_lt}
-use Rattle.std.proofs.lemmas.List.{length-reverse}
 use Rattle.mh_type.specs.Fits.{Fits}
 use Rattle.mh_site.specs.Defined.{site_at}
 use Rattle.mh_core.specs.Legal.{HasRoom, MachineState}
@@ -24,10 +23,8 @@ returns-then-is_full-clause-refuses c =
     omega (
       arith,
       full,
-      c.len.ensures,
-      m.calls.ok.0,
-      length-reverse m.calls.items,
-      joined_length (reverse m.calls.items) m.book.records,
+      c.len.ensures.value,
+      joined_length m.calls m.book.records,
       ap (λ (y : MachineState). y.setting.limits.history) c.self.view_is,
       ap (λ (y : MachineState). length y.history) c.self.view_is,
     ) in
@@ -45,10 +42,8 @@ returns-then-is_ledger_full-clause-refuses c =
     omega (
       arith,
       few,
-      c.len.ensures,
-      m.calls.ok.0,
-      length-reverse m.calls.items,
-      joined_length (reverse m.calls.items) m.book.records,
+      c.len.ensures.value,
+      joined_length m.calls m.book.records,
       ap (λ (y : MachineState). y.setting.limits.history) c.self.view_is,
       ap (λ (y : MachineState). length y.history) c.self.view_is,
     ) in
@@ -66,10 +61,8 @@ returns-clause-passes c =
     omega (
       arith,
       few,
-      c.len.ensures,
-      m.calls.ok.0,
-      length-reverse m.calls.items,
-      joined_length (reverse m.calls.items) m.book.records,
+      c.len.ensures.value,
+      joined_length m.calls m.book.records,
       ap (λ (y : MachineState). y.setting.limits.history) c.self.view_is,
       ap (λ (y : MachineState). length y.history) c.self.view_is,
     ) in

@@ -1,6 +1,4 @@
 use Rattle.std.proofs.Common.{◌≡◌, ◌+◌, ◌<◌, arith, length, inr, subst}
-use Rattle.std.specs.Prelude.{reverse}
-use Rattle.std.proofs.lemmas.List.{length-reverse}
 use Rattle.std.proofs.lemmas.Result.{on_ok_weaker, IfErr-weaker}
 use Rattle.mh_core.specs.declared.event.Event.TheVariants.{Flush}
 use Rattle.mh_core.specs.declared.record.Record.TheVariants.{Flushed}
@@ -17,8 +15,8 @@ use Rattle.mh_core.proofs.machine.Machine.test_flush.Goals as goal
 known : (c : goal.After-test_flush) → c.args.worker < c.self.inside.workers
 known c = omega (arith, c.if-worker-self.false)
 
-count : (c : goal.After-test_flush) → c.len.result ≡ length (reverse c.self.inside.calls.items)
-count c = omega (arith, c.len.ensures, c.self.inside.calls.ok.0, length-reverse c.self.inside.calls.items)
+count : (c : goal.After-test_flush) → c.len.result ≡ length c.self.inside.calls
+count c = c.len.ensures.value
 
 -- the tests that the book made
 abbrev row : goal.After-test_flush → Tests
@@ -30,7 +28,7 @@ row c =
 passes : (c : goal.After-test_flush) → Passes (row c) → Passes (tests c.args.self.now.setting c.args.self.now.history (Flush c.args.worker))
 passes c p =
     let m = c.self.inside in
-    let calls = reverse m.calls.items in
+    let calls = m.calls in
     let w = c.args.worker in
     let l = c.index-ledger.result.now in
     let same = flush_is m.book calls m.workers m.ledgers.items c.self.invariant w l (known c) c.index-ledger.ensures in
@@ -44,7 +42,7 @@ passes c p =
 refuses : (c : goal.After-test_flush) (told : Refusal) → Refuses (row c) told → Refuses (tests c.args.self.now.setting c.args.self.now.history (Flush c.args.worker)) told
 refuses c told p =
     let m = c.self.inside in
-    let calls = reverse m.calls.items in
+    let calls = m.calls in
     let w = c.args.worker in
     let l = c.index-ledger.result.now in
     let same = flush_is m.book calls m.workers m.ledgers.items c.self.invariant w l (known c) c.index-ledger.ensures in

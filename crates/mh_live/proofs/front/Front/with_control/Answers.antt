@@ -1,6 +1,6 @@
 use Rattle.std.proofs.Common.{sym, ◌∙◌, ap}
 use Rattle.mh_live.proofs.Adding.{adds_moves}
-use Rattle.mh_live.proofs.front.Front.extended.Goals as goal
+use Rattle.mh_live.proofs.front.Front.with_control.Goals as goal
 
 pub compare_exchange-found-requires : goal.compare_exchange-found-requires
 compare_exchange-found-requires g c =

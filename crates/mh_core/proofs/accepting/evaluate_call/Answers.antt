@@ -1,9 +1,11 @@
-use Rattle.std.proofs.Common.{ap, sym, ◌∙◌, length, arith}
+use Rattle.std.proofs.Common.{Bool, List, ap, refl, subst, sym, ◌∙◌, length, arith}
+use Rattle.mh_eval.specs.Entered.{EntersPlain}
 use Rattle.mh_tree.specs.Handle.{TypedTree}
 use Rattle.mh_tree.specs.Limits.{point_bound}
 use Rattle.mh_site.specs.Worlds.{WorldState, state_at}
+use Rattle.mh_core.specs.Records.{valid_points}
 use Rattle.mh_core.proofs.Calls.{reads, answered}
-use Rattle.mh_core.proofs.accepting.evaluated.Goals as goal
+use Rattle.mh_core.proofs.accepting.evaluate_call.Goals as goal
 
 pub base-requires : goal.base-requires
 base-requires c =
@@ -36,4 +38,15 @@ returns-in-Ok c = record {
       (c.handle-base.ensures.value ∙ c.base.ensures.value ∙ ap (λ (w : WorldState). (state_at w c.args.site).base) c.world-world.ensures.value)
       c.method_type-method_type.ensures.sound
       c.requires.fits c.in-Ok.ensures.outcome c.in-Ok.ensures.steps;
+  memory = λ _. refl;
 }
+
+pub returns-in-Err-clause-memory : goal.returns-in-Err-clause-memory
+returns-in-Err-clause-memory c = λ plain.
+    let b = c.args.book.now in
+    let a = c.args.arguments.now in
+    let r = reads b c.args.site c.world-world.ensures.book c.requires.inside in
+    let tree = c.prepared-linked.ensures.value ∙ ap (λ (w : WorldState). (state_at w c.args.site).linked) c.world-world.ensures.value ∙ r.table in
+    let valid = c.valid-valid.ensures.value ∙ ap (λ (w : WorldState). w.valid) c.world-world.ensures.value ∙ r.points in
+    let here = subst (λ (t : TypedTree). EntersPlain (valid_points b.definition b.records) t.tree a) (sym tree) plain in
+    c.in-Err.ensures.memory (subst (λ (v : List Bool). EntersPlain v c.prepared-linked.result.now.tree a) (sym valid) here)

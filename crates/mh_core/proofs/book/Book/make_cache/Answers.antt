@@ -9,7 +9,7 @@ use Rattle.mh_core.specs.Installations.{entry, usable}
 use Rattle.mh_core.specs.Records.{base}
 use Rattle.mh_core.proofs.CachedLinks.{IsOwn, cached_base, cached_chain, may_chain, over, usable_own}
 use Rattle.mh_core.proofs.InstalledLinks.{sites_now, state_now}
-use Rattle.mh_core.proofs.book.Book.cached.Goals as goal
+use Rattle.mh_core.proofs.book.Book.make_cache.Goals as goal
 
 pub base-requires : goal.base-requires
 base-requires c =

@@ -1,8 +1,8 @@
 use Rattle.std.proofs.Common.{◌∷◌, ◌++◌, [], ap, sym, ◌∙◌}
 use Rattle.mh_ledger.specs.Ledgers.{at}
 use Rattle.mh_core.proofs.CountedHits.{counted_none, counted_hit}
-use Rattle.mh_core.proofs.hits.counted.Goals as goal
-use Rattle.mh_core.proofs.hits.counted.Goals.{then-count-ne0+in_ok-push, else-count-ne0}
+use Rattle.mh_core.proofs.hits.hits_of.Goals as goal
+use Rattle.mh_core.proofs.hits.hits_of.Goals.{then-count-ne0+in_ok-push, else-count-ne0}
 
 pub loop-link-preserved : goal.loop-link-preserved
 loop-link-preserved c =

@@ -1,0 +1,18 @@
+-- The limits of running threads.
+use Rattle.std.specs.Prelude.{ℕ, ◌^◌}
+
+-- the most workers of an opening
+abbrev pub most_workers : ℕ
+most_workers = 64
+
+-- what a list of controls is shorter than, before one is added
+abbrev pub most_controls : ℕ
+most_controls = 2 ^ 62
+
+-- the most hits of a link in the totals
+abbrev pub most_hits : ℕ
+most_hits = 2 ^ 62
+
+-- the most hits of a link that all passes made and did not flush
+abbrev pub most_hits_of_all : ℕ
+most_hits_of_all = 2 ^ 126
