@@ -9,10 +9,10 @@ use mh_plan::{Gate, OpenGate, plan, plan_counted};
 use std::alloc::Global;
 use std::sync::atomic::{AtomicU64, Ordering};
 use std::test::Fail;
-use std::thread::Threads;
+use std::thread::{Threads, yield_now};
 
-/// How often a gate looks for the others before it goes on.
-const TURNS: u64 = 100_000_000;
+/// How often a gate looks for the others, and lets other threads run, before it goes on: some seconds.
+const TURNS: u64 = 10_000_000;
 
 /// Lets a worker go on when all have come, or after many turns, and counts those that saw all come.
 #[derive(Drop)]
@@ -30,6 +30,7 @@ impl Gate for MeetingGate {
                 self.met.fetch_add(1, Ordering::SeqCst);
                 return;
             }
+            yield_now();
         }
     }
 
