@@ -5,18 +5,20 @@ ghost use Rattle.mh_core.specs.Outcome.TheVariants as outcome;
 ghost use Rattle.mh_core.specs.Value.TheVariants.{Int};
 ghost use Rattle.mh_core.specs.Histories.{records};
 ghost use Rattle.mh_core.specs.Meaning.{mean};
-ghost use Rattle.mh_core.specs.Records.{base, valid_points};
+ghost use Rattle.mh_core.specs.Records.{base, environment};
 
 use crate::definition::one_less;
 use crate::telling::tell;
 use mh_core::{Arguments, Declared, Event, Listing, Machine, Outcome, Reply, Value};
 use std::alloc::Global;
 
-/// The int that worker 0 gets for a call of `f`, which is what the tree of `f` means at that step, or None where the machine
-/// answers otherwise.
+/// The int that worker 0 gets for a call of `f`, which is what the tree of `f` means at that step,
+/// or None where the machine answers otherwise.
 pub(crate) fn call(machine: &mut Machine, argument: i32) -> Option<i32>
-    ensures value { let d = machine.old.setting.definition in let r = records d machine.old.history in
-        IfSome result (λ n. mean (valid_points d r) (base d r 0).tree (Int argument ∷ []) ≡ outcome.Value (Int n)) }
+    ensures value { let d = machine.old.setting.definition in
+        let r = records d machine.old.history in
+        IfSome result (λ n. mean (environment d r) (base d r 0).tree (Int argument ∷ [])
+        ≡ outcome.Value (Int n)) }
 {
     match machine.step(Event::Call {
         worker: 0,

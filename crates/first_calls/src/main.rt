@@ -1,5 +1,5 @@
-//! The program `first_calls`: how code makes a definition, opens a machine, and calls, invalidates and retargets. It has the
-//! tree of `examples/first-calls.json`, and prints a line for each event.
+//! The program `first_calls`: how code makes a definition, opens a machine, and calls, invalidates
+//! and retargets. It has the tree of `examples/first-calls.json`, and prints a line for each event.
 #![tactic(auto)]
 
 mod definition;

@@ -18,10 +18,6 @@ pub(crate) fn tell_call(
 
 /// Prints the answer to a change.
 pub(crate) fn tell(rt: &impl Print, event: &str, reply: &Reply) -> anyhow::Result<()> {
-    match reply {
-        Reply::Done => println!(rt; "{event}: done")?,
-        Reply::Refused(refusal) => println!(rt; "{event}: refused, {refusal}")?,
-        _ => println!(rt; "{event}: another answer")?,
-    }
+    println!(rt; "{event}: {reply}")?;
     Ok(())
 }

@@ -14,8 +14,8 @@ pub(crate) struct Input {
 }
 
 impl Input {
-    /// Reads the rounds, the numbers of links and of points, the gains, the costs, and for each link the
-    /// number of its needs and the needs, ascending.
+    /// Reads the rounds, the numbers of links and of points, the gains, the costs, and for each
+    /// link the number of its needs and the needs, ascending.
     pub(crate) fn read(alloc: Global, text: &str) -> anyhow::Result<Input> {
         let mut numbers = Numbers::of(text);
         let rounds = numbers.next()?;

@@ -1,5 +1,5 @@
-//! The program `flow_bench`: finds a greatest flow of a problem again and again, so that a script can
-//! time `max_flow` alone.
+//! The program `flow_bench`: finds a greatest flow of a problem again and again, so that a script
+//! can time `max_flow` alone.
 #![tactic(auto)]
 
 mod found;

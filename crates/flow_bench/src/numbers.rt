@@ -20,7 +20,8 @@ impl<'a> Numbers<'a> {
         }
     }
 
-    /// The next number. Refused at the end of the text, and where the next word is no number below 2^64.
+    /// The next number. Refused at the end of the text, and where the next word is no number below
+    /// 2^64.
     pub(crate) fn next(&mut self) -> anyhow::Result<u64> {
         let word = self.words.next().context("a number is missing")?;
         let number = word.parse::<u64>()?;

@@ -3,7 +3,7 @@ use denote.RattleType.{RattleType}
 use denote.Param.Send.{IsSend, IsSync}
 use Rattle.std.proofs.result.Result.TheSendSync as result
 use Rattle.mh_live.specs.declared.front.Name.{Ghosts}
-use Rattle.mh_live.proofs.Sending.{pass_send, plain}
+use Rattle.mh_live.proofs.PublicLaws.{pass_send, plain}
 use Rattle.live_bench.specs.contracts.signals.Signals as Signals
 use Rattle.live_bench.specs.contracts.worked.Worked as Worked
 use Rattle.live_bench.proofs.made.Made.TheSendSync as made

@@ -95,7 +95,8 @@ fn measure_opened<N: Name + Send + Sync, T: Clock + Threads + Wait + Sync>(
     })
 }
 
-/// Settles, and answers the calls of all workers. Refused where the hits of the first link are not as many.
+/// Settles, and answers the calls of all workers. Refused where the hits of the first link are not
+/// as many.
 fn settle<N: Name, R: Wait>(
     rt: &R,
     alloc: Global,

@@ -5,7 +5,8 @@ ghost use Rattle.std.specs.Prelude.{◌<◌, ◌≤◌, IfOk};
 use anyhow::Context;
 use mh_live::MOST_WORKERS;
 
-/// The most retargetings. With the flushes beside them they are fewer events than a history may have.
+/// The most retargetings. With the flushes beside them they are fewer events than a history may
+/// have.
 const MOST_RETARGETINGS: u64 = 1_000_000;
 
 /// The longest pause, a second.

@@ -7,7 +7,8 @@ use std::sync::Wait;
 use std::thread;
 use std::time::{Clock, Duration, Instant};
 
-/// The nanoseconds from which a pause is slept. A shorter one is spent at the clock, since a sleep takes longer than it is told.
+/// The nanoseconds from which a pause is slept. A shorter one is spent at the clock, since a sleep
+/// takes longer than it is told.
 const SHORTEST_SLEEP: u64 = 100_000;
 
 /// How long the calls go on where there is no retargeting beside them, in nanoseconds.
@@ -67,7 +68,8 @@ fn retarget_timed<N: Name, R: Clock + Wait>(
     Ok(made)
 }
 
-/// Gives the site the tree, and answers the nanoseconds of that. The site's owner of the tree is made before.
+/// Gives the site the tree, and answers the nanoseconds of that. The site's owner of the tree is
+/// made before.
 fn retarget<N: Name, R: Clock + Wait>(
     rt: &R,
     live: &Live<N>,

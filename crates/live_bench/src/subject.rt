@@ -30,7 +30,8 @@ fn with_one(alloc: Global, op: Op) -> Result<Handle, TreeFault> {
     Handle::insert(alloc, &Handle::op(alloc, op)?, 1, &[Value::Int(1)])
 }
 
-/// Two points and the site `f` of this tree, with a link for 1, which needs the first point, and one for 2, which needs both.
+/// Two points and the site `f` of this tree, with a link for 1, which needs the first point, and
+/// one for 2, which needs both.
 pub(crate) fn define(alloc: Global, tree: &Declared) -> anyhow::Result<Definition> {
     let site = Site {
         name: Name::new(alloc, "f")?,

@@ -9,7 +9,6 @@ use crate::histories::{define, open, step_once};
 use crate::measuring::VALID;
 use crate::request::Way;
 use crate::subject::Subject;
-use crate::told::Told;
 use mh_core::Machine;
 use mh_eval::{Stack, fits};
 use mh_tree::{Handle, Prepared};
@@ -19,8 +18,8 @@ use std::alloc::Global;
 /// How often each call is made.
 const ROUNDS: u32 = 4;
 
-/// Prepares a subject's tree, opens a stack and a machine, writes `opened`, and then makes the calls several times, and
-/// prints their answers.
+/// Prepares a subject's tree, opens a stack and a machine, writes `opened`, and then makes the
+/// calls several times, and prints their answers.
 pub(crate) fn answer(rt: &impl Print, alloc: Global, subject: Subject) -> anyhow::Result<()> {
     let handle = subject.handle(alloc)?;
     let arguments = subject.arguments(alloc)?;
@@ -91,7 +90,7 @@ fn answer_run(
     requires known { point_bound prepared.now.tree ≤ 1 }
 {
     match run_once(stack, &VALID, prepared, arguments) {
-        Ok((outcome, _)) => println!(rt; "run {}", Told(&outcome))?,
+        Ok((outcome, _)) => println!(rt; "run {outcome}")?,
         Err(refused) => println!(rt; "run refused {refused}")?,
     }
     Ok(())
@@ -105,7 +104,7 @@ fn answer_step(
     arguments: &[Value],
 ) -> anyhow::Result<()> {
     match step_once(machine, alloc, arguments) {
-        Ok((outcome, _)) => println!(rt; "step {}", Told(&outcome))?,
+        Ok((outcome, _)) => println!(rt; "step {outcome}")?,
         Err(refused) => println!(rt; "step refused {refused}")?,
     }
     Ok(())

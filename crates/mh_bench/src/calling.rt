@@ -5,6 +5,7 @@ ghost use Rattle.mh_bench.specs.Tallies.{magnitude};
 ghost use Rattle.mh_tree.specs.Limits.{point_bound};
 ghost use Rattle.mh_tree.specs.Meaning.{mean, steps};
 ghost use Rattle.mh_type.specs.Fits.{Fits};
+ghost use Rattle.mh_tree.specs.Environment.{with_points};
 
 use crate::tally::Tally;
 use mh_eval::{NoMemory, Stack, eval, run};
@@ -21,8 +22,10 @@ pub(crate) fn run_once(
 ) -> Result<(Outcome, u64), NoMemory>
     requires fits { Fits handle.now.signature arguments.now }
     requires known { point_bound handle.now.tree ≤ length valid.now }
-    ensures outcome { IfOk result (λ r. r.0 ≡ mean valid.now handle.now.tree arguments.now) }
-    ensures steps { IfOk result (λ r. r.1 ≡ steps valid.now handle.now.tree arguments.now) }
+    ensures outcome { IfOk result (λ r. r.0
+        ≡ mean (with_points valid.now) handle.now.tree arguments.now) }
+    ensures steps { IfOk result (λ r. r.1
+        ≡ steps (with_points valid.now) handle.now.tree arguments.now) }
 {
     run(stack, valid, handle, arguments)
 }
@@ -37,8 +40,10 @@ pub(crate) fn eval_once(
 ) -> Result<(Outcome, u64), NoMemory>
     requires fits { Fits handle.now.signature arguments.now }
     requires known { point_bound handle.now.tree ≤ length valid.now }
-    ensures outcome { IfOk result (λ r. r.0 ≡ mean valid.now handle.now.tree arguments.now) }
-    ensures steps { IfOk result (λ r. r.1 ≡ steps valid.now handle.now.tree arguments.now) }
+    ensures outcome { IfOk result (λ r. r.0
+        ≡ mean (with_points valid.now) handle.now.tree arguments.now) }
+    ensures steps { IfOk result (λ r. r.1
+        ≡ steps (with_points valid.now) handle.now.tree arguments.now) }
 {
     eval(stack, valid, handle, arguments)
 }
@@ -53,8 +58,10 @@ pub(crate) fn run_rounds(
 ) -> anyhow::Result<Tally>
     requires fits { Fits handle.now.signature arguments.now }
     requires known { point_bound handle.now.tree ≤ length valid.now }
-    ensures answers { IfOk result (λ t. t.answers ≡ rounds * magnitude (mean valid.now handle.now.tree arguments.now)) }
-    ensures steps { IfOk result (λ t. t.steps ≡ rounds * steps valid.now handle.now.tree arguments.now) }
+    ensures answers { IfOk result (λ t. t.answers
+        ≡ rounds * magnitude (mean (with_points valid.now) handle.now.tree arguments.now)) }
+    ensures steps { IfOk result (λ t. t.steps
+        ≡ rounds * steps (with_points valid.now) handle.now.tree arguments.now) }
 {
     let mut tally = Tally::new();
     for _ in 0..rounds {
@@ -74,8 +81,10 @@ pub(crate) fn eval_rounds(
 ) -> anyhow::Result<Tally>
     requires fits { Fits handle.now.signature arguments.now }
     requires known { point_bound handle.now.tree ≤ length valid.now }
-    ensures answers { IfOk result (λ t. t.answers ≡ rounds * magnitude (mean valid.now handle.now.tree arguments.now)) }
-    ensures steps { IfOk result (λ t. t.steps ≡ rounds * steps valid.now handle.now.tree arguments.now) }
+    ensures answers { IfOk result (λ t. t.answers
+        ≡ rounds * magnitude (mean (with_points valid.now) handle.now.tree arguments.now)) }
+    ensures steps { IfOk result (λ t. t.steps
+        ≡ rounds * steps (with_points valid.now) handle.now.tree arguments.now) }
 {
     let mut tally = Tally::new();
     for _ in 0..rounds {

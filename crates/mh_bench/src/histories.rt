@@ -17,8 +17,8 @@ pub(crate) const CALLS_OF_A_MACHINE: u64 = 1_000_000;
 /// The calls before each flush.
 const CALLS_OF_A_FLUSH: u64 = 1_000;
 
-/// A definition of one point and one site of this tree. Where calls are to be flushed, the site has a link that
-/// each call with these arguments hits.
+/// A definition of one point and one site of this tree. Where calls are to be flushed, the site has
+/// a link that each call with these arguments hits.
 pub(crate) fn define(
     alloc: Global,
     way: Way,
@@ -66,7 +66,8 @@ pub(crate) fn open(alloc: Global, definition: &Definition) -> anyhow::Result<Mac
     Ok(machine)
 }
 
-/// Why a call of a machine gave no answer. It is small, so that a call copies no more than it has to.
+/// Why a call of a machine gave no answer. It is small, so that a call copies no more than it has
+/// to.
 #[derive(Clone, Copy, Debug, PartialEq, Eq, Error)]
 pub(crate) enum Unanswered {
     /// There was no memory for the call's arguments.

@@ -1,8 +1,10 @@
-//! The program `mh_bench`: makes calls of one kind many times, and tells what they gave and how long they took.
+//! The program `mh_bench`: makes calls of one kind many times, and tells what they gave and how
+//! long they took.
 //!
-//! `mh_bench WAY SUBJECT ROUNDS` makes so many calls, and with a fourth word `timed` also tells their nanoseconds.
-//! `mh_bench table ROUNDS` does so in every way for every subject, untimed. `mh_bench answers SUBJECT` opens what
-//! calls need, writes `opened`, and then tells the answer of each call.
+//! `mh_bench WAY SUBJECT ROUNDS` makes so many calls, and with a fourth word `timed` also tells
+//! their nanoseconds. `mh_bench table ROUNDS` does so in every way for every subject, untimed.
+//! `mh_bench answers SUBJECT` opens what calls need, writes `opened`, and then tells the answer of
+//! each call.
 #![tactic(auto)]
 
 mod answering;
@@ -12,7 +14,6 @@ mod measuring;
 mod request;
 mod subject;
 mod tally;
-mod told;
 mod trees;
 
 use crate::answering::answer;

@@ -9,7 +9,6 @@ use crate::histories::step_rounds;
 use crate::request::{Calls, Way};
 use crate::subject::Subject;
 use crate::tally::Tally;
-use crate::told::Told;
 use mh_eval::{Stack, evaluate, fits};
 use mh_tree::{Handle, Prepared};
 use mh_type::Value;
@@ -51,7 +50,8 @@ fn measure_subjects(
     Ok(())
 }
 
-/// Makes calls, and prints what one gives, the sums of all, and where it is asked for their nanoseconds.
+/// Makes calls, and prints what one gives, the sums of all, and where it is asked for their
+/// nanoseconds.
 pub(crate) fn measure(
     rt: &(impl Print + Clock),
     alloc: Global,
@@ -73,7 +73,7 @@ fn tell_answer(
 ) -> anyhow::Result<()> {
     let (outcome, _) = evaluate(alloc, &VALID, handle, arguments)?;
     let (way, subject) = (calls.way.word(), calls.subject.word());
-    print!(rt; "{way} {subject}: {}", Told(&outcome))?;
+    print!(rt; "{way} {subject}: {outcome}")?;
     Ok(())
 }
 

@@ -28,7 +28,8 @@ fn from_four(kind: Kind) -> Result<MethodType, TreeFault> {
     MethodType::new(kind, &FOUR).map_err(|_| TreeFault::TooManyParameters)
 }
 
-/// The site of examples/first-calls.json: 100 on 1, one more on any other int, and negated without point 0.
+/// The site of examples/first-calls.json: 100 on 1, one more on any other int, and negated without
+/// point 0.
 pub(crate) fn counted(alloc: Global) -> Result<Handle, TreeFault> {
     let test = with(alloc, Op::Ieq, 1, Value::Int(1))?;
     let hundred = always(alloc, &Value::Int(100), &[Kind::Int])?;

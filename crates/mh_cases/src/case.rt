@@ -43,8 +43,8 @@ pub(crate) struct Case<'a> {
 }
 
 impl<'a> Case<'a> {
-    /// Reads an object with the keys `id`, `words`, `stdin`, `stdout`, `stderr` and `status`. With a
-    /// key `length` its input has spaces put behind it up to that number of bytes.
+    /// Reads an object with the keys `id`, `words`, `stdin`, `stdout`, `stderr` and `status`. With
+    /// a key `length` its input has spaces put behind it up to that number of bytes.
     pub(crate) fn read(alloc: Global, value: &'a Value) -> Result<Case<'a>, CaseFault> {
         let mut words = Vec::new(alloc);
         for word in member(value, "words")?

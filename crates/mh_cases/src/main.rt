@@ -1,4 +1,5 @@
-//! The program `mh_cases`: runs each case of a table through `command`, and says of each whether it holds.
+//! The program `mh_cases`: runs each case of a table through `command`, and says of each whether it
+//! holds.
 #![tactic(auto)]
 
 mod case;
@@ -10,7 +11,8 @@ use anyhow::Context;
 use serde_json::Value;
 use std::io;
 
-/// Reads the table from standard input, a JSON list of cases, and prints a line for each and their count.
+/// Reads the table from standard input, a JSON list of cases, and prints a line for each and their
+/// count.
 fn main(rt: HostRuntime) -> anyhow::Result<()> {
     let alloc = rt.alloc();
     let text = io::read_to_string(alloc, rt.stdin())?;

@@ -1,3 +1,4 @@
-pub mod Matching
-pub mod Within
+mod Matching
 mod Orders
+pub mod PublicLaws
+mod Within

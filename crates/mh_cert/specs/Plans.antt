@@ -3,7 +3,7 @@ use Rattle.std.specs.Prelude.{ℕ, ◌≡◌, ◌≤◌, ◌<◌, List, All, All
 use Rattle.std.specs.List.Sorted.{IsStrictlyIncreasing}
 use Rattle.mh_network.specs.Problems.{ProblemData, link_at, gain_of, cost_of, needs_point, sum_of_gains}
 use Rattle.mh_network.specs.Selection.{Row, IsBefore, member, union_of_needs, from_link, into_point, worth, value_of}
-use Rattle.mh_network.specs.Tests.{Tests, no_more, test}
+use Rattle.mh_base.specs.Tests.{Tests, no_more, test, only, nothing, Passes}
 use Rattle.mh_cert.specs.declared.plan.Plan.{Plan}
 use Rattle.mh_cert.specs.declared.fault.CheckFault.{CheckFault}
 use Rattle.mh_cert.specs.declared.fault.CheckFault.TheVariants.{LinkNotEligible, LinksNotAscending, PointsNotUnion, BadFlowRow, GainExceeded, CostExceeded, ValueWrong, FlowNotMatching, NoMemory}
@@ -43,25 +43,18 @@ pub record AreRows (P : ProblemData) (rows : List Row) : Type 0 where
   pub ordered : AllPairs IsBefore rows
 
 -- eligible links, the points that they need, a flow, and the worth of the links, which is also what the flow
--- leaves of all gains
-pub record Matches (P : ProblemData) (plan : Plan) : Type 0 where
-  pub eligible : All (λ j. (link_at P j).eligible ≡ true) plan.links
-  pub links : IsStrictlyIncreasing plan.links
-  pub points : IsUnion P plan.links plan.points
-  pub rows : AreRows P plan.flow
-  pub gains : (j : ℕ) → from_link plan.flow j ≤ gain_of P j
-  pub costs : (p : ℕ) → into_point plan.flow p ≤ cost_of P p
-  pub worth : plan.value ≡ worth P (member plan.links)
-  pub balance : plan.value ≡ pos (sum_of_gains P) -ℤ pos (value_of plan.flow)
-
--- the parts of a matching plan, in the order in which they are tested
+-- leaves of all gains: the parts of a matching plan, in the order in which they are tested
 abbrev pub plan_tests : ProblemData → Plan → Tests CheckFault
 plan_tests P plan =
-    test (All (λ j. (link_at P j).eligible ≡ true) plan.links) LinkNotEligible
-    (test (IsStrictlyIncreasing plan.links) LinksNotAscending
-    (test (IsUnion P plan.links plan.points) PointsNotUnion
-    (test (AreRows P plan.flow) BadFlowRow
-    (test ((j : ℕ) → from_link plan.flow j ≤ gain_of P j) GainExceeded
-    (test ((p : ℕ) → into_point plan.flow p ≤ cost_of P p) CostExceeded
-    (test (plan.value ≡ worth P (member plan.links)) ValueWrong
-    (test (plan.value ≡ pos (sum_of_gains P) -ℤ pos (value_of plan.flow)) FlowNotMatching no_more)))))))
+    test (All (λ j. (link_at P j).eligible ≡ true) plan.links) (only LinkNotEligible)
+    (test (IsStrictlyIncreasing plan.links) (only LinksNotAscending)
+    (test (IsUnion P plan.links plan.points) (only PointsNotUnion)
+    (test (AreRows P plan.flow) (only BadFlowRow)
+    (test ((j : ℕ) → from_link plan.flow j ≤ gain_of P j) (only GainExceeded)
+    (test ((p : ℕ) → into_point plan.flow p ≤ cost_of P p) (only CostExceeded)
+    (test (plan.value ≡ worth P (member plan.links)) (only ValueWrong)
+    (test (plan.value ≡ pos (sum_of_gains P) -ℤ pos (value_of plan.flow)) (only FlowNotMatching) (no_more nothing))))))))
+
+-- all parts hold
+abbrev pub Matches : ProblemData → Plan → Type 0
+Matches P plan = Passes (plan_tests P plan)

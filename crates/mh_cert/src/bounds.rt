@@ -24,7 +24,8 @@ pub(crate) fn keeps_gains(
     flow: &[(u32, u32, u64)],
 ) -> Result<bool, CheckFault>
     requires needed { All (λ r. needs_point problem.now r.0 r.1 ≡ true) flow.now }
-    ensures value { IfOk result (λ keeps. IsTrue keeps ↔ ((j : ℕ) → from_link flow.now j ≤ gain_of problem.now j)) }
+    ensures value { IfOk result (λ keeps. IsTrue keeps
+        ↔ ((j : ℕ) → from_link flow.now j ≤ gain_of problem.now j)) }
     ensures refused { IfErr result (λ e. e ≡ CheckFault.NoMemory) }
 {
     let mut left = gains(alloc, problem)?;
@@ -39,18 +40,20 @@ pub(crate) fn keeps_costs(
 ) -> Result<bool, CheckFault>
     requires problem { IsProblem problem.now }
     requires needed { All (λ r. needs_point problem.now r.0 r.1 ≡ true) flow.now }
-    ensures value { IfOk result (λ keeps. IsTrue keeps ↔ ((p : ℕ) → into_point flow.now p ≤ cost_of problem.now p)) }
+    ensures value { IfOk result (λ keeps. IsTrue keeps
+        ↔ ((p : ℕ) → into_point flow.now p ≤ cost_of problem.now p)) }
     ensures refused { IfErr result (λ e. e ≡ CheckFault.NoMemory) }
 {
     let mut left = costs(alloc, problem)?;
     Ok(covers(&mut left, flow, End::Point))
 }
 
-// Whether the amounts at each end are at most what is left there. Each is taken from what is left, so
-// that no sum wraps.
+// Whether the amounts at each end are at most what is left there. Each is taken from what is left,
+// so that no sum wraps.
 fn covers(left: &mut Vec<u64>, flow: &[(u32, u32, u64)], end: End) -> bool
     requires inside { All (λ r. end_of end r < length left.old.items) flow.now }
-    ensures value { IsTrue result ↔ ((k : ℕ) → amount_at (end_of end) (λ r. r.2) flow.now k ≤ slice_index left.old.items k) }
+    ensures value { IsTrue result ↔ ((k : ℕ) → amount_at (end_of end) (λ r. r.2) flow.now k
+        ≤ slice_index left.old.items k) }
 {
     for row in flow {
         let at = place(end, row);

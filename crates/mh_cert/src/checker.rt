@@ -4,7 +4,7 @@ ghost use Rattle.std.specs.Prelude.{◌≡◌, ◌⊎◌, ◌↔◌, All, IfErr,
 ghost use Rattle.mh_cert.specs.Plans.{Matches, plan_tests};
 ghost use Rattle.mh_network.specs.Problems.{IsProblem, link_at};
 ghost use Rattle.mh_network.specs.Selection.{IsBest, member};
-ghost use Rattle.mh_network.specs.Tests.{Passes, Refuses};
+ghost use Rattle.mh_base.specs.Tests.{Passes, Refuses};
 
 use crate::bounds::{keeps_costs, keeps_gains};
 use crate::fault::CheckFault;
@@ -13,21 +13,24 @@ use crate::plan::Plan;
 use crate::rows::are_rows;
 use crate::sums::{balances, is_worth};
 use crate::union::is_union;
-use mh_network::{Problem, is_ascending};
+use mh_base::{demand, is_ascending};
+use mh_network::Problem;
 use std::alloc::Global;
 
 /// Tests that a plan matches its problem: that its links are eligible and ascending, its points are
-/// the ascending union of their needs, its rows are a flow of positive amounts in order, and its value
-/// is both what the links are worth and what the flow leaves of all gains. The links are then best: no
-/// set of eligible links is worth more. O(links + points + rows).
+/// the ascending union of their needs, its rows are a flow of positive amounts in order, and its
+/// value is both what the links are worth and what the flow leaves of all gains. The links are then
+/// best: no set of eligible links is worth more. O(links + points + rows).
 ///
-/// Refused with the first part that fails, as `CheckFault` tells them, or with NoMemory, only where a
-/// growth was refused. A plan that matches is refused with nothing else.
+/// Refused with the first part that fails, as `CheckFault` tells them, or with NoMemory, only where
+/// a growth was refused. A plan that matches is refused with nothing else.
 pub fn check(alloc: Global, problem: &Problem, plan: &Plan) -> Result<(), CheckFault>
     ensures matching { OnOk result (Matches problem.now plan.now) }
     ensures best { OnOk result (IsBest problem.now (member plan.now.links)) }
-    ensures refused { IfErr result (λ e. (e ≡ CheckFault.NoMemory) ⊎ Refuses (plan_tests problem.now plan.now) e) }
-    ensures exact { IfErr result (λ e. (e ≡ CheckFault.NoMemory) ⊎ (Matches problem.now plan.now → ⊥)) }
+    ensures refused { IfErr result (λ e. (e ≡ CheckFault.NoMemory)
+        ⊎ Refuses (plan_tests problem.now plan.now) e) }
+    ensures exact { IfErr result (λ e. (e ≡ CheckFault.NoMemory)
+        ⊎ (Matches problem.now plan.now → ⊥)) }
 {
     matching_is_best(problem);
     test(alloc, problem, plan)
@@ -36,7 +39,8 @@ pub fn check(alloc: Global, problem: &Problem, plan: &Plan) -> Result<(), CheckF
 // The tests of the parts, in order.
 fn test(alloc: Global, problem: &Problem, plan: &Plan) -> Result<(), CheckFault>
     requires problem { IsProblem problem.now }
-    ensures value { MatchResult result (λ _. Passes (plan_tests problem.now plan.now)) (λ e. (e ≡ CheckFault.NoMemory) ⊎ Refuses (plan_tests problem.now plan.now) e) }
+    ensures value { MatchResult result (λ _. Passes (plan_tests problem.now plan.now))
+        (λ e. (e ≡ CheckFault.NoMemory) ⊎ Refuses (plan_tests problem.now plan.now) e) }
 {
     let links = plan.links.as_slice();
     let points = plan.points.as_slice();
@@ -58,13 +62,6 @@ fn test(alloc: Global, problem: &Problem, plan: &Plan) -> Result<(), CheckFault>
         balances(plan.value, problem, flow),
         CheckFault::FlowNotMatching,
     )
-}
-
-// A test, and the fault that is told where it fails.
-fn demand(passes: bool, fault: CheckFault) -> Result<(), CheckFault>
-    ensures value { MatchResult result (λ _. passes ≡ true) (λ e. (passes ≡ false) × (e ≡ fault)) }
-{
-    if passes { Ok(()) } else { Err(fault) }
 }
 
 fn all_eligible(problem: &Problem, links: &[u32]) -> bool

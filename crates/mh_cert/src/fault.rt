@@ -15,8 +15,8 @@ pub enum CheckFault {
     LinksNotAscending,
     /// The points are not the ascending union of the links' needs.
     PointsNotUnion,
-    /// A row of the flow with a link or point past the last, a point that its link does not need, or
-    /// the amount 0; or the rows are not strictly ascending by link and then point.
+    /// A row of the flow with a link or point past the last, a point that its link does not need,
+    /// or the amount 0; or the rows are not strictly ascending by link and then point.
     BadFlowRow,
     /// The amounts of a link pass its gain.
     GainExceeded,

@@ -1,4 +1,11 @@
 //! The checker of a stranger's plan: whether it matches its problem, and so is best.
+//!
+//! ```
+//! match check(alloc, &problem, &plan) {
+//!     Ok(()) => println!(rt; "accepted: {plan}")?,
+//!     Err(fault) => println!(rt; "refused {fault}")?,
+//! }
+//! ```
 #![tactic(auto)]
 
 mod bounds;

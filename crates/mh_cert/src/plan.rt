@@ -1,9 +1,11 @@
 //! Plans.
 
-use mh_network::Listing;
+use mh_base::{Listing, Numbers};
+use mh_network::carried;
+use std::fmt;
 
 /// A choice of links with what shows that it is best. Links and points are given by number.
-#[derive(Drop)]
+#[derive(Debug, Drop)]
 pub struct Plan {
     /// The chosen links, ascending.
     pub links: Listing<u32>,
@@ -11,7 +13,31 @@ pub struct Plan {
     pub points: Listing<u32>,
     /// What the links are worth: their gains less the costs of the points.
     pub value: i64,
-    /// A flow: a link, a point that it needs, and a positive amount, ascending by link and then point.
-    /// The amounts of a link are at most its gain, those of a point at most its cost.
+    /// A flow: a link, a point that it needs, and a positive amount, ascending by link and then
+    /// point. The amounts of a link are at most its gain, those of a point at most its cost.
     pub flow: Listing<(u32, u32, u64)>,
+}
+
+/// Links and points by number, the value, and the sum of the flow's amounts, as
+/// `links 0,1 points 0,1,2 value 1 flow 15`. An empty list is `-`.
+impl fmt::Display for Plan {
+    ghost use Rattle.std.specs.Prelude.{Some};
+    ghost use Rattle.mh_cert.specs.Display.{plan_text};
+
+    ghost output = { λ plan. Some (plan_text plan) };
+
+    fn fmt<W: fmt::Write>(&self, f: &mut fmt::Formatter<W>) -> fmt::Result {
+        let links = Numbers {
+            numbers: self.links.as_slice(),
+        };
+        let points = Numbers {
+            numbers: self.points.as_slice(),
+        };
+        let flow = carried(self.flow.as_slice());
+        write!(
+            f,
+            "links {links} points {points} value {} flow {flow}",
+            self.value
+        )
+    }
 }

@@ -8,8 +8,8 @@ ghost use Rattle.mh_network.specs.Selection.{IsBefore};
 
 use mh_network::Problem;
 
-// Whether each row is a link, a point that it needs, and a positive amount, ascending by link and then
-// point.
+// Whether each row is a link, a point that it needs, and a positive amount, ascending by link and
+// then point.
 pub(crate) fn are_rows(problem: &Problem, flow: &[(u32, u32, u64)]) -> bool
     ensures value { IsTrue result ↔ AreRows problem.now flow.now }
 {
@@ -17,7 +17,8 @@ pub(crate) fn are_rows(problem: &Problem, flow: &[(u32, u32, u64)]) -> bool
 }
 
 fn is_row(problem: &Problem, row: &(u32, u32, u64)) -> bool
-    ensures value { IsTrue result ↔ ((needs_point problem.now row.now.0 row.now.1 ≡ true) × (0 < row.now.2)) }
+    ensures value { IsTrue result ↔ ((needs_point problem.now row.now.0 row.now.1 ≡ true)
+        × (0 < row.now.2)) }
 {
     let (link, point, amount) = *row;
     let link = link as usize;

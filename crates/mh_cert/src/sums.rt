@@ -5,6 +5,7 @@ ghost use Rattle.std.specs.List.Sorted.{IsStrictlyIncreasing};
 ghost use Rattle.mh_cert.specs.Plans.{IsUnion};
 ghost use Rattle.mh_network.specs.Problems.{IsProblem, link_at, gain_of, cost_of, needs_point, sum_of_gains};
 ghost use Rattle.mh_network.specs.Selection.{cost_sum, from_link, gain_sum, member, union_of_needs, value_of, worth};
+ghost use Rattle.mh_network.specs.Limits.{greatest_sum};
 
 use mh_network::{Problem, all_gains, amounts_are_within_gains, carried, lists_add_up};
 
@@ -28,7 +29,7 @@ fn gain_and_cost(problem: &Problem, links: &[u32], points: &[u32]) -> (u64, u64)
     requires union { IsUnion problem.now links.now points.now }
     ensures gain { result.0 ≡ gain_sum problem.now (member links.now) }
     ensures cost { result.1 ≡ cost_sum problem.now (union_of_needs problem.now (member links.now)) }
-    ensures small { (result.0 ≤ 2 ^ 62) × (result.1 ≤ 2 ^ 62) }
+    ensures small { (result.0 ≤ greatest_sum) × (result.1 ≤ greatest_sum) }
 {
     lists_add_up();
     (
@@ -42,15 +43,16 @@ pub(crate) fn balances(value: i64, problem: &Problem, flow: &[(u32, u32, u64)]) 
     requires problem { IsProblem problem.now }
     requires needed { All (λ r. needs_point problem.now r.0 r.1 ≡ true) flow.now }
     requires gains { (j : ℕ) → from_link flow.now j ≤ gain_of problem.now j }
-    ensures value { IsTrue result ↔ (value ≡ pos (sum_of_gains problem.now) -ℤ pos (value_of flow.now)) }
+    ensures value { IsTrue result ↔ (value ≡ pos (sum_of_gains problem.now) -ℤ pos
+        (value_of flow.now)) }
 {
     amounts_are_within_gains();
     is_difference(value, all_gains(problem), carried(flow) as u64)
 }
 
 fn is_difference(value: i64, one: u64, other: u64) -> bool
-    requires one { one ≤ 2 ^ 62 }
-    requires other { other ≤ 2 ^ 62 }
+    requires one { one ≤ greatest_sum }
+    requires other { other ≤ greatest_sum }
     ensures value { IsTrue result ↔ (value ≡ pos one -ℤ pos other) }
 {
     value == one as i64 - other as i64
@@ -61,7 +63,7 @@ fn gain_of_links(problem: &Problem, links: &[u32]) -> u64
     requires inside { All (λ j. j < length problem.now.links) links.now }
     requires ascending { IsStrictlyIncreasing links.now }
     ensures value { result ≡ gain_sum problem.now (member links.now) }
-    ensures small { result ≤ 2 ^ 62 }
+    ensures small { result ≤ greatest_sum }
 {
     lists_add_up();
     let mut sum: u64 = 0;
@@ -76,7 +78,7 @@ fn cost_of_points(problem: &Problem, points: &[u32]) -> u64
     requires inside { All (λ p. p < length problem.now.costs) points.now }
     requires ascending { IsStrictlyIncreasing points.now }
     ensures value { result ≡ cost_sum problem.now (member points.now) }
-    ensures small { result ≤ 2 ^ 62 }
+    ensures small { result ≤ greatest_sum }
 {
     lists_add_up();
     let mut sum: u64 = 0;

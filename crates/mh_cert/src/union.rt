@@ -6,8 +6,9 @@ ghost use Rattle.mh_network.specs.Problems.{IsProblem, link_at};
 ghost use Rattle.mh_network.specs.Selection.{member, union_of_needs};
 
 use crate::fault::CheckFault;
-use crate::marks::{are_below, mark, mark_the_same};
-use mh_network::{Problem, is_ascending, lists_add_up};
+use crate::marks::{mark, mark_the_same};
+use mh_base::{are_below, is_ascending};
+use mh_network::{Problem, lists_add_up};
 use std::alloc::Global;
 
 // Whether the points are the ascending union of the links' needs.
@@ -30,7 +31,8 @@ pub(crate) fn is_union(
 // Whether these numbers and no others are marked.
 #[tactic(auto, using(crate::proofs::Within::marked_below))]
 fn are_marked(alloc: Global, numbers: &[u32], marks: &[bool]) -> Result<bool, CheckFault>
-    ensures value { IfOk result (λ are. IsTrue are ↔ ((p : ℕ) → member numbers.now p ≡ slice_index_or marks.now p false)) }
+    ensures value { IfOk result (λ are. IsTrue are
+        ↔ ((p : ℕ) → member numbers.now p ≡ slice_index_or marks.now p false)) }
     ensures refused { IfErr result (λ e. e ≡ CheckFault.NoMemory) }
 {
     if !are_below(numbers, marks.len()) {
@@ -46,7 +48,8 @@ fn needed_points(alloc: Global, problem: &Problem, links: &[u32]) -> Result<Vec<
     requires problem { IsProblem problem.now }
     requires eligible { All (λ j. (link_at problem.now j).eligible ≡ true) links.now }
     ensures count { IfOk result (λ marks. length marks.items ≡ length problem.now.costs) }
-    ensures value { IfOk result (λ marks. (p : ℕ) → slice_index_or marks.items p false ≡ union_of_needs problem.now (member links.now) p) }
+    ensures value { IfOk result (λ marks. (p : ℕ) → slice_index_or marks.items p false
+        ≡ union_of_needs problem.now (member links.now) p) }
     ensures refused { IfErr result (λ e. e ≡ CheckFault.NoMemory) }
 {
     lists_add_up();

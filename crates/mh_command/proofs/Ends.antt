@@ -6,13 +6,14 @@ use Rattle.mh_core.specs.Legal.{MachineState}
 use Rattle.mh_text.specs.declared.json.step.Step.{Step}
 use Rattle.mh_text.specs.Bytes.{HasFailed, one_more}
 use Rattle.mh_text.specs.Faults.{fault_line}
-use Rattle.mh_text.specs.Gives.{IsEndOf}
+use Rattle.mh_text.specs.Gives.{IsEndOf, no_memory}
 use Rattle.mh_text.specs.Lines.{lines_of}
 use Rattle.mh_text.specs.Output as output
 use Rattle.mh_text.specs.Output.{first, outside, EndsEarly, Failed}
 use Rattle.mh_text.specs.declared.fault.Fault.{Fault}
+use Rattle.mh_text.specs.declared.fault.InputFault.TheVariants.{NoMemory, TooLong, NotJson, BadShape, BadValue, UnknownShared, Tree, Definition, Problem, BadType}
 use Rattle.mh_text.specs.declared.fault.TextFault.{TextFault}
-use Rattle.mh_text.specs.declared.fault.TextFault.TheVariants.{NoMemory, TooLong, NotJson, BadShape, BadValue, UnknownShared, Tree, Definition, Problem, ReadFailed, WriteFailed, BadType, NoReader}
+use Rattle.mh_text.specs.declared.fault.TextFault.TheVariants.{Input, ReadFailed, WriteFailed, NoReader}
 use Rattle.mh_text.specs.declared.json.script.Script.{Script}
 use Rattle.mh_command.specs.Answers.{Answers, EndsIn, FailsIn, IsAnswerTo, Works, output_alone, turned_down}
 use Rattle.mh_command.specs.Statuses.{status_told}
@@ -29,7 +30,7 @@ nothing_appended (Some xs) None kept = absurd kept
 nothing_appended (Some xs) (Some ys) kept = kept ∙ sym (append-nil xs)
 
 -- a request that memory kept from its work
-pub nothing_done : (request : Request) (input old : Option (List ℕ)) (A B : Type 0) → FailsIn request input old old A B (outside NoMemory)
+pub nothing_done : (request : Request) (input old : Option (List ℕ)) (A B : Type 0) → FailsIn request input old old A B (outside no_memory)
 nothing_done Run input old A B = inl (Keeps-refl old, inl refl)
 nothing_done Check input old A B = inl (Keeps-refl old, inl refl)
 nothing_done (Plan options) input old A B = inl (Keeps-refl old, inl refl)
@@ -37,34 +38,34 @@ nothing_done (Stress options) input old A B = inl (Keeps-refl old, inl (inl refl
 
 -- the statuses of faults
 pub told_range : (k : TextFault) → (0 < status_told k) × (status_told k ≤ 4) × (status_told k ≢ 2)
-told_range NoMemory = (omega arith, omega arith, omega arith)
-told_range TooLong = (omega arith, omega arith, omega arith)
-told_range NotJson = (omega arith, omega arith, omega arith)
-told_range BadShape = (omega arith, omega arith, omega arith)
-told_range BadValue = (omega arith, omega arith, omega arith)
-told_range UnknownShared = (omega arith, omega arith, omega arith)
-told_range (Tree cause) = (omega arith, omega arith, omega arith)
-told_range (Definition cause) = (omega arith, omega arith, omega arith)
-told_range (Problem cause) = (omega arith, omega arith, omega arith)
+told_range (Input NoMemory) = (omega arith, omega arith, omega arith)
+told_range (Input TooLong) = (omega arith, omega arith, omega arith)
+told_range (Input NotJson) = (omega arith, omega arith, omega arith)
+told_range (Input BadShape) = (omega arith, omega arith, omega arith)
+told_range (Input BadValue) = (omega arith, omega arith, omega arith)
+told_range (Input UnknownShared) = (omega arith, omega arith, omega arith)
+told_range (Input (Tree cause)) = (omega arith, omega arith, omega arith)
+told_range (Input (Definition cause)) = (omega arith, omega arith, omega arith)
+told_range (Input (Problem cause)) = (omega arith, omega arith, omega arith)
 told_range ReadFailed = (omega arith, omega arith, omega arith)
 told_range WriteFailed = (omega arith, omega arith, omega arith)
-told_range (BadType cause) = (omega arith, omega arith, omega arith)
+told_range (Input (BadType cause)) = (omega arith, omega arith, omega arith)
 told_range NoReader = (omega arith, omega arith, omega arith)
 
 -- the status 3 is that of a stream that failed
 stream_failed : (A B : Type 0) (k : TextFault) → status_told k ≡ 3 → IsEndOf A B k → A ⊎ B
-stream_failed A B NoMemory three end = absurd (omega (arith, three))
-stream_failed A B TooLong three end = absurd (omega (arith, three))
-stream_failed A B NotJson three end = absurd (omega (arith, three))
-stream_failed A B BadShape three end = absurd (omega (arith, three))
-stream_failed A B BadValue three end = absurd (omega (arith, three))
-stream_failed A B UnknownShared three end = absurd (omega (arith, three))
-stream_failed A B (Tree cause) three end = absurd (omega (arith, three))
-stream_failed A B (Definition cause) three end = absurd (omega (arith, three))
-stream_failed A B (Problem cause) three end = absurd (omega (arith, three))
+stream_failed A B (Input NoMemory) three end = absurd (omega (arith, three))
+stream_failed A B (Input TooLong) three end = absurd (omega (arith, three))
+stream_failed A B (Input NotJson) three end = absurd (omega (arith, three))
+stream_failed A B (Input BadShape) three end = absurd (omega (arith, three))
+stream_failed A B (Input BadValue) three end = absurd (omega (arith, three))
+stream_failed A B (Input UnknownShared) three end = absurd (omega (arith, three))
+stream_failed A B (Input (Tree cause)) three end = absurd (omega (arith, three))
+stream_failed A B (Input (Definition cause)) three end = absurd (omega (arith, three))
+stream_failed A B (Input (Problem cause)) three end = absurd (omega (arith, three))
 stream_failed A B ReadFailed three end = inl end
 stream_failed A B WriteFailed three end = inr end
-stream_failed A B (BadType cause) three end = absurd (omega (arith, three))
+stream_failed A B (Input (BadType cause)) three end = absurd (omega (arith, three))
 stream_failed A B NoReader three end = absurd (omega (arith, three))
 
 -- what was left written stands after a flush, which keeps it
@@ -108,25 +109,25 @@ module _ (old new : Option (List ℕ)) (A B : Type 0) (e : Fault) (small : statu
 
   refuses_input : (request : Request) (input : Option (List ℕ)) → FailsIn request input old new A B e → IfSome input (IsTurned old new e request)
   refuses_input request None fails = tt
-  refuses_input Run (Some bytes) (inl (kept, inl memory)) = absurd (not_outside NoMemory (omega arith) memory)
+  refuses_input Run (Some bytes) (inl (kept, inl memory)) = absurd (not_outside no_memory (omega arith) memory)
   refuses_input Run (Some bytes) (inl (kept, inr (inl (read, failed)))) = absurd (not_outside ReadFailed (omega arith) read)
   refuses_input Run (Some bytes) (inl (kept, inr (inr (inl fault)))) = (inr (e, fault, refl), kept)
-  refuses_input Run (Some bytes) (inl (kept, inr (inr (inr (memory, reached))))) = absurd (not_of NoMemory (omega arith) memory)
-  refuses_input Run (Some bytes) (inr (script, is, inl (kept, memory))) = absurd (not_outside NoMemory (omega arith) memory)
-  refuses_input Run (Some bytes) (inr (script, is, inr (inl memory, ends))) = absurd (not_of NoMemory (omega arith) memory)
+  refuses_input Run (Some bytes) (inl (kept, inr (inr (inr (memory, reached))))) = absurd (not_of no_memory (omega arith) memory)
+  refuses_input Run (Some bytes) (inr (script, is, inl (kept, memory))) = absurd (not_outside no_memory (omega arith) memory)
+  refuses_input Run (Some bytes) (inr (script, is, inr (inl memory, ends))) = absurd (not_of no_memory (omega arith) memory)
   refuses_input Run (Some bytes) (inr (script, is, inr (inr (write, failed), ends))) = absurd (not_of WriteFailed (omega arith) write)
-  refuses_input Check (Some bytes) (inl (kept, inl memory)) = absurd (not_outside NoMemory (omega arith) memory)
+  refuses_input Check (Some bytes) (inl (kept, inl memory)) = absurd (not_outside no_memory (omega arith) memory)
   refuses_input Check (Some bytes) (inl (kept, inr (inl (read, failed)))) = absurd (not_outside ReadFailed (omega arith) read)
   refuses_input Check (Some bytes) (inl (kept, inr (inr fault))) = (inr (e, fault, refl), kept)
   refuses_input Check (Some bytes) (inr (verdict, found, (is, failed, begun))) = absurd (not_outside WriteFailed (omega arith) is)
-  refuses_input (Plan options) (Some bytes) (inl (kept, inl memory)) = absurd (not_outside NoMemory (omega arith) memory)
+  refuses_input (Plan options) (Some bytes) (inl (kept, inl memory)) = absurd (not_outside no_memory (omega arith) memory)
   refuses_input (Plan options) (Some bytes) (inl (kept, inr (inl (read, failed)))) = absurd (not_outside ReadFailed (omega arith) read)
   refuses_input (Plan options) (Some bytes) (inl (kept, inr (inr fault))) = (inr (e, fault, refl), kept)
   refuses_input (Plan options) (Some bytes) (inr (text, planned, (is, failed, begun))) = absurd (not_outside WriteFailed (omega arith) is)
-  refuses_input (Stress options) (Some bytes) (inl (kept, inl (inl memory))) = absurd (not_outside NoMemory (omega arith) memory)
+  refuses_input (Stress options) (Some bytes) (inl (kept, inl (inl memory))) = absurd (not_outside no_memory (omega arith) memory)
   refuses_input (Stress options) (Some bytes) (inl (kept, inl (inr (inl (read, failed))))) = absurd (not_outside ReadFailed (omega arith) read)
   refuses_input (Stress options) (Some bytes) (inl (kept, inl (inr (inr (inl fault))))) = (inr (e, fault, refl), kept)
-  refuses_input (Stress options) (Some bytes) (inl (kept, inl (inr (inr (inr (memory, reached)))))) = absurd (not_of NoMemory (omega arith) memory)
+  refuses_input (Stress options) (Some bytes) (inl (kept, inl (inr (inr (inr (memory, reached)))))) = absurd (not_of no_memory (omega arith) memory)
   refuses_input (Stress options) (Some bytes) (inl (kept, inr reader)) = absurd (not_outside NoReader (omega arith) reader)
   refuses_input (Stress options) (Some bytes) (inr (text, stressed, (is, failed, begun))) = absurd (not_outside WriteFailed (omega arith) is)
 

@@ -4,16 +4,17 @@ use Rattle.clap.specs.declared.error.kind.ErrorKind.{ErrorKind}
 use Rattle.clap.specs.declared.error.kind.ErrorKind.TheVariants.{DisplayHelp, DisplayVersion, OutOfMemory}
 use Rattle.mh_text.specs.declared.lines.verdict.Verdict.{Verdict}
 use Rattle.mh_text.specs.declared.lines.verdict.Verdict.TheVariants.{Accepted, Refused}
+use Rattle.mh_text.specs.declared.fault.InputFault.TheVariants.{NoMemory}
 use Rattle.mh_text.specs.declared.fault.TextFault.{TextFault}
-use Rattle.mh_text.specs.declared.fault.TextFault.TheVariants.{NoMemory, NoReader, ReadFailed, WriteFailed}
+use Rattle.mh_text.specs.declared.fault.TextFault.TheVariants.{Input, NoReader, ReadFailed, WriteFailed}
 
 -- of a fault: 4 where memory ran out or no reader could be made, 3 where a read or a write failed, 1 where the input is refused
 abbrev pub status_told : TextFault → ℕ
-status_told NoMemory = 4
+status_told (Input NoMemory) = 4
 status_told NoReader = 4
 status_told ReadFailed = 3
 status_told WriteFailed = 3
-status_told _ = 1
+status_told (Input _) = 1
 
 -- of words that ask for nothing: 4 where memory ran out, 0 for help and the version, 2 for any others
 abbrev pub status_answered : ErrorKind → ℕ

@@ -36,7 +36,8 @@ pub(crate) fn work<T: Threads + Wait + Sync, R: Read, W: Write>(
     ensures small { IfOk result (λ status. status < 2) }
     ensures fails { IfErr result (FailsIn request (R.remaining reader.old.inner)
         (W.contents out.old.inner) (W.contents out.new.inner)
-        (HasFailed reader.old.failures reader.new.failures) (HasFailed out.old.failures out.new.failures)) }
+        (HasFailed reader.old.failures reader.new.failures)
+        (HasFailed out.old.failures out.new.failures)) }
     ensures told { IfErr result (λ e. IsEndOf (HasFailed reader.old.failures reader.new.failures)
         (HasFailed out.old.failures out.new.failures) e.kind) }
     ensures reads { OnOk result (reader.new.failures ≡ reader.old.failures) }
@@ -64,7 +65,8 @@ pub(crate) fn work<T: Threads + Wait + Sync, R: Read, W: Write>(
 
 /// Writes a text to its end, and flushes it.
 fn write_text<W: Write>(stream: &mut Watched<W>, text: &str) -> Result<(), TextFault>
-    ensures ok { OnOk result (Appends (W.contents stream.old.inner) (W.contents stream.new.inner) text.now) }
+    ensures ok { OnOk result (Appends (W.contents stream.old.inner)
+        (W.contents stream.new.inner) text.now) }
     ensures kept { OnOk result (stream.new.failures ≡ stream.old.failures) }
     ensures failed { OnErr result (stream.new.failures ≡ one_more stream.old.failures) }
 {
@@ -74,7 +76,8 @@ fn write_text<W: Write>(stream: &mut Watched<W>, text: &str) -> Result<(), TextF
 
 /// Writes the line of a fault, and gives its status, or the one for what kept the line back.
 fn tell<E: Write>(alloc: Global, fault: Fault, err: &mut Watched<E>) -> u8
-    ensures told { IsTold (E.contents err.old.inner) (E.contents err.new.inner) err.old.failures err.new.failures result fault }
+    ensures told { IsTold (E.contents err.old.inner) (E.contents err.new.inner) err.old.failures
+        err.new.failures result fault }
 {
     let Ok(line) = format!(in alloc; "{fault}\n") else {
         return NO_MEMORY;
@@ -94,11 +97,14 @@ pub(crate) fn end<W: Write, E: Write>(
 ) -> u8
     ensures kept { Keeps (W.contents out.old.inner) (W.contents out.new.inner) }
     ensures done { IfOk worked (λ status.
-        (IsDone (E.contents err.old.inner) (E.contents err.new.inner) err.old.failures err.new.failures result status
-        × (out.new.failures ≡ out.old.failures))
-        ⊎ (IsTold (E.contents err.old.inner) (E.contents err.new.inner) err.old.failures err.new.failures result (outside WriteFailed) × (out.new.failures ≡ one_more out.old.failures))) }
-    ensures told { IfErr worked (λ e. IsTold (E.contents err.old.inner) (E.contents err.new.inner)
-        err.old.failures err.new.failures result e × (out.new.failures ≡ out.old.failures)) }
+        (IsDone (E.contents err.old.inner) (E.contents err.new.inner) err.old.failures
+        err.new.failures result status × (out.new.failures ≡ out.old.failures))
+        ⊎ (IsTold (E.contents err.old.inner) (E.contents err.new.inner) err.old.failures
+        err.new.failures result (outside WriteFailed)
+        × (out.new.failures ≡ one_more out.old.failures))) }
+    ensures told { IfErr worked (λ e. IsTold (E.contents err.old.inner)
+        (E.contents err.new.inner) err.old.failures err.new.failures result e
+        × (out.new.failures ≡ out.old.failures)) }
 {
     match worked {
         Ok(status) => match out.flush() {
@@ -115,7 +121,8 @@ pub(crate) fn end<W: Write, E: Write>(
 
 /// Writes what words are answered with, and gives the status, or the one for what kept it back.
 fn show<W: Write>(alloc: Global, error: &Error, stream: &mut Watched<W>, status: u8) -> u8
-    ensures shown { IsShown (W.contents stream.old.inner) (W.contents stream.new.inner) stream.old.failures stream.new.failures result status }
+    ensures shown { IsShown (W.contents stream.old.inner)
+        (W.contents stream.new.inner) stream.old.failures stream.new.failures result status }
 {
     let Ok(text) = error.to_string(alloc) else {
         return NO_MEMORY;
@@ -140,8 +147,8 @@ pub(crate) fn reply<W: Write, E: Write>(
     ensures help { result ≡ 0 → Keeps (E.contents err.old.inner) (E.contents err.new.inner)
         × (out.new.failures ≡ out.old.failures) × (err.new.failures ≡ err.old.failures) }
     ensures wrong { result ≡ 2 → Keeps (W.contents out.old.inner) (W.contents out.new.inner) }
-    ensures failed { result ≡ 3
-        → HasFailed out.old.failures out.new.failures ⊎ HasFailed err.old.failures err.new.failures }
+    ensures failed { result ≡ 3 → HasFailed out.old.failures out.new.failures
+        ⊎ HasFailed err.old.failures err.new.failures }
 {
     match error.kind() {
         ErrorKind::OutOfMemory => NO_MEMORY,

@@ -33,14 +33,17 @@ fn perform<T: Threads + Wait + Sync, R: Read, W: Write, E: Write>(
     ensures known { result ≤ 4 }
     ensures asked { result ≢ 2 }
     ensures answers { result < 2 → Answers request (R.remaining reader.old.inner) result
-        (W.contents out.old.inner) (W.contents out.new.inner)
-        (E.contents err.old.inner) (E.contents err.new.inner) }
+        (W.contents out.old.inner) (W.contents out.new.inner) (E.contents err.old.inner)
+        (E.contents err.new.inner) }
     ensures stopped { 2 ≤ result → (e : Fault)
-        × EndsIn request (R.remaining reader.old.inner) (W.contents out.old.inner) (W.contents out.new.inner)
-        (HasFailed reader.old.failures reader.new.failures) (HasFailed out.old.failures out.new.failures) e
-        × IsTold (E.contents err.old.inner) (E.contents err.new.inner) err.old.failures err.new.failures result e }
+        × EndsIn request (R.remaining reader.old.inner) (W.contents out.old.inner)
+        (W.contents out.new.inner) (HasFailed reader.old.failures reader.new.failures)
+        (HasFailed out.old.failures out.new.failures) e
+        × IsTold (E.contents err.old.inner) (E.contents err.new.inner) err.old.failures
+        err.new.failures result e }
     ensures failed { result ≡ 3 → HasFailed reader.old.failures reader.new.failures
-        ⊎ HasFailed out.old.failures out.new.failures ⊎ HasFailed err.old.failures err.new.failures }
+        ⊎ HasFailed out.old.failures out.new.failures
+        ⊎ HasFailed err.old.failures err.new.failures }
     ensures done { result ≡ 0 → Keeps (E.contents err.old.inner) (E.contents err.new.inner)
         × (reader.new.failures ≡ reader.old.failures) × (out.new.failures ≡ out.old.failures)
         × (err.new.failures ≡ err.old.failures) }
@@ -52,14 +55,14 @@ fn perform<T: Threads + Wait + Sync, R: Read, W: Write, E: Write>(
 /// Runs one command line, of which the first word is the program's name, and answers the status.
 ///
 /// `mhlink run` reads a script from `reader`, and writes the line of each reply to `out`. `mhlink
-/// check` reads a problem and a plan, and writes to `out` whether the plan is accepted. `mhlink plan`
-/// reads a problem, and writes its best plan to `out`; it takes `--workers N`, N from 1 to 64,
-/// `--certificate` and `--phases`, and starts threads by `rt`. `mhlink stress` reads a script, runs its
-/// calls in threads, and writes the sums of their hits to `out`; it takes `--workers N`, N from 1 to 64,
-/// and `--rounds N`, N from 1 to 1,000,000. A fault is one line on `err`. The statuses: 0 done, also help
-/// and the version, which go to `out`; 1 the input is refused, or its plan; 2 the command line is wrong,
-/// and nothing is read; 3 a read, a write or a flush failed; 4 memory ran out outside an event, or
-/// readers of a published world.
+/// check` reads a problem and a plan, and writes to `out` whether the plan is accepted. `mhlink
+/// plan` reads a problem, and writes its best plan to `out`; it takes `--workers N`, N from 1 to
+/// 64, `--certificate` and `--phases`, and starts threads by `rt`. `mhlink stress` reads a script,
+/// runs its calls in threads, and writes the sums of their hits to `out`; it takes `--workers N`, N
+/// from 1 to 64, and `--rounds N`, N from 1 to 1,000,000. A fault is one line on `err`. The
+/// statuses: 0 done, also help and the version, which go to `out`; 1 the input is refused, or its
+/// plan; 2 the command line is wrong, and nothing is read; 3 a read, a write or a flush failed; 4
+/// memory ran out outside an event, or readers of a published world.
 pub fn command<T: Threads + Wait + Sync, S: AsStr, R: Read, W: Write, E: Write>(
     rt: &T,
     alloc: Global,
@@ -71,16 +74,18 @@ pub fn command<T: Threads + Wait + Sync, S: AsStr, R: Read, W: Write, E: Write>(
     ensures known { result ≤ 4 }
     ensures asked { (request : Request) → AsksFor request (map S.text words.now) → result ≢ 2 }
     ensures answers { (request : Request) → AsksFor request (map S.text words.now) → result < 2
-        → Answers request (R.remaining reader.old.inner) result
-        (W.contents out.old.inner) (W.contents out.new.inner)
-        (E.contents err.old.inner) (E.contents err.new.inner) }
-    ensures stopped { (request : Request) → AsksFor request (map S.text words.now) → 2 ≤ result → (e : Fault)
-        × EndsIn request (R.remaining reader.old.inner) (W.contents out.old.inner) (W.contents out.new.inner)
-        (HasFailed reader.old.failures reader.new.failures) (HasFailed out.old.failures out.new.failures) e
-        × IsTold (E.contents err.old.inner) (E.contents err.new.inner) err.old.failures err.new.failures result e }
+        → Answers request (R.remaining reader.old.inner) result (W.contents out.old.inner)
+        (W.contents out.new.inner) (E.contents err.old.inner) (E.contents err.new.inner) }
+    ensures stopped { (request : Request) → AsksFor request (map S.text words.now) → 2 ≤ result
+        → (e : Fault) × EndsIn request (R.remaining reader.old.inner) (W.contents out.old.inner)
+        (W.contents out.new.inner) (HasFailed reader.old.failures reader.new.failures)
+        (HasFailed out.old.failures out.new.failures) e
+        × IsTold (E.contents err.old.inner) (E.contents err.new.inner) err.old.failures
+        err.new.failures result e }
     ensures turned_down { result ≡ 1 → IfSome (R.remaining reader.old.inner) IsTurnedDown }
     ensures failed { result ≡ 3 → HasFailed reader.old.failures reader.new.failures
-        ⊎ HasFailed out.old.failures out.new.failures ⊎ HasFailed err.old.failures err.new.failures }
+        ⊎ HasFailed out.old.failures out.new.failures
+        ⊎ HasFailed err.old.failures err.new.failures }
     ensures done { result ≡ 0 → Keeps (E.contents err.old.inner) (E.contents err.new.inner)
         × (reader.new.failures ≡ reader.old.failures) × (out.new.failures ≡ out.old.failures)
         × (err.new.failures ≡ err.old.failures) }
@@ -88,7 +93,8 @@ pub fn command<T: Threads + Wait + Sync, S: AsStr, R: Read, W: Write, E: Write>(
         × (reader.new ≡ reader.old) }
     ensures replied { (kind : ErrorKind) → fault_of program (map S.text words.now) ≡ kind ∷ []
         → IsReply result kind × (reader.new ≡ reader.old) }
-    ensures help { AsksHelp (map S.text words.now) → IsReply result ErrorKind.DisplayHelp × (reader.new ≡ reader.old) }
+    ensures help { AsksHelp (map S.text words.now)
+        → IsReply result ErrorKind.DisplayHelp × (reader.new ≡ reader.old) }
     ensures version { AsksVersion (map S.text words.now)
         → IsReply result ErrorKind.DisplayVersion × (reader.new ≡ reader.old) }
 {

@@ -94,8 +94,10 @@ fn check_command<'a>(alloc: Global) -> Command<'a>
 /// The command line with one option more.
 fn with_option<'a>(command: Command<'a>, option: Arg<'a>) -> Result<Command<'a>, AllocError>
     requires own { option.global ≡ false }
-    ensures app { IfOk result (λ c. app_of c ≡ with_rule (app_of command.entry) (rule_of option.entry)) }
-    ensures local { IfOk result (λ c. (out-Command c).has_globals ≡ (out-Command command.entry).has_globals) }
+    ensures app { IfOk result (λ c. app_of c
+        ≡ with_rule (app_of command.entry) (rule_of option.entry)) }
+    ensures local { IfOk result (λ c. (out-Command c).has_globals
+        ≡ (out-Command command.entry).has_globals) }
 {
     command.arg(option)
 }
@@ -216,7 +218,8 @@ fn build<'a>(alloc: Global) -> Result<Command<'a>, AllocError>
 /// The options of the words after `plan`; none where there are not from 1 to 64 workers, which clap
 /// refuses itself.
 fn options_of(matches: &ArgMatches) -> Option<PlanOptions>
-    ensures value { (options : PlanOptions) → AreOptions options (rows_of (found_of matches.now)) → result ≡ Some options }
+    ensures value { (options : PlanOptions) → AreOptions options (rows_of (found_of matches.now))
+        → result ≡ Some options }
     ensures some { IfSome result (λ options. 0 < options.workers) }
     ensures few { IfSome result (λ options. options.workers ≤ most_workers) }
 {
@@ -257,9 +260,11 @@ fn lawful(options: StressOptions) -> Option<StressOptions>
     Some(options)
 }
 
-/// The options of the words after `stress`; none where a number is out of its range, which clap refuses itself.
+/// The options of the words after `stress`; none where a number is out of its range, which clap
+/// refuses itself.
 fn stress_options_of(matches: &ArgMatches) -> Option<StressOptions>
-    ensures value { (options : StressOptions) → AreStressed options (rows_of (found_of matches.now)) → result ≡ Some options }
+    ensures value { (options : StressOptions) → AreStressed options (rows_of (found_of matches.now))
+        → result ≡ Some options }
     ensures lawful { IfSome result AreLawful }
 {
     let workers = widen(matches.get_one::<u8>("workers"));
@@ -269,7 +274,8 @@ fn stress_options_of(matches: &ArgMatches) -> Option<StressOptions>
 
 /// The request of the subcommand that was used; none where none was, which clap refuses itself.
 fn request_of(matches: &ArgMatches) -> Option<Request>
-    ensures value { (request : Request) → IsNamed request (subcommand_rows_of matches.now) → result ≡ Some request }
+    ensures value { (request : Request) → IsNamed request (subcommand_rows_of matches.now)
+        → result ≡ Some request }
     ensures bounded { IfSome result HasWorkers }
 {
     match matches.subcommand()? {
@@ -281,10 +287,11 @@ fn request_of(matches: &ArgMatches) -> Option<Request>
     }
 }
 
-/// What the words ask for, of which the first is the program's name, or what they are answered with.
+/// What the words ask for, of which the first is the program's name, or what they are answered
+/// with.
 pub(crate) fn parse<S: AsStr>(alloc: Global, words: &[S]) -> Result<Option<Request>, Error>
-    ensures asked { IfOk result (λ asked. (request : Request) → AsksFor request (map S.text words.now)
-        → asked ≡ Some request) }
+    ensures asked { IfOk result (λ asked. (request : Request)
+        → AsksFor request (map S.text words.now) → asked ≡ Some request) }
     ensures bounded { IfOk result (λ asked. IfSome asked HasWorkers) }
     ensures taken { IfErr result (λ e. (request : Request) → AsksFor request (map S.text words.now)
         → kind_of e ≡ ErrorKind.OutOfMemory) }

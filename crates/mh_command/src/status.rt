@@ -2,7 +2,7 @@
 ghost use Rattle.std.specs.Prelude.{◌≡◌};
 ghost use Rattle.mh_command.specs.Statuses.{status_told, status_found};
 
-use mh_text::{TextFault, Verdict};
+use mh_text::{InputFault, TextFault, Verdict};
 
 /// The exit status of what was done, and of help and the version.
 pub const DONE: u8 = 0;
@@ -24,9 +24,9 @@ pub(crate) fn status_of_fault(kind: TextFault) -> u8
     ensures value { result ≡ status_told kind }
 {
     match kind {
-        TextFault::NoMemory | TextFault::NoReader => NO_MEMORY,
+        TextFault::Input(InputFault::NoMemory) | TextFault::NoReader => NO_MEMORY,
         TextFault::ReadFailed | TextFault::WriteFailed => IO_FAILED,
-        _ => REFUSED,
+        TextFault::Input(_) => REFUSED,
     }
 }
 

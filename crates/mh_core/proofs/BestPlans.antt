@@ -3,10 +3,10 @@ use Rattle.std.proofs.Common.{◌++◌, ◌∷◌, [], ℕ, List, subst}
 use Rattle.mh_network.specs.declared.link_row.LinkRow.{LinkRow}
 use Rattle.mh_network.specs.Problems.{IsProblem, problem_of}
 use Rattle.mh_network.specs.Selection.{IsBest, member}
-use Rattle.mh_network.proofs.Kept.{tested_problem}
+use Rattle.mh_network.proofs.PublicLaws.{tested_problem}
 use Rattle.mh_cert.specs.Plans.{Matches}
 use Rattle.mh_cert.specs.declared.plan.Plan.{Plan}
-use Rattle.mh_cert.proofs.Matching.{best_by_match}
+use Rattle.mh_cert.proofs.PublicLaws.{best_by_match}
 use Rattle.mh_site.specs.Defined.{DefinitionData}
 use Rattle.mh_site.specs.Lawful.{IsDefinition}
 use Rattle.mh_core.specs.declared.record.Record.{Record}

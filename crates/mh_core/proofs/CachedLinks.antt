@@ -16,7 +16,7 @@ use Rattle.mh_site.specs.declared.link.Link.{Link}
 use Rattle.mh_site.specs.Defined.{DefinitionData, no_link, no_site, site_at}
 use Rattle.mh_site.specs.Lawful.{IsDefinition, IsLink}
 use Rattle.mh_site.specs.Links.{first_link, link_at, links}
-use Rattle.mh_site.proofs.Numbers.{before_within, numbered}
+use Rattle.mh_site.proofs.PublicLaws.{before_within, numbered}
 use Rattle.mh_core.specs.declared.record.Record.{Record}
 use Rattle.mh_core.specs.Books.{Legal}
 use Rattle.mh_core.specs.Installations.{before_key, cached, chosen, entry, own_links, plan_at, usable}

@@ -11,21 +11,21 @@ use Rattle.mh_tree.specs.Handle.{TypedTree}
 use Rattle.mh_tree.specs.Limits.{point_bound}
 use Rattle.mh_tree.specs.Meaning.{mean}
 use Rattle.mh_tree.specs.Typing.{IsTyped, kind_at}
-use Rattle.mh_tree.proofs.Types.{few_parameters}
+use Rattle.mh_tree.proofs.PublicLaws.{few_parameters}
 use Rattle.mh_pic.specs.Chains.{PlainEntry, HaveKind, HaveNeedsBelow}
-use Rattle.mh_pic.proofs.Bounds.{chain_bound}
-use Rattle.mh_pic.proofs.Chains.{chain_faithful}
+use Rattle.mh_pic.proofs.PublicLaws.{chain_bound, chain_faithful}
 use Rattle.mh_site.specs.declared.link.Link.{Link}
 use Rattle.mh_site.specs.declared.site.Site.{Site}
 use Rattle.mh_site.specs.Defined.{DefinitionData, link_of, no_link, no_site, site_at}
 use Rattle.mh_site.specs.Lawful.{IsDefinition, IsLink}
 use Rattle.mh_site.specs.Links.{first_link, link_at}
-use Rattle.mh_site.proofs.Numbers.{numbered}
+use Rattle.mh_site.proofs.PublicLaws.{numbered}
 use Rattle.mh_core.specs.declared.record.Record.{Record}
 use Rattle.mh_core.specs.declared.record.Record.TheVariants.{Flushed, Targeted, Invalidated, Snapped, Published, Installed}
 use Rattle.mh_core.specs.Installations.{before_key, cached, chosen, entry, is_current, kept, own_links, plan_at, usable}
 use Rattle.mh_core.specs.Problems.{is_eligible}
 use Rattle.mh_network.specs.Selection.{member}
+use Rattle.mh_tree.specs.Environment.{Environment}
 
 none_of : (P : ℕ → Type 0) → All P []
 none_of P k e below = absurd (omega arith)
@@ -83,7 +83,7 @@ module _ (d : DefinitionData) (s : ℕ) where
         key.kind ∙ ap (kind_at (site_at d s).method_type.parameters) same)
 
     -- the cache means what the tree means
-    pub cache_mean : (v : List Bool) (a : List Value) → IsDefinition d → s < length d.sites → IsTyped t.tree (site_at d s).method_type → Fits (site_at d s).method_type a
+    pub cache_mean : (v : Environment) (a : List Value) → IsDefinition d → s < length d.sites → IsTyped t.tree (site_at d s).method_type → Fits (site_at d s).method_type a
         → mean v (cached d s t js).tree a ≡ mean v t.tree a
     cache_mean v a is h typed fits = by_key (site_at d s).key refl
       where

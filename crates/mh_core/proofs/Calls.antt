@@ -14,9 +14,10 @@ use Rattle.mh_core.specs.declared.reply.Reply.TheVariants.{Called}
 use Rattle.mh_core.specs.Books.{BookState, IsBook}
 use Rattle.mh_core.specs.Installations.{kept, linked}
 use Rattle.mh_core.specs.Legal.{answer_of_call}
-use Rattle.mh_core.specs.Records.{base, is_valid, valid_points}
+use Rattle.mh_core.specs.Records.{base, environment, is_valid, valid_points}
 use Rattle.mh_core.proofs.Caches.{cache_bound, cache_mean, kept_lawful}
 use Rattle.mh_core.proofs.Worlds.{world_sites, read, valid_is, base_suits}
+use Rattle.mh_tree.specs.Environment.{Environment, with_points}
 
 module _ (b : BookState) (s : ℕ) where
   abbrev own : TypedTree
@@ -50,7 +51,7 @@ module _ (b : BookState) (s : ℕ) where
         }
 
     -- the tree that a call runs means what the base tree means
-    pub same_mean : (v : List Bool) (a : List Value) (t : TypedTree) → t ≡ own → IsSound t.tree t.signature → Fits (site_at b.definition s).method_type a → mean v run.tree a ≡ mean v own.tree a
+    pub same_mean : (v : Environment) (a : List Value) (t : TypedTree) → t ≡ own → IsSound t.tree t.signature → Fits (site_at b.definition s).method_type a → mean v run.tree a ≡ mean v own.tree a
     same_mean v a t e sound fits =
         let suits = base_suits b.definition b.limits b.records s is.definition h is.legal in
         let typed : IsTyped own.tree (site_at b.definition s).method_type =
@@ -59,11 +60,11 @@ module _ (b : BookState) (s : ℕ) where
 
     pub answered : (a : List Value) (v : List Bool) (t u : TypedTree) (o : Outcome) (n : ℕ) → v ≡ b.world.valid → t ≡ (state_at b.world s).linked
         → u ≡ (state_at b.world s).base → IsSound u.tree u.signature → Fits (site_at b.definition s).method_type a
-        → o ≡ mean v t.tree a → n ≡ steps v t.tree a → Called o n ≡ answer_of_call b.definition b.records s a
+        → o ≡ mean (with_points v) t.tree a → n ≡ steps (with_points v) t.tree a → Called o n ≡ answer_of_call b.definition b.records s a
     answered a v t u o n e f f′ sound fits g k =
-        let p = valid_points b.definition b.records in
+        let p = environment b.definition b.records in
         ap (λ (x : Outcome). Called x n) g
-        ∙ (ap (λ (x : ℕ). Called (mean v t.tree a) x) k
-        ∙ (ap (λ (x : List Bool). Called (mean x t.tree a) (steps x t.tree a)) (e ∙ reads.points)
+        ∙ (ap (λ (x : ℕ). Called (mean (with_points v) t.tree a) x) k
+        ∙ (ap (λ (x : List Bool). Called (mean (with_points x) t.tree a) (steps (with_points x) t.tree a)) (e ∙ reads.points)
         ∙ (ap (λ (x : TypedTree). Called (mean p x.tree a) (steps p x.tree a)) (f ∙ reads.table)
         ∙ ap (λ (x : Outcome). Called x (steps p run.tree a)) (same_mean p a u (f′ ∙ reads.base) sound fits))))

@@ -5,7 +5,7 @@ use Rattle.mh_site.specs.declared.link.Link.{Link}
 use Rattle.mh_site.specs.Defined.{DefinitionData, site_at, no_link, no_site}
 use Rattle.mh_site.specs.Lawful.{IsDefinition, IsLink}
 use Rattle.mh_site.specs.Links.{links, links_at, links_before, link_at, site_of}
-use Rattle.mh_site.proofs.Numbers.{home, numbered, links_in}
+use Rattle.mh_site.proofs.PublicLaws.{home, numbered, links_in}
 
 pub lawful_link : (d : DefinitionData) (j : ℕ) → IsDefinition d → j < length (links d) → IsLink (length d.points) (site_at d (site_of d j)) (link_at d j).1
 lawful_link d j is h =

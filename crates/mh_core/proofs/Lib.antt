@@ -1,25 +1,26 @@
-pub mod Numbered
-pub mod LawfulLinks
-pub mod ProblemRows
-pub mod Worlds
-pub mod Growing
-pub mod PastSnapshots
-pub mod HitCounts
-pub mod Deciding
-pub mod Standing
-pub mod PlanTables
-pub mod InstalledLinks
-pub mod CachedLinks
-pub mod PlanTests
-pub mod BestPlans
-pub mod Caches
-pub mod Calls
-pub mod StandingTrees
-pub mod Changing
-pub mod Runs
-pub mod HitLinks
-pub mod CountedHits
-pub mod FlushedCalls
-pub mod Joined
-pub mod Ledgered
-pub mod Machines
+mod BestPlans
+mod CachedLinks
+mod Caches
+mod Calls
+mod Changing
+mod CountedHits
+mod Deciding
+mod FlushedCalls
+mod Growing
+mod HitCounts
+mod HitLinks
+mod InstalledLinks
+mod Joined
+mod LawfulLinks
+mod Ledgered
+mod Machines
+mod Numbered
+mod PastSnapshots
+mod PlanTables
+mod PlanTests
+mod ProblemRows
+pub mod PublicLaws
+mod Runs
+mod Standing
+mod StandingTrees
+mod Worlds

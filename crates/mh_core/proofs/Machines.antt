@@ -20,7 +20,7 @@ use Rattle.mh_core.specs.Legal.{HasRoom, MachineState, Setting, extended, record
 use Rattle.mh_core.specs.Limits.{LimitsData}
 use Rattle.mh_core.specs.Records.{hits_in}
 use Rattle.mh_core.specs.Rows.{tests}
-use Rattle.mh_core.specs.Tests.{Passes, Refuses}
+use Rattle.mh_base.specs.Tests.{Passes, Refuses}
 use Rattle.mh_core.proofs.Growing.{fits_in}
 use Rattle.mh_core.proofs.Joined.{event_of_call, joined_call, joined_length, joined_record, placed_record}
 use Rattle.mh_core.proofs.Ledgered.{flush_empties, flush_of_others, ledger_read, opened_ledgers, same_ledgers, set_ledgers, unflushed_at, unflushed_length}

@@ -8,14 +8,15 @@ use Rattle.std.proofs.lemmas.List.Elements.{All-head, All-tail}
 use Rattle.std.proofs.lemmas.List.FromFn.{get_or-map-range_with_len}
 use Rattle.mh_network.specs.declared.link_row.LinkRow.{LinkRow}
 use Rattle.mh_network.specs.Problems.{kept_gain, problem_of, sum_of_gains}
-use Rattle.mh_network.proofs.Kept.{kept_gains}
+use Rattle.mh_network.proofs.PublicLaws.{kept_gains}
 use Rattle.mh_site.specs.Defined.{DefinitionData}
 use Rattle.mh_site.specs.Lawful.{IsDefinition}
 use Rattle.mh_site.specs.Links.{links, link_at}
 use Rattle.mh_core.specs.declared.record.Record.{Record}
 use Rattle.mh_core.specs.declared.record.Record.TheVariants.{Flushed, Targeted, Invalidated, Snapped, Published, Installed}
 use Rattle.mh_core.specs.Books.{Legal}
-use Rattle.mh_core.specs.Limits.{LimitsData, most_gains}
+use Rattle.mh_core.specs.Limits.{LimitsData}
+use Rattle.mh_network.specs.Limits.{greatest_sum}
 use Rattle.mh_core.specs.Problems.{IsTaken, is_eligible, problem_after, row}
 use Rattle.mh_core.specs.Records.{is_valid, numbers, past, snapshots, total, valid_points}
 use Rattle.mh_core.specs.Snapshots.{SnapshotState, snapshot_of, snapshots_of}
@@ -68,7 +69,7 @@ kept_at d (Installed m ∷ r) n none h = kept_at d r n none h
 -- the records before a snapshot were legal, and its gains passed their test
 pub record WasLegal (d : DefinitionData) (l : LimitsData) (g : List Record) : Type 0 where
   pub legal : Legal d l g
-  pub gains : sum_of_gains (problem_after d g) ≤ most_gains
+  pub gains : sum_of_gains (problem_after d g) ≤ greatest_sum
 
 pub past_legal : (d : DefinitionData) (l : LimitsData) (r : List Record) (n : ℕ) → Legal d l r → IsTaken r n → WasLegal d l (past r n)
 past_legal d l [] n legal taken = absurd (omega (arith, taken.0, taken.1))

@@ -134,7 +134,9 @@ plan_known b m is known =
     let p = plan_at b.records m in
     let was = was_tested b.definition b.limits b.records m is.legal known in
     let P = problem_at b.definition b.records p.snapshot in
+    let eligible = was.matching.0 in
+    let ascending = was.matching.1.0 in
     record {
-      inside = λ k e h. omega (arith, eligible_inside P (slice_index_or p.plan.links k e) (was.matching.eligible k e h), links_count b.definition (past b.records p.snapshot));
-      ascending = was.matching.links;
+      inside = λ k e h. omega (arith, eligible_inside P (slice_index_or p.plan.links k e) (eligible k e h), links_count b.definition (past b.records p.snapshot));
+      ascending = ascending;
     }

@@ -1,7 +1,6 @@
 -- What is told of a plan that is refused.
 use Rattle.std.proofs.Common.{◌≡◌, ◌⊎◌, inl, inr, ℕ, List, subst}
 use Rattle.mh_network.specs.Problems.{ProblemData}
-use Rattle.mh_network.specs.Tests as first
 use Rattle.mh_cert.specs.Plans.{Matches, plan_tests}
 use Rattle.mh_cert.specs.declared.fault.CheckFault.{CheckFault}
 use Rattle.mh_cert.specs.declared.plan.Plan.{Plan}
@@ -13,11 +12,11 @@ use Rattle.mh_core.specs.declared.refusal.Refusal.TheVariants.{NoMemory, PlanRef
 use Rattle.mh_core.specs.Limits.{LimitsData}
 use Rattle.mh_core.specs.Problems.{IsTaken, problem_at}
 use Rattle.mh_core.specs.Rows.{tests}
-use Rattle.mh_core.specs.Tests.{Refuses}
+use Rattle.mh_base.specs.Tests.{Refuses}
 
 -- want of memory, or the first part of the plan that is wrong
 abbrev pub Refused : ProblemData → Plan → Refusal → Type 0
-Refused P plan told = (told ≡ NoMemory) ⊎ ((Matches P plan → ⊥) × ((fault : CheckFault) × (told ≡ PlanRefused fault) × first.Refuses (plan_tests P plan) fault))
+Refused P plan told = (told ≡ NoMemory) ⊎ ((Matches P plan → ⊥) × ((fault : CheckFault) × (told ≡ PlanRefused fault) × Refuses (plan_tests P plan) fault))
 
 plan_is_refused : (d : DefinitionData) (l : LimitsData) (accepted : ℕ) (r : List Record) (n : ℕ) (plan : Plan) (told : Refusal) → IsTaken r n → Refused (problem_at d r n) plan told
     → Refuses (tests d l accepted r (Published n plan)) told

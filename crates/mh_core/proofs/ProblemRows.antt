@@ -8,8 +8,8 @@ use Rattle.std.proofs.lemmas.List.Elements.{All-map}
 use Rattle.std.proofs.lemmas.List.Sums.{sum_by-le}
 use Rattle.mh_network.specs.declared.link_row.LinkRow.{LinkRow}
 use Rattle.mh_network.specs.Problems.{kept_gain, problem_tests}
-use Rattle.mh_network.specs.Tests.{Passes}
-use Rattle.mh_network.proofs.Kept.{kept_gains, kept_costs}
+use Rattle.mh_base.specs.Tests.{Passes}
+use Rattle.mh_network.proofs.PublicLaws.{kept_gains, kept_costs}
 use Rattle.mh_site.specs.declared.point.Point.{Point}
 use Rattle.mh_site.specs.Defined.{DefinitionData}
 use Rattle.mh_site.specs.Lawful.{IsDefinition}

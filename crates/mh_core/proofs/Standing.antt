@@ -5,7 +5,7 @@ use Rattle.std.specs.Prelude.{reverse}
 use Rattle.std.proofs.lemmas.List.{ext_get_or, length-reverse, reverse-reverse}
 use Rattle.std.proofs.lemmas.List.FromFn.{length-map-range_with_len}
 use Rattle.mh_ledger.specs.Ledgers.{at, flushed_into, HasRoom, LedgerState, TotalsState}
-use Rattle.mh_ledger.proofs.Added.{length-added}
+use Rattle.mh_ledger.proofs.PublicLaws.{length-added}
 use Rattle.mh_network.specs.Problems.{kept_gain, problem_of, sum_of_gains}
 use Rattle.mh_site.specs.Defined.{DefinitionData}
 use Rattle.mh_site.specs.Lawful.{IsDefinition}

@@ -18,13 +18,14 @@ use Rattle.mh_core.specs.Replayed.{world}
 use Rattle.mh_core.specs.Standing.{IsStanding}
 use Rattle.mh_core.proofs.Caches.{cache_bound, cache_mean, kept_lawful}
 use Rattle.mh_core.proofs.Worlds.{base_suits, read, site_after}
+use Rattle.mh_tree.specs.Environment.{Environment}
 
 -- what stands of a state stands of an equal one
 abbrev Stands : DefinitionData → ℕ → SiteState → Type 0
 Stands d s x =
     (x.base.signature ≡ (site_at d s).method_type) × (x.linked.signature ≡ (site_at d s).method_type)
     × (point_bound x.base.tree ≤ length d.points) × (point_bound x.linked.tree ≤ length d.points)
-    × (IsTyped x.base.tree (site_at d s).method_type → (v : List Bool) → (a : List Value) → Fits (site_at d s).method_type a → mean v x.linked.tree a ≡ mean v x.base.tree a)
+    × (IsTyped x.base.tree (site_at d s).method_type → (v : Environment) → (a : List Value) → Fits (site_at d s).method_type a → mean v x.linked.tree a ≡ mean v x.base.tree a)
 
 pub stands : (d : DefinitionData) (l : LimitsData) (r : List Record) (s : ℕ) → IsDefinition d → Legal d l r → s < length d.sites → IsStanding d (world d r) s
 stands d l r s is legal h =

@@ -14,7 +14,7 @@ use Rattle.mh_site.specs.Lawful.{IsDefinition}
 use Rattle.mh_site.specs.LookBack as look
 use Rattle.mh_site.specs.LookBack.{member, last_of}
 use Rattle.mh_site.specs.Worlds.{SiteState, opened, replay, state_at}
-use Rattle.mh_site.proofs.LookBack as sites
+use Rattle.mh_site.proofs.PublicLaws as sites
 use Rattle.mh_core.specs.declared.record.Record.{Record}
 use Rattle.mh_core.specs.declared.record.Record.TheVariants.{Flushed, Targeted, Invalidated, Snapped, Published, Installed}
 use Rattle.mh_core.specs.Books.{Legal}
@@ -204,7 +204,7 @@ state_of t l k n = record { base = t; linked = l; kept = k; version = n }
 pub read : (d : DefinitionData) (r : List Record) (s : ℕ) → s < length d.sites → state_at (world d r) s ≡ site_after d r s
 read d r s h =
     let c = controls d r in
-    sites.read d c s h
+    sites.site_read d c s h
     ∙ (ap (λ (t : TypedTree). state_of t (look.linked d c s) (look.kept c s) (look.version c s)) (base_same d r s)
     ∙ (ap (λ (l : TypedTree). state_of (base d r s) l (look.kept c s) (look.version c s)) (linked_same d r s h)
     ∙ (ap (λ (k : List ℕ). state_of (base d r s) (linked d r s) k (look.version c s)) (kept_same d r s h)

@@ -18,7 +18,7 @@ use Rattle.mh_core.specs.Records.{total}
 use Rattle.mh_core.specs.Replayed.{world}
 use Rattle.mh_core.specs.Rows.{tests}
 use Rattle.mh_core.specs.Snapshots.{SnapshotState, snapshots_of}
-use Rattle.mh_core.specs.Tests.{Passes, Refuses}
+use Rattle.mh_base.specs.Tests.{Passes, Refuses}
 
 -- its records, newest first, with what was made of them: the world, the totals, the snapshots and the plans, newest first;
 -- and for how many more records there is memory

@@ -18,9 +18,10 @@ use Rattle.mh_core.specs.Histories.{records}
 use Rattle.mh_core.specs.Hits.{hits, unflushed, moved}
 use Rattle.mh_core.specs.Limits.{LimitsData}
 use Rattle.mh_core.specs.Installations.{linked, report}
-use Rattle.mh_core.specs.Records.{base, valid_points, snapshots, plans}
+use Rattle.mh_core.specs.Records.{base, environment, snapshots, plans}
 use Rattle.mh_core.specs.Rows as rows
-use Rattle.mh_core.specs.Tests.{Tests, test, no_more, only, Refuses, Passes}
+use Rattle.mh_base.specs.Tests.{Tests, test, only, Refuses, Passes}
+use Rattle.mh_core.specs.Refusals.{memory_last}
 
 -- what does not change: the definition, how many workers, the limits
 pub record Setting : Type 0 where
@@ -43,7 +44,7 @@ extended m e = record { setting = m.setting; history = e ∷ m.history }
 
 -- what the site's base tree means, in the steps of its linked tree, with the points that are valid
 abbrev pub answer_of_call : DefinitionData → List Record → ℕ → List Value → Reply
-answer_of_call d r s a = answers.Called (mean (valid_points d r) (base d r s).tree a) (steps (valid_points d r) (linked d r s).tree a)
+answer_of_call d r s a = answers.Called (mean (environment d r) (base d r s).tree a) (steps (environment d r) (linked d r s).tree a)
 
 module _ (x : Setting) where
   -- the worker may count the hit of a call, if it hits a link
@@ -51,17 +52,17 @@ module _ (x : Setting) where
   HasRoom h w s a = (j : ℕ) → j < length (links x.definition) → hits x.definition s a j ≡ true → unflushed x.definition h w j < x.limits.ledger
 
   -- the tests of a record behind those of a history
-  abbrev pub record_tests : List Event → Record → Tests
+  abbrev pub record_tests : List Event → Record → Tests Refusal
   record_tests h e = rows.tests x.definition x.limits (length h) (records x.definition h) e
 
   -- the tests of an event after a history, in order
-  abbrev pub tests : List Event → Event → Tests
+  abbrev pub tests : List Event → Event → Tests Refusal
   tests h (Call w s a) =
       test (w < x.workers) (only NoWorker)
       (test (s < length x.definition.sites) (only NoSite)
       (test (Fits (site_at x.definition s).method_type a) (only WrongType)
       (test (length h < x.limits.history) (only HistoryFull)
-      (test (HasRoom h w s a) (only LedgerFull) no_more))))
+      (test (HasRoom h w s a) (only LedgerFull) memory_last))))
   tests h (Flush w) = test (w < x.workers) (only NoWorker) (record_tests h (Flushed w (moved x.definition h w)))
   tests h (Target s tree) = record_tests h (Targeted s tree)
   tests h (Invalidate points) = record_tests h (Invalidated points)
@@ -81,7 +82,7 @@ module _ (x : Setting) where
 
   -- a call whose tree enters no node that has String in its type, so that it asks for no memory
   abbrev pub TakesNoMemory : List Event → Event → Type 0
-  TakesNoMemory h (Call w s a) = let r = records x.definition h in EntersPlain (valid_points x.definition r) (linked x.definition r s).tree a
+  TakesNoMemory h (Call w s a) = let r = records x.definition h in EntersPlain (environment x.definition r) (linked x.definition r s).tree a
   TakesNoMemory h _ = ⊥
 
   -- the event passes its tests, is answered and is in the history; or it is refused, and is not

@@ -1,5 +1,5 @@
 pub mod Refusals
-pub mod Tests
+pub mod Display
 pub mod Limits
 pub mod Records
 pub mod Problems
@@ -21,6 +21,7 @@ pub mod MachineViews
 pub mod ArgumentViews
 pub mod Pasts
 pub mod CallViews
+pub use Rattle.mh_base.specs.Tests
 pub use Rattle.mh_cert.specs.Plans
 pub use Rattle.mh_ledger.specs.Ledgers
 pub use Rattle.mh_network.specs.Selection

@@ -5,6 +5,10 @@ use Rattle.std.specs.Prelude.{ℕ, ◌≤◌, ◌^◌}
 abbrev pub most_events : ℕ
 most_events = 2 ^ 20
 
+-- what a list of calls is shorter than, before one is added
+abbrev pub most_calls : ℕ
+most_calls = 2 ^ 63
+
 -- the most hits of a link that a worker may hold, and that the totals may hold
 abbrev pub most_held : ℕ
 most_held = 2 ^ 20
@@ -30,7 +34,3 @@ most_snapshots = 1024
 
 abbrev pub most_plans : ℕ
 most_plans = 1024
-
--- the greatest sum of the gains of a problem
-abbrev pub most_gains : ℕ
-most_gains = 2 ^ 62

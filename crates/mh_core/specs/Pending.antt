@@ -8,7 +8,7 @@ use Rattle.mh_core.specs.declared.record.Record.{Record}
 use Rattle.mh_core.specs.Books.{BookState}
 use Rattle.mh_core.specs.Replayed.{controls}
 use Rattle.mh_core.specs.Rows.{tests}
-use Rattle.mh_core.specs.Tests.{Passes}
+use Rattle.mh_base.specs.Tests.{Passes}
 
 -- the record that will be appended, what it changes in a world, and how many calls were accepted beside the records
 pub record PendingState : Type 0 where

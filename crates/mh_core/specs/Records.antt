@@ -4,48 +4,47 @@ use Rattle.std.specs.List.{range_with_len}
 use Rattle.mh_tree.specs.Handle.{TypedTree}
 use Rattle.mh_network.specs.Sums.{amount_at}
 use Rattle.mh_ledger.specs.Ledgers.{at}
-use Rattle.mh_site.specs.Defined.{DefinitionData, site_at}
-use Rattle.mh_site.specs.LookBack.{member}
+use Rattle.mh_site.specs.Defined.{DefinitionData}
+use Rattle.mh_site.specs.LookBack as look_back
+use Rattle.mh_site.specs.declared.control.Control.{Control}
+use Rattle.mh_site.specs.declared.control.Control.TheVariants as control
 use Rattle.mh_core.specs.declared.record.Record.{Record}
 use Rattle.mh_core.specs.declared.record.Record.TheVariants.{Flushed, Targeted, Invalidated, Snapped, Published, Installed}
+use Rattle.mh_tree.specs.Environment.{Environment, with_points}
 
 -- the numbers below a bound
 abbrev pub numbers : ℕ → List ℕ
 numbers n = range_with_len 0 n
 
+-- the retargetings and the invalidations among records, as controls: an installation retargets no site and invalidates no point
+abbrev pub plain_controls : List Record → List Control
+plain_controls [] = []
+plain_controls (Flushed w hits ∷ r) = plain_controls r
+plain_controls (Targeted s tree ∷ r) = control.Target record { site = s; tree = tree } ∷ plain_controls r
+plain_controls (Invalidated points ∷ r) = control.Invalidate points ∷ plain_controls r
+plain_controls (Snapped ∷ r) = plain_controls r
+plain_controls (Published n plan ∷ r) = plain_controls r
+plain_controls (Installed m ∷ r) = plain_controls r
+
 -- the tree of the site's last retargeting, else the opening one (`MutableCallSite.getTarget`)
 abbrev pub base : DefinitionData → List Record → ℕ → TypedTree
-base d [] s = (site_at d s).target
-base d (Flushed w hits ∷ r) s = base d r s
-base d (Targeted t tree ∷ r) s = if t == s then tree else base d r s
-base d (Invalidated points ∷ r) s = base d r s
-base d (Snapped ∷ r) s = base d r s
-base d (Published n plan ∷ r) s = base d r s
-base d (Installed m ∷ r) s = base d r s
+base d r s = look_back.base d (plain_controls r) s
 
 -- how often a site was retargeted
 abbrev pub version : List Record → ℕ → ℕ
-version [] s = 0
-version (Flushed w hits ∷ r) s = version r s
-version (Targeted t tree ∷ r) s = if t == s then version r s + 1 else version r s
-version (Invalidated points ∷ r) s = version r s
-version (Snapped ∷ r) s = version r s
-version (Published n plan ∷ r) s = version r s
-version (Installed m ∷ r) s = version r s
+version r s = look_back.version (plain_controls r) s
 
 -- a point is valid until an invalidation names it (`SwitchPoint.hasBeenInvalidated`)
 abbrev pub is_valid : List Record → ℕ → Bool
-is_valid [] p = true
-is_valid (Flushed w hits ∷ r) p = is_valid r p
-is_valid (Targeted t tree ∷ r) p = is_valid r p
-is_valid (Invalidated points ∷ r) p = not (member points p) && is_valid r p
-is_valid (Snapped ∷ r) p = is_valid r p
-is_valid (Published n plan ∷ r) p = is_valid r p
-is_valid (Installed m ∷ r) p = is_valid r p
+is_valid r p = look_back.is_valid (plain_controls r) p
 
 -- which points are valid, by number
 abbrev pub valid_points : DefinitionData → List Record → List Bool
 valid_points d r = map (is_valid r) (numbers (length d.points))
+
+-- what trees mean after the records
+abbrev pub environment : DefinitionData → List Record → Environment
+environment d r = with_points (valid_points d r)
 
 -- the links that were hit, each with its number of hits, where each link has this number
 abbrev pub hits_in : List ℕ → List (ℕ × ℕ)

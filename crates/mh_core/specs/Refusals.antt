@@ -4,6 +4,15 @@ use Rattle.std.specs.Fmt.{decimal}
 use Rattle.mh_cert.specs.Plans.{fault_number}
 use Rattle.mh_core.specs.declared.refusal.Refusal.{Refusal}
 use Rattle.mh_core.specs.declared.refusal.Refusal.TheVariants.{NoMemory, HistoryFull, NoSite, NoPoint, WrongType, NoSnapshot, NoPlan, PlanRefused, OldPlan, TotalTooLarge, LedgerFull, GainTooLarge, NoWorker}
+use Rattle.mh_base.specs.Tests.{Tests, no_more, may_tell, only}
+
+-- want of memory is told where no test fails
+abbrev pub memory_last : Tests Refusal
+memory_last = no_more (only NoMemory)
+
+-- want of memory may be told before these tests
+abbrev pub take_memory : Tests Refusal → Tests Refusal
+take_memory later = may_tell (only NoMemory) later
 
 abbrev pub refusal_number : Refusal → ℕ
 refusal_number NoMemory = 1

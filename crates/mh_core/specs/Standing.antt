@@ -7,6 +7,7 @@ use Rattle.mh_tree.specs.Meaning.{mean}
 use Rattle.mh_tree.specs.Typing.{IsTyped}
 use Rattle.mh_site.specs.Defined.{DefinitionData, site_at}
 use Rattle.mh_site.specs.Worlds.{WorldState, state_at}
+use Rattle.mh_tree.specs.Environment.{Environment}
 
 -- the trees of a site have its type and name declared points alone, and the linked tree is faithful to the base tree:
 -- whichever points are valid, it has the same outcome on all arguments
@@ -15,8 +16,8 @@ pub record IsStanding (d : DefinitionData) (w : WorldState) (s : ℕ) : Type 0 w
   pub linked_type : (state_at w s).linked.signature ≡ (site_at d s).method_type
   pub base_points : point_bound (state_at w s).base.tree ≤ length d.points
   pub linked_points : point_bound (state_at w s).linked.tree ≤ length d.points
-  pub faithful : IsTyped (state_at w s).base.tree (site_at d s).method_type → (valid : List Bool) → (a : List Value) → Fits (site_at d s).method_type a
-      → mean valid (state_at w s).linked.tree a ≡ mean valid (state_at w s).base.tree a
+  pub faithful : IsTyped (state_at w s).base.tree (site_at d s).method_type → (v : Environment) → (a : List Value) → Fits (site_at d s).method_type a
+      → mean v (state_at w s).linked.tree a ≡ mean v (state_at w s).base.tree a
 
 abbrev pub AreStanding : DefinitionData → WorldState → Type 0
 AreStanding d w = (s : ℕ) → s < length d.sites → IsStanding d w s

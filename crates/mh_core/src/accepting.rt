@@ -1,4 +1,5 @@
-//! How a machine takes an event that passes its tests: all growths come first, and then nothing can fail.
+//! How a machine takes an event that passes its tests: all growths come first, and then nothing can
+//! fail.
 
 ghost use Rattle.std.specs.Prelude.{◌≡◌, ◌<◌, ℕ, List, ◌∷◌, length, IfOk, IsOk, OnOk, OnErr};
 ghost use Rattle.mh_eval.specs.Entered.{EntersPlain};
@@ -12,18 +13,18 @@ ghost use Rattle.mh_core.specs.declared.event.Event.TheVariants.{Call, Flush, Ta
 ghost use Rattle.mh_core.specs.declared.reply.Reply.TheVariants.{Called};
 ghost use Rattle.mh_core.specs.Installations.{linked as linked_of};
 ghost use Rattle.mh_core.specs.Legal.{tests, answer, answer_of_call, extended, HasRoom, TakesNoMemory};
-ghost use Rattle.mh_core.specs.Records.{valid_points};
-ghost use Rattle.mh_core.specs.Tests.{Passes};
+ghost use Rattle.mh_core.specs.Records.{environment};
+ghost use Rattle.mh_base.specs.Tests.{Passes};
 
 use crate::arguments::Arguments;
 use crate::book::Book;
 use crate::call::AcceptedCall;
 use crate::event::Event;
-use crate::fault::NoMemory;
 use crate::hits::hit_link;
 use crate::machine::Machine;
 use crate::plan::SharedPlan;
 use crate::reply::Reply;
+use mh_base::NoMemory;
 use mh_eval::{Stack, run};
 use mh_ledger::Ledger;
 use mh_site::Listing;
@@ -33,7 +34,8 @@ use mh_type::{Outcome, Value};
 impl Machine {
     pub(crate) fn accept(&mut self, event: Event) -> Result<Reply, NoMemory>
         requires passes { Passes (tests self.old.setting self.old.history event) }
-        ensures reply { IfOk result (λ reply. reply ≡ answer self.old.setting self.old.history event) }
+        ensures reply { IfOk result (λ reply. reply
+            ≡ answer self.old.setting self.old.history event) }
         ensures taken { OnOk result (self.new ≡ extended self.old event) }
         ensures refused { OnErr result (self.new ≡ self.old) }
         ensures memory { TakesNoMemory self.old.setting self.old.history event → IsOk result }
@@ -59,11 +61,14 @@ impl Machine {
         site: usize,
         arguments: Arguments,
     ) -> Result<Reply, NoMemory>
-        requires passes { Passes (tests self.old.setting self.old.history (Call worker site arguments)) }
-        ensures reply { IfOk result (λ reply. reply ≡ answer self.old.setting self.old.history (Call worker site arguments)) }
+        requires passes { Passes (tests self.old.setting self.old.history
+            (Call worker site arguments)) }
+        ensures reply { IfOk result (λ reply. reply
+            ≡ answer self.old.setting self.old.history (Call worker site arguments)) }
         ensures taken { OnOk result (self.new ≡ extended self.old (Call worker site arguments)) }
         ensures refused { OnErr result (self.new ≡ self.old) }
-        ensures memory { TakesNoMemory self.old.setting self.old.history (Call worker site arguments) → IsOk result }
+        ensures memory { TakesNoMemory self.old.setting self.old.history
+            (Call worker site arguments) → IsOk result }
     {
         let values = arguments.as_slice();
         let (outcome, steps) = evaluate_call(&mut self.stack, &self.book, site, values)?;
@@ -80,7 +85,8 @@ impl Machine {
 
     fn accept_flush(&mut self, worker: u32) -> Result<Reply, NoMemory>
         requires passes { Passes (tests self.old.setting self.old.history (Flush worker)) }
-        ensures reply { IfOk result (λ reply. reply ≡ answer self.old.setting self.old.history (Flush worker)) }
+        ensures reply { IfOk result (λ reply. reply
+            ≡ answer self.old.setting self.old.history (Flush worker)) }
         ensures taken { OnOk result (self.new ≡ extended self.old (Flush worker)) }
         ensures refused { OnErr result (self.new ≡ self.old) }
     {
@@ -92,7 +98,8 @@ impl Machine {
 
     fn accept_target(&mut self, site: usize, tree: Declared) -> Result<Reply, NoMemory>
         requires passes { Passes (tests self.old.setting self.old.history (Target site tree)) }
-        ensures reply { IfOk result (λ reply. reply ≡ answer self.old.setting self.old.history (Target site tree)) }
+        ensures reply { IfOk result (λ reply. reply
+            ≡ answer self.old.setting self.old.history (Target site tree)) }
         ensures taken { OnOk result (self.new ≡ extended self.old (Target site tree)) }
         ensures refused { OnErr result (self.new ≡ self.old) }
     {
@@ -103,7 +110,8 @@ impl Machine {
 
     fn accept_points(&mut self, points: Listing<u32>) -> Result<Reply, NoMemory>
         requires passes { Passes (tests self.old.setting self.old.history (Invalidate points)) }
-        ensures reply { IfOk result (λ reply. reply ≡ answer self.old.setting self.old.history (Invalidate points)) }
+        ensures reply { IfOk result (λ reply. reply
+            ≡ answer self.old.setting self.old.history (Invalidate points)) }
         ensures taken { OnOk result (self.new ≡ extended self.old (Invalidate points)) }
         ensures refused { OnErr result (self.new ≡ self.old) }
     {
@@ -114,7 +122,8 @@ impl Machine {
 
     fn accept_snapshot(&mut self) -> Result<Reply, NoMemory>
         requires passes { Passes (tests self.old.setting self.old.history Snapshot) }
-        ensures reply { IfOk result (λ reply. reply ≡ answer self.old.setting self.old.history Snapshot) }
+        ensures reply { IfOk result (λ reply. reply
+            ≡ answer self.old.setting self.old.history Snapshot) }
         ensures taken { OnOk result (self.new ≡ extended self.old Snapshot) }
         ensures refused { OnErr result (self.new ≡ self.old) }
     {
@@ -127,7 +136,8 @@ impl Machine {
 
     fn accept_plan(&mut self, snapshot: usize, plan: SharedPlan) -> Result<Reply, NoMemory>
         requires passes { Passes (tests self.old.setting self.old.history (Publish snapshot plan)) }
-        ensures reply { IfOk result (λ reply. reply ≡ answer self.old.setting self.old.history (Publish snapshot plan)) }
+        ensures reply { IfOk result (λ reply. reply
+            ≡ answer self.old.setting self.old.history (Publish snapshot plan)) }
         ensures taken { OnOk result (self.new ≡ extended self.old (Publish snapshot plan)) }
         ensures refused { OnErr result (self.new ≡ self.old) }
     {
@@ -141,7 +151,8 @@ impl Machine {
 
     fn accept_install(&mut self, plan: usize) -> Result<Reply, NoMemory>
         requires passes { Passes (tests self.old.setting self.old.history (Install plan)) }
-        ensures reply { IfOk result (λ reply. reply ≡ answer self.old.setting self.old.history (Install plan)) }
+        ensures reply { IfOk result (λ reply. reply
+            ≡ answer self.old.setting self.old.history (Install plan)) }
         ensures taken { OnOk result (self.new ≡ extended self.old (Install plan)) }
         ensures refused { OnErr result (self.new ≡ self.old) }
     {
@@ -156,9 +167,16 @@ fn count_hit(ledgers: &mut Vec<Ledger>, book: &Book, worker: u32, site: usize, a
     requires inside { site < length book.now.definition.sites }
     requires fits { Fits (site_at book.now.definition site).method_type arguments.now }
     requires known { worker < length ledgers.old.items }
-    requires links { length (ledger_at ledgers.old.items worker).unflushed ≡ length (links book.now.definition) }
-    ensures counted { (workers : ℕ) → (h : List Event) → AreLedgers book.now workers h ledgers.old.items
-        → HasRoom record { definition = book.now.definition; workers = workers; limits = book.now.limits } h worker site arguments.now
+    requires links { length (ledger_at ledgers.old.items worker).unflushed
+        ≡ length (links book.now.definition) }
+    ensures counted { (workers : ℕ) → (h : List Event)
+        → AreLedgers book.now workers h ledgers.old.items
+        → HasRoom record {
+          definition = book.now.definition;
+          workers = workers;
+          limits
+              = book.now.limits;
+        } h worker site arguments.now
         → AreLedgers book.now workers (Call worker site arguments.now ∷ h) ledgers.new.items }
 {
     if let Some(link) = hit_link(book.definition(), site, arguments) {
@@ -176,8 +194,10 @@ fn evaluate_call(
 ) -> Result<(Outcome, u64), NoMemory>
     requires inside { site < length book.now.definition.sites }
     requires fits { Fits (site_at book.now.definition site).method_type arguments.now }
-    ensures answer { IfOk result (λ p. Called p.0 p.1 ≡ answer_of_call book.now.definition book.now.records site arguments.now) }
-    ensures memory { EntersPlain (valid_points book.now.definition book.now.records) (linked_of book.now.definition book.now.records site).tree arguments.now → IsOk result }
+    ensures answer { IfOk result (λ p. Called p.0 p.1
+        ≡ answer_of_call book.now.definition book.now.records site arguments.now) }
+    ensures memory { EntersPlain (environment book.now.definition book.now.records)
+        (linked_of book.now.definition book.now.records site).tree arguments.now → IsOk result }
 {
     let world = book.world();
     // Read for what a tree keeps.

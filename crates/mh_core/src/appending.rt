@@ -1,4 +1,5 @@
-//! How a book takes a record that passes its tests: all growths come first, and then nothing can fail.
+//! How a book takes a record that passes its tests: all growths come first, and then nothing can
+//! fail.
 
 ghost use Rattle.std.specs.Prelude.{◌≡◌, ◌+◌, ℕ, List, length, slice_set, OnOk, OnErr, IfOk};
 ghost use Rattle.mh_ledger.specs.Ledgers.{AreHeld, Holds, LedgerState, settled};
@@ -7,15 +8,15 @@ ghost use Rattle.mh_core.specs.Books.{Takes};
 ghost use Rattle.mh_core.specs.Installations.{report};
 ghost use Rattle.mh_core.specs.Records.{hits_in};
 ghost use Rattle.mh_core.specs.Rows.{tests};
-ghost use Rattle.mh_core.specs.Tests.{Passes};
+ghost use Rattle.mh_base.specs.Tests.{Passes};
 
 use crate::book::Book;
-use crate::fault::NoMemory;
 use crate::hits::hits_of;
 use crate::install_report::InstallReport;
 use crate::plan::{PublishedPlan, SharedPlan};
 use crate::record::Record;
 use crate::snapshot::Snapshot;
+use mh_base::NoMemory;
 use mh_ledger::Ledger;
 use mh_site::Listing;
 use mh_tree::Declared;
@@ -23,11 +24,15 @@ use mh_tree::Declared;
 impl Book {
     pub(crate) fn append_flush(&mut self, calls: usize, ledger: &mut Ledger) -> Result<(), NoMemory>
         requires held { Holds self.old.totals ledger.old }
-        requires passes { Passes (tests self.old.definition self.old.limits (length self.old.records + calls) self.old.records (Flushed ledger.old.worker (hits_in ledger.old.unflushed))) }
-        ensures taken { OnOk result (Takes self.old calls (Flushed ledger.old.worker (hits_in ledger.old.unflushed)) self.new) }
+        requires passes { Passes (tests self.old.definition self.old.limits
+            (length self.old.records + calls) self.old.records
+            (Flushed ledger.old.worker (hits_in ledger.old.unflushed))) }
+        ensures taken { OnOk result (Takes self.old calls
+            (Flushed ledger.old.worker (hits_in ledger.old.unflushed)) self.new) }
         ensures ledger { OnOk result (ledger.new ≡ settled ledger.old) }
         ensures held { Holds self.new.totals ledger.new }
-        ensures all { (ledgers : List LedgerState) → AreHeld self.old.totals ledgers → AreHeld self.new.totals (slice_set ledgers ledger.old.worker ledger.new) }
+        ensures all { (ledgers : List LedgerState) → AreHeld self.old.totals ledgers
+            → AreHeld self.new.totals (slice_set ledgers ledger.old.worker ledger.new) }
         ensures refused { OnErr result (self.new ≡ self.old) }
         ensures kept { OnErr result (ledger.new ≡ ledger.old) }
     {
@@ -46,7 +51,8 @@ impl Book {
         site: usize,
         tree: Declared,
     ) -> Result<(), NoMemory>
-        requires passes { Passes (tests self.old.definition self.old.limits (length self.old.records + calls) self.old.records (Targeted site tree)) }
+        requires passes { Passes (tests self.old.definition self.old.limits
+            (length self.old.records + calls) self.old.records (Targeted site tree)) }
         ensures taken { OnOk result (Takes self.old calls (Targeted site tree) self.new) }
         ensures totals { self.new.totals ≡ self.old.totals }
         ensures refused { OnErr result (self.new ≡ self.old) }
@@ -61,7 +67,8 @@ impl Book {
         calls: usize,
         points: Listing<u32>,
     ) -> Result<(), NoMemory>
-        requires passes { Passes (tests self.old.definition self.old.limits (length self.old.records + calls) self.old.records (Invalidated points)) }
+        requires passes { Passes (tests self.old.definition self.old.limits
+            (length self.old.records + calls) self.old.records (Invalidated points)) }
         ensures taken { OnOk result (Takes self.old calls (Invalidated points) self.new) }
         ensures totals { self.new.totals ≡ self.old.totals }
         ensures refused { OnErr result (self.new ≡ self.old) }
@@ -72,7 +79,8 @@ impl Book {
     }
 
     pub(crate) fn append_snapshot(&mut self, calls: usize) -> Result<usize, NoMemory>
-        requires passes { Passes (tests self.old.definition self.old.limits (length self.old.records + calls) self.old.records Snapped) }
+        requires passes { Passes (tests self.old.definition self.old.limits
+            (length self.old.records + calls) self.old.records Snapped) }
         ensures taken { OnOk result (Takes self.old calls Snapped self.new) }
         ensures number { IfOk result (λ number. number ≡ length self.old.snapshots + 1) }
         ensures totals { self.new.totals ≡ self.old.totals }
@@ -93,7 +101,8 @@ impl Book {
         snapshot: usize,
         plan: SharedPlan,
     ) -> Result<usize, NoMemory>
-        requires passes { Passes (tests self.old.definition self.old.limits (length self.old.records + calls) self.old.records (Published snapshot plan)) }
+        requires passes { Passes (tests self.old.definition self.old.limits
+            (length self.old.records + calls) self.old.records (Published snapshot plan)) }
         ensures taken { OnOk result (Takes self.old calls (Published snapshot plan) self.new) }
         ensures number { IfOk result (λ number. number ≡ length self.old.plans + 1) }
         ensures totals { self.new.totals ≡ self.old.totals }
@@ -117,9 +126,11 @@ impl Book {
         calls: usize,
         plan: usize,
     ) -> Result<InstallReport, NoMemory>
-        requires passes { Passes (tests self.old.definition self.old.limits (length self.old.records + calls) self.old.records (Installed plan)) }
+        requires passes { Passes (tests self.old.definition self.old.limits
+            (length self.old.records + calls) self.old.records (Installed plan)) }
         ensures taken { OnOk result (Takes self.old calls (Installed plan) self.new) }
-        ensures report { IfOk result (λ told. told ≡ report self.old.definition self.old.records plan) }
+        ensures report { IfOk result (λ told. told
+            ≡ report self.old.definition self.old.records plan) }
         ensures totals { self.new.totals ≡ self.old.totals }
         ensures refused { OnErr result (self.new ≡ self.old) }
     {

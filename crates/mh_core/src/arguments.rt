@@ -5,16 +5,17 @@ ghost use Rattle.std.specs.Prelude.{◌≡◌, ◌∷◌, [], length};
 use mh_type::Value;
 use std::marker::Model;
 
-/// The arguments of a call, in order. Up to two lie in place, so that a call of few takes no memory for them.
+/// The arguments of a call, in order. Up to two lie in place, so that a call of few takes no memory
+/// for them.
 ///
 /// A contract sees them as a list.
-#[derive(Drop)]
+#[derive(Debug, Drop)]
 pub struct Arguments {
     values: Values,
 }
 
 // Where the values lie.
-#[derive(Drop)]
+#[derive(Debug, Drop)]
 pub(crate) enum Values {
     None,
     One([Value; 1]),

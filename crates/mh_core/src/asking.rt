@@ -5,7 +5,7 @@ ghost use Rattle.mh_type.specs.Fits.{Fits};
 ghost use Rattle.mh_site.specs.Defined.{site_at};
 ghost use Rattle.mh_core.specs.declared.event.Event.TheVariants.{Call, Flush};
 ghost use Rattle.mh_core.specs.Legal.{tests, HasRoom, TakesNoMemory};
-ghost use Rattle.mh_core.specs.Tests.{Passes, Refuses};
+ghost use Rattle.mh_base.specs.Tests.{Passes, Refuses};
 
 use crate::arguments::Arguments;
 use crate::event::Event;
@@ -19,8 +19,10 @@ impl Machine {
     // The tests of an event. Those of a plan alone take memory.
     pub(crate) fn test(&self, event: &Event) -> Result<(), Refusal>
         ensures passes { OnOk result (Passes (tests self.now.setting self.now.history event.now)) }
-        ensures refuses { IfErr result (λ told. Refuses (tests self.now.setting self.now.history event.now) told) }
-        ensures memory { TakesNoMemory self.now.setting self.now.history event.now → IfErr result (λ told. told ≡ Refusal.NoMemory → ⊥) }
+        ensures refuses { IfErr result
+            (λ told. Refuses (tests self.now.setting self.now.history event.now) told) }
+        ensures memory { TakesNoMemory self.now.setting self.now.history event.now
+            → IfErr result (λ told. told ≡ Refusal.NoMemory → ⊥) }
     {
         let calls = self.calls.len();
         match event {
@@ -39,8 +41,11 @@ impl Machine {
     }
 
     fn test_call(&self, worker: u32, site: usize, arguments: &Arguments) -> Result<(), Refusal>
-        ensures passes { OnOk result (Passes (tests self.now.setting self.now.history (Call worker site arguments.now))) }
-        ensures refuses { IfErr result (λ told. Refuses (tests self.now.setting self.now.history (Call worker site arguments.now)) told) }
+        ensures passes { OnOk result (Passes
+            (tests self.now.setting self.now.history (Call worker site arguments.now))) }
+        ensures refuses { IfErr result
+            (λ told. Refuses (tests self.now.setting self.now.history
+            (Call worker site arguments.now)) told) }
         ensures memory { IfErr result (λ told. told ≡ Refusal.NoMemory → ⊥) }
     {
         let definition = self.book.definition();
@@ -67,8 +72,10 @@ impl Machine {
         requires worker { worker < self.now.setting.workers }
         requires inside { site < length self.now.setting.definition.sites }
         requires fits { Fits (site_at self.now.setting.definition site).method_type arguments.now }
-        ensures decides { (result ≡ true) ↔ (HasRoom self.now.setting self.now.history worker site arguments.now → ⊥) }
-        ensures room { (result ≡ false) ↔ HasRoom self.now.setting self.now.history worker site arguments.now }
+        ensures decides { (result ≡ true)
+            ↔ (HasRoom self.now.setting self.now.history worker site arguments.now → ⊥) }
+        ensures room { (result ≡ false)
+            ↔ HasRoom self.now.setting self.now.history worker site arguments.now }
     {
         match hit_link(self.book.definition(), site, arguments) {
             Some(link) => {
@@ -80,8 +87,10 @@ impl Machine {
     }
 
     fn test_flush(&self, worker: u32) -> Result<(), Refusal>
-        ensures passes { OnOk result (Passes (tests self.now.setting self.now.history (Flush worker))) }
-        ensures refuses { IfErr result (λ told. Refuses (tests self.now.setting self.now.history (Flush worker)) told) }
+        ensures passes { OnOk result (Passes
+            (tests self.now.setting self.now.history (Flush worker))) }
+        ensures refuses { IfErr result
+            (λ told. Refuses (tests self.now.setting self.now.history (Flush worker)) told) }
     {
         if worker >= self.workers {
             return Err(Refusal::NoWorker);

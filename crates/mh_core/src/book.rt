@@ -10,7 +10,6 @@ ghost use Rattle.mh_core.specs.Installations.{report};
 ghost use Rattle.mh_core.specs.Problems.{IsTaken, problem_at};
 ghost use Rattle.mh_core.specs.Records.{hits_in};
 
-use crate::fault::NoMemory;
 use crate::install_report::InstallReport;
 use crate::limits::Limits;
 use crate::plan::{PublishedPlan, SharedPlan};
@@ -18,19 +17,21 @@ use crate::problem::make_problem;
 use crate::record::Record;
 use crate::refusal::Refusal;
 use crate::snapshot::Snapshot;
+use mh_base::NoMemory;
 use mh_ledger::{Ledger, Totals};
 use mh_network::Problem;
 use mh_site::{Definition, Listing, World};
 use mh_tree::Declared;
 use std::alloc::Global;
+use std::fmt;
 use std::marker::Model;
 
-/// The records of accepted events other than calls, with what was made of them: the world, the totals of
-/// all workers' hits, the snapshots, and the plans.
+/// The records of accepted events other than calls, with what was made of them: the world, the
+/// totals of all workers' hits, the snapshots, and the plans.
 ///
-/// A contract sees the records newest first. The world is the replay of what the records change, so,
-/// as the law `records_look_back` says, it has what looking back through the records finds; the totals
-/// are the sums of the flushes. Each record passed its tests.
+/// A contract sees the records newest first. The world is the replay of what the records change,
+/// so, as the law `records_look_back` says, it has what looking back through the records finds; the
+/// totals are the sums of the flushes. Each record passed its tests.
 #[derive(Drop)]
 pub struct Book {
     pub(crate) alloc: Global,
@@ -58,20 +59,31 @@ impl Model for Book {
     ghost invariant = { λ b. IsBook (book_state b) };
 }
 
+/// How many records it has, and the definition.
+impl fmt::Debug for Book {
+    fn fmt<W: fmt::Write>(&self, f: &mut fmt::Formatter<W>) -> fmt::Result {
+        let (records, definition) = (self.records().len(), self.definition());
+        write!(f, "Book({records} records, {definition:?})")
+    }
+}
+
 impl Book {
-    /// The book of a definition, without records, and a ledger without hits for each of so many workers,
-    /// all held. Refused where a growth was refused, or a further owner of a tree.
+    /// The book of a definition, without records, and a ledger without hits for each of so many
+    /// workers, all held. Refused where a growth was refused, or a further owner.
     pub fn open(
         alloc: Global,
         definition: &Definition,
         workers: u32,
         limits: Limits,
     ) -> Result<(Book, Vec<Ledger>), NoMemory>
-        ensures book { IfOk result (λ opened. opened.0 ≡ opened_book definition.now workers limits) }
-        ensures ledgers { IfOk result (λ opened. opened.1.items ≡ map (opened_ledger (length (links_of definition.now)) limits.ledger) (range_with_len 0 workers)) }
+        ensures book { IfOk result (λ opened. opened.0
+            ≡ opened_book definition.now workers limits) }
+        ensures ledgers { IfOk result (λ opened. opened.1.items
+            ≡ map (opened_ledger (length (links_of definition.now)) limits.ledger)
+            (range_with_len 0 workers)) }
         ensures held { IfOk result (λ opened. AreHeld opened.0.totals opened.1.items) }
     {
-        let definition = definition.share(alloc)?;
+        let definition = definition.share()?;
         // Read for what a definition keeps.
         let _sites = definition.sites();
         let (totals, ledgers) = Totals::open(
@@ -134,7 +146,8 @@ impl Book {
         &self.totals
     }
 
-    /// Whether the totals hold a ledger: they keep for its worker just the hits that it has flushed.
+    /// Whether the totals hold a ledger: they keep for its worker just the hits that it has
+    /// flushed.
     pub fn holds(&self, ledger: &Ledger) -> bool
         ensures decides { IsTrue result ↔ Holds self.now.totals ledger.now }
     {
@@ -145,9 +158,12 @@ impl Book {
     ///
     /// Refused with `NoSnapshot` where it was not taken, and then with `NoMemory`.
     pub fn problem(&self, snapshot: usize) -> Result<Problem, Refusal>
-        ensures value { IfOk result (λ p. p ≡ problem_at self.now.definition self.now.records snapshot) }
+        ensures value { IfOk result (λ p. p
+            ≡ problem_at self.now.definition self.now.records snapshot) }
         ensures taken { OnOk result (IsTaken self.now.records snapshot) }
-        ensures refused { IfErr result (λ told. ((told ≡ Refusal.NoSnapshot) × (IsTaken self.now.records snapshot → ⊥)) ⊎ ((told ≡ Refusal.NoMemory) × IsTaken self.now.records snapshot)) }
+        ensures refused { IfErr result
+            (λ told. ((told ≡ Refusal.NoSnapshot) × (IsTaken self.now.records snapshot → ⊥))
+            ⊎ ((told ≡ Refusal.NoMemory) × IsTaken self.now.records snapshot)) }
     {
         if snapshot == 0 || snapshot > self.snapshots.len() {
             return Err(Refusal::NoSnapshot);
@@ -159,25 +175,30 @@ impl Book {
     // The problem of a snapshot that was taken.
     fn problem_of_taken(&self, snapshot: usize) -> Result<Problem, NoMemory>
         requires taken { IsTaken self.now.records snapshot }
-        ensures value { IfOk result (λ p. p ≡ problem_at self.now.definition self.now.records snapshot) }
+        ensures value { IfOk result (λ p. p
+            ≡ problem_at self.now.definition self.now.records snapshot) }
         ensures taken { IsTaken self.now.records snapshot }
     {
         let kept = &self.snapshots[snapshot - 1];
         make_problem(self.alloc, &self.definition, kept.totals(), kept.valid())
     }
 
-    /// Adds the hits that a ledger has not flushed to the totals. The ledger stays held, and so do those of
-    /// the other workers. O(links).
+    /// Adds the hits that a ledger has not flushed to the totals. The ledger stays held, and so do
+    /// those of the other workers. O(links).
     ///
-    /// Refused with `HistoryFull`, with `TotalTooLarge` where some total would pass its limit, and then with
-    /// `NoMemory`; nothing changes.
+    /// Refused with `HistoryFull`, with `TotalTooLarge` where some total would pass its limit, and
+    /// then with `NoMemory`; nothing changes.
     pub fn flush(&mut self, ledger: &mut Ledger) -> Result<(), Refusal>
         requires held { Holds self.old.totals ledger.old }
-        ensures taken { OnOk result (Takes self.old 0 (Flushed ledger.old.worker (hits_in ledger.old.unflushed)) self.new) }
+        ensures taken { OnOk result (Takes self.old 0
+            (Flushed ledger.old.worker (hits_in ledger.old.unflushed)) self.new) }
         ensures ledger { OnOk result (ledger.new ≡ settled ledger.old) }
         ensures held { Holds self.new.totals ledger.new }
-        ensures all { (ledgers : List LedgerState) → AreHeld self.old.totals ledgers → AreHeld self.new.totals (slice_set ledgers ledger.old.worker ledger.new) }
-        ensures refused { IfErr result (λ told. Rejects self.old 0 (Flushed ledger.old.worker (hits_in ledger.old.unflushed)) told self.new) }
+        ensures all { (ledgers : List LedgerState) → AreHeld self.old.totals ledgers
+            → AreHeld self.new.totals (slice_set ledgers ledger.old.worker ledger.new) }
+        ensures refused { IfErr result
+            (λ told. Rejects self.old 0 (Flushed ledger.old.worker (hits_in ledger.old.unflushed))
+            told self.new) }
         ensures kept { OnErr result (ledger.new ≡ ledger.old) }
     {
         self.test_flush(0, ledger)?;
@@ -186,38 +207,41 @@ impl Book {
 
     /// Gives a site another tree (`MutableCallSite.setTarget`).
     ///
-    /// Refused with `NoSite`, with `WrongType` where the tree is of another type than the site, with
-    /// `NoPoint` where it names a point past the last, with `HistoryFull`, and then with `NoMemory`;
-    /// nothing changes.
+    /// Refused with `NoSite`, with `WrongType` where the tree is of another type than the site,
+    /// with `NoPoint` where it names a point past the last, with `HistoryFull`, and then with
+    /// `NoMemory`; nothing changes.
     pub fn target(&mut self, site: usize, tree: Declared) -> Result<(), Refusal>
         ensures taken { OnOk result (Takes self.old 0 (Targeted site tree) self.new) }
         ensures totals { self.new.totals ≡ self.old.totals }
-        ensures refused { IfErr result (λ told. Rejects self.old 0 (Targeted site tree) told self.new) }
+        ensures refused { IfErr result
+            (λ told. Rejects self.old 0 (Targeted site tree) told self.new) }
     {
         self.test_target(0, site, &tree)?;
         self.append_target(0, site, tree)
             .map_err(|_| Refusal::NoMemory)
     }
 
-    /// Invalidates points (`SwitchPoint.invalidateAll`); they may be none, and may be invalid already.
+    /// Invalidates points (`SwitchPoint.invalidateAll`); they may be none, and may be invalid
+    /// already.
     ///
-    /// Refused with `NoPoint` where a number is past the last point, with `HistoryFull`, and then with
-    /// `NoMemory`; nothing changes.
+    /// Refused with `NoPoint` where a number is past the last point, with `HistoryFull`, and then
+    /// with `NoMemory`; nothing changes.
     pub fn invalidate(&mut self, points: Listing<u32>) -> Result<(), Refusal>
         ensures taken { OnOk result (Takes self.old 0 (Invalidated points) self.new) }
         ensures totals { self.new.totals ≡ self.old.totals }
-        ensures refused { IfErr result (λ told. Rejects self.old 0 (Invalidated points) told self.new) }
+        ensures refused { IfErr result
+            (λ told. Rejects self.old 0 (Invalidated points) told self.new) }
     {
         self.test_points(0, &points)?;
         self.append_points(0, points).map_err(|_| Refusal::NoMemory)
     }
 
-    /// Takes a snapshot of the totals, of which points are valid and of how often each site was retargeted, and
-    /// gives its number, from 1.
-    /// O(links + points + sites).
+    /// Takes a snapshot of the totals, of which points are valid and of how often each site was
+    /// retargeted, and gives its number, from 1. O(links + points + sites).
     ///
-    /// Refused with `HistoryFull` also where there are 1,024 snapshots, with `GainTooLarge` where the gains
-    /// of its problem would add up to more than 2^62, and then with `NoMemory`; nothing changes.
+    /// Refused with `HistoryFull` also where there are 1,024 snapshots, with `GainTooLarge` where
+    /// the gains of its problem would add up to more than 2^62, and then with `NoMemory`; nothing
+    /// changes.
     pub fn snapshot(&mut self) -> Result<usize, Refusal>
         ensures taken { OnOk result (Takes self.old 0 Snapped self.new) }
         ensures number { IfOk result (λ number. number ≡ length self.old.snapshots + 1) }
@@ -231,31 +255,33 @@ impl Book {
     /// Publishes a plan for the problem of a snapshot, and gives the plan's number, from 1.
     /// O(links + points + rows).
     ///
-    /// Refused with `NoSnapshot`, with `PlanRefused` where the checker refuses the plan, with `HistoryFull`
-    /// also where there are 1,024 plans, and then with `NoMemory`; where the checker finds no memory,
-    /// `NoMemory` stands in place of the last two. Nothing changes.
+    /// Refused with `NoSnapshot`, with `PlanRefused` where the checker refuses the plan, with
+    /// `HistoryFull` also where there are 1,024 plans, and then with `NoMemory`; where the checker
+    /// finds no memory, `NoMemory` stands in place of the last two. Nothing changes.
     pub fn publish(&mut self, snapshot: usize, plan: SharedPlan) -> Result<usize, Refusal>
         ensures taken { OnOk result (Takes self.old 0 (Published snapshot plan) self.new) }
         ensures number { IfOk result (λ number. number ≡ length self.old.plans + 1) }
         ensures totals { self.new.totals ≡ self.old.totals }
-        ensures refused { IfErr result (λ told. Rejects self.old 0 (Published snapshot plan) told self.new) }
+        ensures refused { IfErr result
+            (λ told. Rejects self.old 0 (Published snapshot plan) told self.new) }
     {
         self.test_publish(0, snapshot, &plan)?;
         self.append_publish(0, snapshot, plan)
             .map_err(|_| Refusal::NoMemory)
     }
-    /// Installs the newest plan (Hölzle, Chambers and Ungar, Optimizing Dynamically-Typed Object-Oriented
-    /// Languages With Polymorphic Inline Caches, 1991), and reports what became of each site that has a link
-    /// in the plan or holds links now. A site that was retargeted since the plan's snapshot is left as it
-    /// is. Any other runs from now on the inline cache of those of its links in the plan whose needs are all
-    /// valid, or its base tree where there are none. O(sites + links of the plan), and for each cache linear
-    /// in its site's base tree.
+    /// Installs the newest plan (Hölzle, Chambers and Ungar, Optimizing Dynamically-Typed
+    /// Object-Oriented Languages With Polymorphic Inline Caches, 1991), and reports what became of
+    /// each site that has a link in the plan or holds links now. A site that was retargeted since
+    /// the plan's snapshot is left as it is. Any other runs from now on the inline cache of those
+    /// of its links in the plan whose needs are all valid, or its base tree where there are none.
+    /// O(sites + links of the plan), and for each cache linear in its site's base tree.
     ///
-    /// Refused with `NoPlan`, with `OldPlan` where a newer plan was published, with `HistoryFull`, and then
-    /// with `NoMemory`; nothing changes.
+    /// Refused with `NoPlan`, with `OldPlan` where a newer plan was published, with `HistoryFull`,
+    /// and then with `NoMemory`; nothing changes.
     pub fn install(&mut self, plan: usize) -> Result<InstallReport, Refusal>
         ensures taken { OnOk result (Takes self.old 0 (Installed plan) self.new) }
-        ensures report { IfOk result (λ told. told ≡ report self.old.definition self.old.records plan) }
+        ensures report { IfOk result (λ told. told
+            ≡ report self.old.definition self.old.records plan) }
         ensures totals { self.new.totals ≡ self.old.totals }
         ensures refused { IfErr result (λ told. Rejects self.old 0 (Installed plan) told self.new) }
     {

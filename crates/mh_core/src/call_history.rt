@@ -1,6 +1,7 @@
 //! The calls that a machine accepted. They exist in the proofs alone: what is kept is their number.
 
-ghost use Rattle.std.specs.Prelude.{◌≡◌, ◌<◌, ◌^◌, ◌∷◌, [], length};
+ghost use Rattle.std.specs.Prelude.{◌≡◌, ◌<◌, ◌∷◌, [], length};
+ghost use Rattle.mh_core.specs.Limits.{most_calls};
 
 use crate::call::AcceptedCall;
 use std::marker::Model;
@@ -60,7 +61,7 @@ impl CallHistory {
     /// Takes one call more. Nothing is kept of it but that it is there.
     #[inline(always)]
     pub(crate) fn add(&mut self, call: AcceptedCall)
-        requires room { length self.old < 2 ^ 63 }
+        requires room { length self.old < most_calls }
         ensures value { self.new ≡ call ∷ self.old }
     {
         let nothing = Snapshot::of(&Past::Opening);

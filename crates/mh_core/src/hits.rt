@@ -10,18 +10,20 @@ ghost use Rattle.mh_type.specs.Values.{same_value as values_same};
 ghost use Rattle.mh_core.specs.Hits.{hits as is_hit};
 ghost use Rattle.mh_core.specs.Records.{hits_in};
 
-use crate::fault::NoMemory;
+use mh_base::NoMemory;
 use mh_site::{Definition, Link, Listing};
 use mh_type::{Value, same_value};
 use std::alloc::Global;
 
-/// The link that a call hits: the one of its site whose key is the argument at the key place. At most
-/// four keys are compared.
+/// The link that a call hits: the one of its site whose key is the argument at the key place. At
+/// most four keys are compared.
 pub fn hit_link(definition: &Definition, site: usize, arguments: &[Value]) -> Option<usize>
     requires inside { site < length definition.now.sites }
     requires fits { Fits (site_at definition.now site).method_type arguments.now }
-    ensures hit { IfSome result (λ j. (j < length (links_of definition.now)) × (is_hit definition.now site arguments.now j ≡ true)) }
-    ensures alone { IfSome result (λ j. (i : ℕ) → is_hit definition.now site arguments.now i ≡ true → i ≡ j) }
+    ensures hit { IfSome result (λ j. (j < length (links_of definition.now))
+        × (is_hit definition.now site arguments.now j ≡ true)) }
+    ensures alone { IfSome result (λ j. (i : ℕ) → is_hit definition.now site arguments.now i ≡ true
+        → i ≡ j) }
     ensures none { IfNone result ((i : ℕ) → is_hit definition.now site arguments.now i ≡ false) }
 {
     // Read for what a definition keeps.

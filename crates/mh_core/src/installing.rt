@@ -12,18 +12,20 @@ ghost use Rattle.mh_core.specs.Records.{base};
 ghost use Rattle.mh_core.specs.Replayed.{changes, relinked};
 
 use crate::book::Book;
-use crate::fault::NoMemory;
 use crate::install_report::{InstallReport, Linkage, SiteLinkage};
 use crate::problem::{all_valid, link_of};
+use mh_base::NoMemory;
 use mh_pic::{Entry, prepared_chain};
 use mh_site::{KeptLinks, Listing, Relinking};
 use mh_tree::{Handle, Prepared};
 
 impl Book {
-    // What the installation of a plan makes of each site that it concerns, and which links it leaves out.
+    // What the installation of a plan makes of each site that it concerns, and which links it
+    // leaves out.
     pub(crate) fn report(&self, plan: usize) -> Result<InstallReport, NoMemory>
         requires published { IsPublished self.now.records plan }
-        ensures value { IfOk result (λ told. told ≡ report_of self.now.definition self.now.records plan) }
+        ensures value { IfOk result (λ told. told
+            ≡ report_of self.now.definition self.now.records plan) }
     {
         Ok(InstallReport {
             sites: self.site_linkages(plan)?,
@@ -33,7 +35,9 @@ impl Book {
 
     fn site_linkages(&self, plan: usize) -> Result<Listing<SiteLinkage>, NoMemory>
         requires published { IsPublished self.now.records plan }
-        ensures value { IfOk result (λ sites. sites ≡ map (site_linkage self.now.definition self.now.records plan) (concerned self.now.definition self.now.records plan)) }
+        ensures value { IfOk result (λ sites. sites
+            ≡ map (site_linkage self.now.definition self.now.records plan)
+            (concerned self.now.definition self.now.records plan)) }
     {
         let mut sites = Vec::new(self.alloc);
         for site in 0..self.definition.sites().len() {
@@ -59,7 +63,8 @@ impl Book {
 
     fn left_out(&self, plan: usize) -> Result<Listing<u32>, NoMemory>
         requires published { IsPublished self.now.records plan }
-        ensures value { IfOk result (λ links. links ≡ left_out_of self.now.definition self.now.records plan) }
+        ensures value { IfOk result (λ links. links
+            ≡ left_out_of self.now.definition self.now.records plan) }
     {
         let mut left_out = Vec::new(self.alloc);
         for link in self.links_of_plan(plan) {
@@ -73,7 +78,9 @@ impl Book {
     fn is_left_out(&self, plan: usize, link: usize) -> bool
         requires published { IsPublished self.now.records plan }
         requires inside { link < length (links_of self.now.definition) }
-        ensures value { result ≡ (is_current_at self.now.records plan (site_of_link self.now.definition link) && not (is_eligible_after self.now.definition self.now.records link)) }
+        ensures value { result ≡ (is_current_at self.now.records plan
+            (site_of_link self.now.definition link) && not
+            (is_eligible_after self.now.definition self.now.records link)) }
     {
         self.is_current(plan, self.definition.site_of(link)) && !self.is_eligible(link)
     }
@@ -81,7 +88,8 @@ impl Book {
     // The new linked trees of the sites that an installation concerns and does not skip.
     pub(crate) fn relinkings(&self, plan: usize) -> Result<Vec<Relinking>, NoMemory>
         requires published { IsPublished self.now.records plan }
-        ensures value { IfOk result (λ v. v.items ≡ changes self.now.definition self.now.records plan) }
+        ensures value { IfOk result (λ v. v.items
+            ≡ changes self.now.definition self.now.records plan) }
     {
         let mut relinkings = Vec::new(self.alloc);
         for site in 0..self.definition.sites().len() {
@@ -96,7 +104,8 @@ impl Book {
     fn is_relinked(&self, plan: usize, site: usize) -> bool
         requires published { IsPublished self.now.records plan }
         requires inside { site < length self.now.definition.sites }
-        ensures value { result ≡ (concerns self.now.definition self.now.records plan site && is_current_at self.now.records plan site) }
+        ensures value { result ≡ (concerns self.now.definition self.now.records plan site &&
+            is_current_at self.now.records plan site) }
     {
         self.is_concerned(plan, site) && self.is_current(plan, site)
     }
@@ -104,7 +113,8 @@ impl Book {
     fn relinking(&self, plan: usize, site: usize) -> Result<Relinking, NoMemory>
         requires published { IsPublished self.now.records plan }
         requires inside { site < length self.now.definition.sites }
-        ensures value { IfOk result (λ r. r ≡ relinked self.now.definition self.now.records plan site) }
+        ensures value { IfOk result (λ r. r
+            ≡ relinked self.now.definition self.now.records plan site) }
     {
         let kept = self.usable(plan, site);
         let linked = self.make_cache(plan, site, kept.as_slice())?;
@@ -115,7 +125,9 @@ impl Book {
     fn make_cache(&self, plan: usize, site: usize, links: &[usize]) -> Result<Prepared, NoMemory>
         requires inside { site < length self.now.definition.sites }
         requires usable { links.now ≡ usable_of self.now.definition self.now.records plan site }
-        ensures value { IfOk result (λ p. p ≡ cached self.now.definition site (base self.now.definition self.now.records site) links.now) }
+        ensures value { IfOk result (λ p. p
+            ≡ cached self.now.definition site (base self.now.definition self.now.records site)
+            links.now) }
     {
         let base = prepare(self.world.base(site).handle())?;
         let Some(key_place) = self.definition.key(site) else {
@@ -167,7 +179,8 @@ impl Book {
     fn is_usable(&self, plan: usize, link: usize) -> bool
         requires published { IsPublished self.now.records plan }
         requires inside { link < length (links_of self.now.definition) }
-        ensures value { result ≡ (member (plan_at self.now.records plan).plan.links link && is_eligible_after self.now.definition self.now.records link) }
+        ensures value { result ≡ (member (plan_at self.now.records plan).plan.links link &&
+            is_eligible_after self.now.definition self.now.records link) }
     {
         self.has(plan, link) && self.is_eligible(link)
     }
@@ -185,7 +198,8 @@ impl Book {
     fn has_any(&self, plan: usize, site: usize) -> bool
         requires published { IsPublished self.now.records plan }
         requires inside { site < length self.now.definition.sites }
-        ensures value { result ≡ nat_lt 0 (length (chosen self.now.definition self.now.records plan site)) }
+        ensures value { result ≡ nat_lt 0
+            (length (chosen self.now.definition self.now.records plan site)) }
     {
         let first = self.definition.first_link(site);
         for link in first..first + self.definition.links(site).len() {

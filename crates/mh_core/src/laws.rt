@@ -26,28 +26,37 @@ use crate::book::Book;
 /// The world after any records has at each site, and of each point, what looking back through the
 /// records finds.
 pub fn records_look_back()
-    ensures sites { (d : DefinitionData) → (r : List Record) → (s : ℕ) → s < length d.sites →
-        state_at (world d r) s ≡ record { base = base d r s; linked = linked d r s; kept = kept d r s; version = version r s } }
-    ensures points { (d : DefinitionData) → (r : List Record) → (world d r).valid ≡ valid_points d r }
+    ensures sites { (d : DefinitionData) → (r : List Record) → (s : ℕ) → s < length d.sites
+        → state_at (world d r) s ≡ record
+        { base = base d r s; linked = linked d r s; kept = kept d r s; version = version r s } }
+    ensures points { (d : DefinitionData) → (r : List Record)
+        → (world d r).valid ≡ valid_points d r }
 {}
 
-/// In the world after legal records the trees of each site have its type and name declared points alone, and
-/// the linked tree, which calls run, has the outcomes of the base tree.
+/// In the world after legal records the trees of each site have its type and name declared points
+/// alone, and the linked tree, which calls run, has the outcomes of the base tree.
 pub fn legal_worlds_stand()
-    ensures trees { (d : DefinitionData) → (l : LimitsData) → (r : List Record) → IsDefinition d → Legal d l r → AreStanding d (world d r) }
+    ensures trees { (d : DefinitionData) → (l : LimitsData) → (r : List Record) → IsDefinition d
+        → Legal d l r → AreStanding d (world d r) }
 {}
 
 /// The totals after the records of a history are its hits that a flush of the same worker follows.
 pub fn totals_are_sums()
-    ensures value { (d : DefinitionData) → (h : List Event) → (j : ℕ) → j < length (links d) → total_calls d h j ≡ total (records d h) j }
+    ensures value { (d : DefinitionData) → (h : List Event) → (j : ℕ) → j < length (links d)
+        → total_calls d h j ≡ total (records d h) j }
 {}
 
-/// Each plan that a book has published matches the problem of the snapshot that it names, and is best
-/// for it: no set of eligible links gains more, less the costs of the points that it needs (Rhys 1970,
-/// Picard 1976). The problem is that of the totals, and of the valid points, when the snapshot was taken.
+/// Each plan that a book has published matches the problem of the snapshot that it names, and is
+/// best for it: no set of eligible links gains more, less the costs of the points that it needs
+/// (Rhys 1970, Picard 1976). The problem is that of the totals, and of the valid points, when the
+/// snapshot was taken.
 pub fn published_plans_are_best(book: &Book)
-    ensures matching { (newer older : List Record) → (n : ℕ) → (plan : Plan) → book.now.records ≡ newer ++ Published n plan ∷ older → Matches (problem_at book.now.definition older n) plan }
-    ensures best { (newer older : List Record) → (n : ℕ) → (plan : Plan) → book.now.records ≡ newer ++ Published n plan ∷ older → IsBest (problem_at book.now.definition older n) (member plan.links) }
+    ensures matching { (newer older : List Record) → (n : ℕ) → (plan : Plan)
+        → book.now.records ≡ newer ++ Published n plan ∷ older
+        → Matches (problem_at book.now.definition older n) plan }
+    ensures best { (newer older : List Record) → (n : ℕ) → (plan : Plan)
+        → book.now.records ≡ newer ++ Published n plan ∷ older
+        → IsBest (problem_at book.now.definition older n) (member plan.links) }
 {
     // Read for what a book keeps.
     let _records = book.records();

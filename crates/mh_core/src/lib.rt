@@ -1,7 +1,8 @@
-//! The core: a book of accepted records with what was made of them, and a machine that answers events
-//! by the meaning of the sites' trees and by the hits of their links.
+//! The core: a book of accepted records with what was made of them, and a machine that answers
+//! events by the meaning of the sites' trees and by the hits of their links.
 //!
-//! What its calls name of the crates below stands here too, so that who embeds a machine depends on this crate alone:
+//! What its calls name of the crates below stands here too, so that who embeds a machine depends on
+//! this crate alone:
 //!
 //! ```
 //! let mut machine = Machine::open(alloc, &definition, 1, limits)?;
@@ -22,7 +23,6 @@ mod book;
 mod call;
 mod call_history;
 mod event;
-mod fault;
 mod hits;
 mod install_report;
 mod installing;
@@ -41,7 +41,6 @@ mod testing;
 pub use arguments::Arguments;
 pub use book::Book;
 pub use event::Event;
-pub use fault::NoMemory;
 pub use hits::hit_link;
 pub use install_report::{InstallReport, Linkage, SiteLinkage};
 pub use laws::{legal_worlds_stand, published_plans_are_best, records_look_back, totals_are_sums};
@@ -49,12 +48,20 @@ pub use limits::{
     LARGEST_LEDGER, LARGEST_TOTAL, LONGEST_HISTORY, Limits, MOST_PLANS, MOST_SNAPSHOTS,
 };
 pub use machine::Machine;
+pub use mh_base::{Listing, NoMemory};
 pub use mh_cert::{CheckFault, Plan};
 pub use mh_ledger::{Ledger, Totals};
 pub use mh_network::{LinkRow, Problem, ProblemFault};
-pub use mh_site::{Control, Definition, DefinitionFault, Link, Listing, Name, Point, Site, World};
-pub use mh_tree::{Declared, Handle, Prepared, TreeFault};
-pub use mh_type::{Kind, MethodType, Op, Outcome, Text, Throw, TypeFault, Value};
+pub use mh_site::{
+    Control, Definition, DefinitionFault, GREATEST_COST, GREATEST_WEIGHT, LONGEST_NAME, Link,
+    MOST_LINKS, MOST_NEEDS, MOST_POINTS, MOST_SITES, Name, Point, Site, World,
+};
+pub use mh_tree::{
+    DEEPEST, DEEPEST_DECLARED, Declared, Handle, LARGEST, LARGEST_DECLARED, Prepared, TreeFault,
+};
+pub use mh_type::{
+    Kind, LONGEST_TEXT, MOST_PARAMETERS, MethodType, Op, Outcome, Text, Throw, TypeFault, Value,
+};
 pub use pending::PendingChange;
 pub use plan::SharedPlan;
 pub use record::Record;

@@ -22,7 +22,7 @@ pub const MOST_PLANS: usize = 1024;
 
 /// How many events may be accepted, how many hits of a link a worker may hold before it hands them
 /// on, and how many the totals may hold.
-#[derive(Drop)]
+#[derive(Debug, Drop)]
 pub struct Limits {
     history: u64,
     ledger: u64,
@@ -36,15 +36,21 @@ impl Model for Limits {
 
     ghost view = { λ l. record { history = l.history; ledger = l.ledger; total = l.total } };
 
-    ghost invariant = { λ l. IsLimits record { history = l.history; ledger = l.ledger; total = l.total } };
+    ghost invariant = { λ l. IsLimits record {
+      history = l.history;
+      ledger = l.ledger;
+      total = l.total;
+    } };
 }
 
 impl Limits {
     /// The limits: `history` from 0 to 2^20 events, `ledger` from 1 to 2^20 hits, `total` from 0 to
     /// 2^40 hits. None where one is out of its range.
     pub fn new(history: u64, ledger: u64, total: u64) -> Option<Limits>
-        ensures value { IfSome result (λ l. (l ≡ record { history = history; ledger = ledger; total = total }) × IsLimits l) }
-        ensures none { IfNone result (IsLimits record { history = history; ledger = ledger; total = total } → ⊥) }
+        ensures value { IfSome result
+            (λ l. (l ≡ record { history = history; ledger = ledger; total = total }) × IsLimits l) }
+        ensures none { IfNone result (IsLimits record
+            { history = history; ledger = ledger; total = total } → ⊥) }
     {
         if history > LONGEST_HISTORY || ledger == 0 || ledger > LARGEST_LEDGER {
             return None;

@@ -8,21 +8,23 @@ ghost use Rattle.mh_core.specs.Legal.{MachineState, Step, Run, TakesNoMemory, op
 use crate::book::Book;
 use crate::call_history::CallHistory;
 use crate::event::Event;
-use crate::fault::NoMemory;
 use crate::limits::Limits;
 use crate::refusal::Refusal;
 use crate::reply::Reply;
+use mh_base::NoMemory;
 use mh_eval::Stack;
 use mh_ledger::Ledger;
 use mh_site::Definition;
 use std::alloc::Global;
+use std::fmt;
 use std::marker::Model;
 
-/// A book with the ledgers of its workers, and the history of its accepted events with the workers' calls.
+/// A book with the ledgers of its workers, and the history of its accepted events with the workers'
+/// calls.
 ///
-/// A contract sees what does not change, and the history, newest first: the book's records with the calls
-/// among them. Of the calls their number is kept, and the hits in the ledgers; all else of them stands in
-/// the proofs alone, so that a call takes no memory that stays.
+/// A contract sees what does not change, and the history, newest first: the book's records with the
+/// calls among them. Of the calls their number is kept, and the hits in the ledgers; all else of
+/// them stands in the proofs alone, so that a call takes no memory that stays.
 #[derive(Drop)]
 pub struct Machine {
     pub(crate) alloc: Global,
@@ -49,9 +51,17 @@ impl Model for Machine {
     ghost invariant = { λ m. IsMachine m.book m.calls m.workers m.ledgers.items (machine_state m).history };
 }
 
+/// How many calls it accepted, and its book.
+impl fmt::Debug for Machine {
+    fn fmt<W: fmt::Write>(&self, f: &mut fmt::Formatter<W>) -> fmt::Result {
+        let (calls, book) = (self.calls(), self.book());
+        write!(f, "Machine({calls} calls, {book:?})")
+    }
+}
+
 impl Machine {
-    /// The machine of a definition with so many workers, and with the empty history. Refused where a
-    /// growth was refused, or a further owner of a tree or a text.
+    /// The machine of a definition with so many workers, and with the empty history. Refused where
+    /// a growth was refused, or a further owner of a tree or a text.
     pub fn open(
         alloc: Global,
         definition: &Definition,
@@ -76,14 +86,16 @@ impl Machine {
     pub fn book(&self) -> &Book
         ensures definition { result.now.definition ≡ self.now.setting.definition }
         ensures limits { result.now.limits ≡ self.now.setting.limits }
-        ensures records { result.now.records ≡ records self.now.setting.definition self.now.history }
+        ensures records { result.now.records
+            ≡ records self.now.setting.definition self.now.history }
     {
         &self.book
     }
 
     /// The number of accepted calls.
     pub fn calls(&self) -> usize
-        ensures count { length (records self.now.setting.definition self.now.history) + result ≡ length self.now.history }
+        ensures count { length (records self.now.setting.definition self.now.history) + result
+            ≡ length self.now.history }
     {
         self.calls.len()
     }
@@ -102,12 +114,13 @@ impl Machine {
         self.workers
     }
 
-    /// Answers one event. Where a test fails or memory is refused, nothing changes. A call of which no node that
-    /// is entered has String in its type is not refused with `NoMemory`.
+    /// Answers one event. Where a test fails or memory is refused, nothing changes. A call of which
+    /// no node that is entered has String in its type is not refused with `NoMemory`.
     pub fn step(&mut self, event: Event) -> Reply
         ensures step { Step self.old.setting self.old.history event result self.new.history }
         ensures setting { self.new.setting ≡ self.old.setting }
-        ensures memory { TakesNoMemory self.old.setting self.old.history event → result ≡ Refused Refusal.NoMemory → ⊥ }
+        ensures memory { TakesNoMemory self.old.setting self.old.history event
+            → result ≡ Refused Refusal.NoMemory → ⊥ }
     {
         if let Err(told) = self.test(&event) {
             return Reply::Refused(told);
@@ -118,10 +131,11 @@ impl Machine {
         }
     }
 
-    /// Answers the events in order. Where there is no memory for the replies, that is told before the
-    /// first event, and nothing changes.
+    /// Answers the events in order. Where there is no memory for the replies, that is told before
+    /// the first event, and nothing changes.
     pub fn run(&mut self, events: Vec<Event>) -> Result<Vec<Reply>, NoMemory>
-        ensures run { IfOk result (λ replies. Run self.old.setting self.old.history events.items replies.items self.new.history) }
+        ensures run { IfOk result (λ replies. Run self.old.setting self.old.history events.items
+            replies.items self.new.history) }
         ensures setting { self.new.setting ≡ self.old.setting }
         ensures refused { OnErr result (self.new ≡ self.old) }
     {

@@ -3,7 +3,7 @@
 ghost use Rattle.std.specs.Prelude.{◌≡◌, IfOk};
 ghost use Rattle.std.specs.Arc.{arc_value};
 
-use crate::fault::NoMemory;
+use mh_base::NoMemory;
 use mh_cert::Plan;
 use std::alloc::Global;
 use std::marker::Model;
@@ -11,7 +11,7 @@ use std::sync::Arc;
 
 /// A plan that an event, a record and a reply hold together: it is stored once. A clone of it is
 /// `share`.
-#[derive(Drop)]
+#[derive(Debug, Drop)]
 pub struct SharedPlan {
     plan: Arc<Plan>,
 }

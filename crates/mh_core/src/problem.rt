@@ -3,16 +3,18 @@
 ghost use Rattle.std.specs.Prelude.{◌≡◌, ◌<◌, ◌≤◌, ◌^◌, ◌↔◌, length, map, false, slice_index_or, IfOk, IfErr, IsTrue};
 ghost use Rattle.std.specs.List.{All, sum_by};
 ghost use Rattle.mh_network.specs.Problems.{kept_gain, problem_of, problem_tests};
-ghost use Rattle.mh_network.specs.Tests.{Passes};
+ghost use Rattle.mh_base.specs.Tests.{Passes};
 ghost use Rattle.mh_ledger.specs.Ledgers.{at};
 ghost use Rattle.mh_site.specs.Lawful.{IsDefinition};
+ghost use Rattle.mh_site.specs.Limits.{greatest_weight};
 ghost use Rattle.mh_site.specs.Links.{links as links_of, link_at};
-ghost use Rattle.mh_core.specs.Limits.{most_gains, most_hits};
+ghost use Rattle.mh_core.specs.Limits.{most_hits};
+ghost use Rattle.mh_network.specs.Limits.{greatest_sum};
 ghost use Rattle.mh_core.specs.Records.{numbers};
 ghost use Rattle.mh_core.specs.Tables.{are_valid, row_in};
 
-use crate::fault::NoMemory;
-use mh_network::{LinkRow, Listing, Problem, ProblemFault};
+use mh_base::NoMemory;
+use mh_network::{GREATEST_SUM, LinkRow, Listing, Problem, ProblemFault};
 use mh_site::{Definition, Link};
 use std::alloc::Global;
 
@@ -26,8 +28,12 @@ pub(crate) fn make_problem(
     requires lawful { IsDefinition definition.now }
     requires links { length totals.now ≡ length (links_of definition.now) }
     requires few { All (λ n. n ≤ most_hits) totals.now }
-    requires gains { sum_by kept_gain (map (row_in definition.now totals.now valid.now) (numbers (length (links_of definition.now)))) ≤ most_gains }
-    ensures value { IfOk result (λ p. p ≡ problem_of (map (row_in definition.now totals.now valid.now) (numbers (length (links_of definition.now)))) (map (λ p. p.cost) definition.now.points)) }
+    requires gains { sum_by kept_gain
+        (map (row_in definition.now totals.now valid.now)
+        (numbers (length (links_of definition.now)))) ≤ greatest_sum }
+    ensures value { IfOk result (λ p. p
+        ≡ problem_of (map (row_in definition.now totals.now valid.now)
+        (numbers (length (links_of definition.now)))) (map (λ p. p.cost) definition.now.points)) }
 {
     let rows = make_rows(alloc, definition, totals, valid)?;
     let costs = make_costs(alloc, definition)?;
@@ -52,7 +58,9 @@ fn make_rows(
 ) -> Result<Vec<LinkRow>, NoMemory>
     requires links { length totals.now ≡ length (links_of definition.now) }
     requires few { All (λ n. n ≤ most_hits) totals.now }
-    ensures value { IfOk result (λ v. v.items ≡ map (row_in definition.now totals.now valid.now) (numbers (length (links_of definition.now)))) }
+    ensures value { IfOk result (λ v. v.items
+        ≡ map (row_in definition.now totals.now valid.now)
+        (numbers (length (links_of definition.now)))) }
 {
     let mut rows = Vec::new(alloc);
     for link in 0..definition.link_count() {
@@ -92,21 +100,24 @@ fn make_costs(alloc: Global, definition: &Definition) -> Result<Vec<u64>, NoMemo
     Ok(costs)
 }
 
-// Whether the gains of the eligible links add up to at most 2^62. The sum stops at 2^64 - 1, so that
-// nothing wraps.
+// Whether the gains of the eligible links add up to at most 2^62. The sum stops at 2^64 - 1, so
+// that nothing wraps.
 pub(crate) fn gains_fit(definition: &Definition, totals: &[u64], valid: &[bool]) -> bool
     requires links { length totals.now ≡ length (links_of definition.now) }
     requires few { All (λ n. n ≤ most_hits) totals.now }
-    ensures decides { IsTrue result ↔ (sum_by kept_gain (map (row_in definition.now totals.now valid.now) (numbers (length (links_of definition.now)))) ≤ most_gains) }
+    ensures decides { IsTrue result
+        ↔ (sum_by kept_gain (map (row_in definition.now totals.now valid.now)
+        (numbers (length (links_of definition.now)))) ≤ greatest_sum) }
 {
     let mut sum: u64 = 0;
     for link in 0..definition.link_count() {
         sum = sum.saturating_add(gain(definition, totals, valid, link));
     }
-    sum <= 1 << 62
+    sum <= GREATEST_SUM
 }
 
-// What a link gains: its weight for each of its hits, and nothing where a point that it needs is invalid.
+// What a link gains: its weight for each of its hits, and nothing where a point that it needs is
+// invalid.
 fn gain(definition: &Definition, totals: &[u64], valid: &[bool], link: usize) -> u64
     requires inside { link < length (links_of definition.now) }
     requires links { length totals.now ≡ length (links_of definition.now) }
@@ -139,7 +150,7 @@ fn is_valid(valid: &[bool], point: u32) -> bool
 pub(crate) fn link_of(definition: &Definition, link: usize) -> &Link
     requires inside { link < length (links_of definition.now) }
     ensures value { result.now ≡ (link_at definition.now link).1 }
-    ensures light { result.now.weight ≤ 2 ^ 20 }
+    ensures light { result.now.weight ≤ greatest_weight }
 {
     let site = definition.site_of(link);
     let place = link - definition.first_link(site);

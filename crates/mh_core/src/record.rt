@@ -5,10 +5,10 @@ use mh_site::Listing;
 use mh_tree::Declared;
 
 /// An accepted event that is no call.
-#[derive(Drop)]
+#[derive(Debug, Drop)]
 pub enum Record {
-    /// A worker's hits were added to the totals: the links that it had hit, ascending by number, each
-    /// with how often.
+    /// A worker's hits were added to the totals: the links that it had hit, ascending by number,
+    /// each with how often.
     Flushed {
         worker: usize,
         hits: Listing<(usize, u64)>,

@@ -10,8 +10,8 @@ use std::fmt;
 /// Why an event was refused. A refused event changes nothing.
 #[derive(Clone, Copy, Debug, PartialEq, Eq)]
 pub enum Refusal {
-    /// A growth or a further owner was refused. It is told only where no test fails, and where a plan
-    /// that is offered for a snapshot could not be tested.
+    /// A growth or a further owner was refused. It is told only where no test fails, and where a
+    /// plan that is offered for a snapshot could not be tested.
     NoMemory,
     /// As many events were accepted, snapshots taken or plans published as may be.
     HistoryFull,

@@ -4,9 +4,10 @@ use crate::install_report::InstallReport;
 use crate::plan::SharedPlan;
 use crate::refusal::Refusal;
 use mh_type::Outcome;
+use std::fmt;
 
 /// The answer to an event.
-#[derive(Drop)]
+#[derive(Debug, Drop)]
 pub enum Reply {
     /// What a call ended with, and the number of nodes that it entered.
     Called { outcome: Outcome, steps: u64 },
@@ -20,4 +21,25 @@ pub enum Reply {
     Installed(InstallReport),
     /// The first test that failed, or want of memory.
     Refused(Refusal),
+}
+
+/// The reply as a line of the program tells it, but for the numbers of points: `int 100`, `ok`,
+/// `snapshot 1`, `plan 1 links 0 points 0 value 3 flow 4`, `installed linked 1 skipped 0`, `refused
+/// 3 NoSite`.
+impl fmt::Display for Reply {
+    ghost use Rattle.std.specs.Prelude.{Some};
+    ghost use Rattle.mh_core.specs.Display.{reply_text};
+
+    ghost output = { λ reply. Some (reply_text reply) };
+
+    fn fmt<W: fmt::Write>(&self, f: &mut fmt::Formatter<W>) -> fmt::Result {
+        match self {
+            Reply::Called { outcome, .. } => write!(f, "{outcome}"),
+            Reply::Done => write!(f, "ok"),
+            Reply::Taken { snapshot } => write!(f, "snapshot {snapshot}"),
+            Reply::Published { number, plan } => write!(f, "plan {number} {}", plan.plan()),
+            Reply::Installed(report) => write!(f, "installed {report}"),
+            Reply::Refused(refusal) => write!(f, "refused {refusal}"),
+        }
+    }
 }

@@ -4,7 +4,7 @@ ghost use Rattle.std.specs.Prelude.{◌≡◌, ◌<◌, ◌≤◌, length, map, 
 ghost use Rattle.mh_site.specs.Worlds.{state_at};
 ghost use Rattle.mh_core.specs.Records.{numbers};
 
-use crate::fault::NoMemory;
+use mh_base::NoMemory;
 use mh_ledger::Totals;
 use mh_site::World;
 use std::alloc::Global;
@@ -25,7 +25,11 @@ impl Model for Snapshot {
 
     ghost coded = { coded_snapshot };
 
-    ghost view = { λ s. record { totals = s.totals.items; valid = s.valid.items; versions = s.versions.items } };
+    ghost view = { λ s. record {
+      totals = s.totals.items;
+      valid = s.valid.items;
+      versions = s.versions.items;
+    } };
 }
 
 impl Snapshot {
@@ -37,7 +41,13 @@ impl Snapshot {
         sites: usize,
     ) -> Result<Snapshot, NoMemory>
         requires sites { sites ≤ length world.now.sites }
-        ensures value { IfOk result (λ s. s ≡ record { totals = totals.now.total; valid = world.now.valid; versions = map (λ i. (state_at world.now i).version) (numbers sites) }) }
+        ensures value { IfOk result (λ s. s
+            ≡ record {
+              totals = totals.now.total;
+              valid = world.now.valid;
+              versions = map
+                  (λ i. (state_at world.now i).version) (numbers sites);
+            }) }
     {
         Ok(Snapshot {
             totals: totals.as_slice().to_vec(alloc)?,
@@ -71,7 +81,8 @@ impl Snapshot {
 // How often each site was retargeted.
 fn versions(alloc: Global, world: &World, sites: usize) -> Result<Vec<u64>, NoMemory>
     requires sites { sites ≤ length world.now.sites }
-    ensures value { IfOk result (λ v. v.items ≡ map (λ i. (state_at world.now i).version) (numbers sites)) }
+    ensures value { IfOk result (λ v. v.items
+        ≡ map (λ i. (state_at world.now i).version) (numbers sites)) }
 {
     let mut versions = Vec::new(alloc);
     for site in 0..sites {

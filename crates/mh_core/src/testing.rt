@@ -4,12 +4,11 @@ ghost use Rattle.std.specs.Prelude.{◌≡◌, ◌⊎◌, ◌<◌, ◌≤◌, �
 ghost use Rattle.std.specs.List.{All};
 ghost use Rattle.mh_ledger.specs.Ledgers.{Holds};
 ghost use Rattle.mh_cert.specs.Plans.{Matches, plan_tests};
-ghost use Rattle.mh_network.specs.Tests as first;
 ghost use Rattle.mh_core.specs.declared.record.Record.TheVariants.{Flushed, Targeted, Invalidated, Snapped, Published, Installed};
 ghost use Rattle.mh_core.specs.declared.refusal.Refusal.{Refusal};
 ghost use Rattle.mh_core.specs.Records.{hits_in};
 ghost use Rattle.mh_core.specs.Rows.{tests};
-ghost use Rattle.mh_core.specs.Tests.{Passes, Refuses};
+ghost use Rattle.mh_base.specs.Tests.{Passes, Refuses};
 
 use crate::book::Book;
 use crate::limits::{MOST_PLANS, MOST_SNAPSHOTS};
@@ -27,7 +26,8 @@ impl Book {
     /// Whether as many events were accepted as may be, where so many calls were accepted beside the
     /// records.
     pub fn is_full(&self, calls: usize) -> bool
-        ensures decides { IsTrue result ↔ (self.now.limits.history ≤ length self.now.records + calls) }
+        ensures decides { IsTrue result
+            ↔ (self.now.limits.history ≤ length self.now.records + calls) }
     {
         self.records.len().saturating_add(calls) as u64 >= self.limits.history()
     }
@@ -35,8 +35,14 @@ impl Book {
     // The tests of a flush, of which the first that fails is told.
     pub(crate) fn test_flush(&self, calls: usize, ledger: &Ledger) -> Result<(), Refusal>
         requires held { Holds self.now.totals ledger.now }
-        ensures passes { OnOk result (Passes (tests self.now.definition self.now.limits (length self.now.records + calls) self.now.records (Flushed ledger.now.worker (hits_in ledger.now.unflushed)))) }
-        ensures refuses { IfErr result (λ told. Refuses (tests self.now.definition self.now.limits (length self.now.records + calls) self.now.records (Flushed ledger.now.worker (hits_in ledger.now.unflushed))) told) }
+        ensures passes { OnOk result (Passes
+            (tests self.now.definition self.now.limits
+            (length self.now.records + calls) self.now.records
+            (Flushed ledger.now.worker (hits_in ledger.now.unflushed)))) }
+        ensures refuses { IfErr result
+            (λ told. Refuses (tests self.now.definition self.now.limits
+            (length self.now.records + calls) self.now.records
+            (Flushed ledger.now.worker (hits_in ledger.now.unflushed))) told) }
     {
         if self.is_full(calls) {
             return Err(Refusal::HistoryFull);
@@ -54,8 +60,12 @@ impl Book {
         site: usize,
         tree: &Declared,
     ) -> Result<(), Refusal>
-        ensures passes { OnOk result (Passes (tests self.now.definition self.now.limits (length self.now.records + calls) self.now.records (Targeted site tree.now))) }
-        ensures refuses { IfErr result (λ told. Refuses (tests self.now.definition self.now.limits (length self.now.records + calls) self.now.records (Targeted site tree.now)) told) }
+        ensures passes { OnOk result (Passes
+            (tests self.now.definition self.now.limits
+            (length self.now.records + calls) self.now.records (Targeted site tree.now))) }
+        ensures refuses { IfErr result
+            (λ told. Refuses (tests self.now.definition self.now.limits
+            (length self.now.records + calls) self.now.records (Targeted site tree.now)) told) }
     {
         if site >= self.definition.sites().len() {
             return Err(Refusal::NoSite);
@@ -76,8 +86,12 @@ impl Book {
 
     // The tests of an invalidation, of which the first that fails is told.
     pub(crate) fn test_points(&self, calls: usize, points: &Listing<u32>) -> Result<(), Refusal>
-        ensures passes { OnOk result (Passes (tests self.now.definition self.now.limits (length self.now.records + calls) self.now.records (Invalidated points.now))) }
-        ensures refuses { IfErr result (λ told. Refuses (tests self.now.definition self.now.limits (length self.now.records + calls) self.now.records (Invalidated points.now)) told) }
+        ensures passes { OnOk result (Passes
+            (tests self.now.definition self.now.limits
+            (length self.now.records + calls) self.now.records (Invalidated points.now))) }
+        ensures refuses { IfErr result
+            (λ told. Refuses (tests self.now.definition self.now.limits
+            (length self.now.records + calls) self.now.records (Invalidated points.now)) told) }
     {
         if !all_below(points.as_slice(), self.definition.points().len()) {
             return Err(Refusal::NoPoint);
@@ -90,8 +104,12 @@ impl Book {
 
     // The tests of a snapshot, of which the first that fails is told.
     pub(crate) fn test_snapshot(&self, calls: usize) -> Result<(), Refusal>
-        ensures passes { OnOk result (Passes (tests self.now.definition self.now.limits (length self.now.records + calls) self.now.records Snapped)) }
-        ensures refuses { IfErr result (λ told. Refuses (tests self.now.definition self.now.limits (length self.now.records + calls) self.now.records Snapped) told) }
+        ensures passes { OnOk result (Passes
+            (tests self.now.definition self.now.limits
+            (length self.now.records + calls) self.now.records Snapped)) }
+        ensures refuses { IfErr result
+            (λ told. Refuses (tests self.now.definition self.now.limits
+            (length self.now.records + calls) self.now.records Snapped) told) }
     {
         if self.is_full(calls) || self.snapshots.len() >= MOST_SNAPSHOTS {
             return Err(Refusal::HistoryFull);
@@ -110,8 +128,13 @@ impl Book {
         snapshot: usize,
         plan: &SharedPlan,
     ) -> Result<(), Refusal>
-        ensures passes { OnOk result (Passes (tests self.now.definition self.now.limits (length self.now.records + calls) self.now.records (Published snapshot plan.now))) }
-        ensures refuses { IfErr result (λ told. Refuses (tests self.now.definition self.now.limits (length self.now.records + calls) self.now.records (Published snapshot plan.now)) told) }
+        ensures passes { OnOk result (Passes
+            (tests self.now.definition self.now.limits
+            (length self.now.records + calls) self.now.records (Published snapshot plan.now))) }
+        ensures refuses { IfErr result
+            (λ told. Refuses (tests self.now.definition self.now.limits
+            (length self.now.records + calls) self.now.records (Published snapshot plan.now))
+            told) }
     {
         let problem = self.problem(snapshot)?;
         test_plan(self.alloc, &problem, plan.plan())?;
@@ -123,8 +146,12 @@ impl Book {
 
     // The tests of an installation, of which the first that fails is told.
     pub(crate) fn test_install(&self, calls: usize, plan: usize) -> Result<(), Refusal>
-        ensures passes { OnOk result (Passes (tests self.now.definition self.now.limits (length self.now.records + calls) self.now.records (Installed plan))) }
-        ensures refuses { IfErr result (λ told. Refuses (tests self.now.definition self.now.limits (length self.now.records + calls) self.now.records (Installed plan)) told) }
+        ensures passes { OnOk result (Passes
+            (tests self.now.definition self.now.limits
+            (length self.now.records + calls) self.now.records (Installed plan))) }
+        ensures refuses { IfErr result
+            (λ told. Refuses (tests self.now.definition self.now.limits
+            (length self.now.records + calls) self.now.records (Installed plan)) told) }
     {
         let newest = self.plans.len();
         if plan == 0 || plan > newest {
@@ -150,7 +177,10 @@ fn all_below(numbers: &[u32], bound: usize) -> bool
 // Whether a plan matches its problem, or its first part that is wrong.
 fn test_plan(alloc: Global, problem: &Problem, plan: &Plan) -> Result<(), Refusal>
     ensures matching { OnOk result (Matches problem.now plan.now) }
-    ensures refused { IfErr result (λ told. (told ≡ Refusal.NoMemory) ⊎ ((Matches problem.now plan.now → ⊥) × ((fault : CheckFault) × (told ≡ Refusal.PlanRefused fault) × first.Refuses (plan_tests problem.now plan.now) fault))) }
+    ensures refused { IfErr result (λ told. (told ≡ Refusal.NoMemory)
+        ⊎ ((Matches problem.now plan.now → ⊥)
+        × ((fault : CheckFault) × (told ≡ Refusal.PlanRefused fault)
+        × Refuses (plan_tests problem.now plan.now) fault))) }
 {
     match check(alloc, problem, plan) {
         Ok(()) => Ok(()),

@@ -1,18 +1,19 @@
 -- What a guard and a fold do, by what their first part does on all arguments.
-use Rattle.std.proofs.Common.{◌≡◌, ◌+◌, ◌≤◌, ℕ, Bool, List, ◌∷◌, length, take, arith, length-take, ap}
+use Rattle.std.proofs.Common.{◌≡◌, ◌+◌, ◌≤◌, ℕ, List, ◌∷◌, length, take, arith, length-take, ap}
 use Rattle.mh_type.specs.declared.kind.Kind.{Kind}
 use Rattle.mh_type.specs.declared.value.Value.{Value}
 use Rattle.mh_tree.specs.Arity.{arity}
 use Rattle.mh_tree.specs.Meaning.{◌>>=◌, mean, steps, after, choose, choose_steps}
 use Rattle.mh_tree.specs.Tree.{Tree, fold, guard}
 use Rattle.mh_tree.specs.Widths.{CanRun}
-use Rattle.mh_tree.proofs.LeadingArguments.{mean_leading, steps_leading}
+use Rattle.mh_tree.proofs.PublicLaws.{mean_leading, steps_leading}
+use Rattle.mh_tree.specs.Environment.{Environment}
 
 pub shorter : (ks kinds : List Kind) → ks ≡ take (length ks) kinds → length ks ≤ length kinds
 shorter ks kinds begins =
     let e = ap (λ (xs : List Kind). length xs) begins in omega (arith, e, length-take (length ks) kinds)
 
-module _ (v : List Bool) (c x y : Tree) (a : List Value) (n : ℕ) (r : CanRun (guard c x y) (length a) n) where
+module _ (v : Environment) (c x y : Tree) (a : List Value) (n : ℕ) (r : CanRun (guard c x y) (length a) n) where
   test_wide : length r.typed.0 ≤ length a
   test_wide = omega (arith, shorter r.typed.0 r.signature.parameters r.typed.2, r.wide)
 
@@ -28,7 +29,7 @@ module _ (v : List Bool) (c x y : Tree) (a : List Value) (n : ℕ) (r : CanRun (
   pub guard_steps : steps v (guard c x y) a ≡ 1 + (steps v c a + after (mean v c a) (λ b. choose_steps b (steps v x a) (steps v y a)))
   guard_steps = λ i. 1 + (test_steps i + after (test_mean i) (λ b. choose_steps b (steps v x a) (steps v y a)))
 
-module _ (v : List Bool) (t c : Tree) (a : List Value) (n : ℕ) (r : CanRun (fold t c) (length a) n) where
+module _ (v : Environment) (t c : Tree) (a : List Value) (n : ℕ) (r : CanRun (fold t c) (length a) n) where
   combiner_wide : length r.typed.1 ≤ length a
   combiner_wide = omega (arith, shorter r.typed.1 r.signature.parameters r.typed.4, r.wide)
 

@@ -13,8 +13,9 @@ use Rattle.mh_tree.specs.Arity.{arity}
 use Rattle.mh_tree.specs.Meaning.{mean, filtered, argument, put_in, taken_out, is_valid}
 use Rattle.mh_tree.specs.Tree.{Tree, Filters, constant, identity, operation, insert, discard, permute, filter, filter_return, fold, guard, point, no_more, absent, present}
 use Rattle.mh_tree.specs.Typing.{IsTyped}
-use Rattle.mh_tree.proofs.LeadingArguments.{same_count, count, counted, argument_more, put_in_more, taken_out_more, reordered_more, with_more, filtered_more, filtered_length, mean_more, leading, enough}
+use Rattle.mh_tree.proofs.PublicLaws.{same_count, filter_count as count, counted, argument_more, put_in_more, taken_out_more, reordered_more, with_more, filtered_more, filtered_length, mean_more, leading, enough}
 use Rattle.mh_eval.specs.Entered.{WithValue, Chosen, OneOf, WithArguments, EntersPlain, FiltersPlain}
+use Rattle.mh_tree.specs.Environment.{Environment}
 
 -- a fact of the value that goes on to another
 value_along : (o : Outcome) (E Q : Value → Type 0) → WithValue o E → ((x : Value) → E x → Q x) → WithValue o Q
@@ -37,7 +38,7 @@ arguments_along : (r : Result (List Value) Throw) (e : List Value) (E : List Val
 arguments_along (Ok b) e E h k = k b refl h
 arguments_along (Err t) e E h k = tt
 
-filters_more : (v : List Bool) (fs : Filters) (p : ℕ) (a e : List Value) → p + count fs ≤ length a → FiltersPlain v fs p a → FiltersPlain v fs p (a ++ e)
+filters_more : (v : Environment) (fs : Filters) (p : ℕ) (a e : List Value) → p + count fs ≤ length a → FiltersPlain v fs p a → FiltersPlain v fs p (a ++ e)
 filters_more v no_more p a e room h = tt
 filters_more v (absent fs) p a e room h = filters_more v fs (p + 1) a e (omega arith) h
 filters_more v (present f fs) p a e room h =
@@ -51,7 +52,7 @@ filters_more v (present f fs) p a e room h =
           (λ x inner. subst (FiltersPlain v fs (p + 1)) (sym (set-append_left a e p x inside)) (filters_more v fs (p + 1) (slice_set a p x) e (omega (arith, length-set a p x)) inner))),
     )
 
-enters_more : (v : List Bool) (t : Tree) (m : Signature) (a e : List Value) → IsTyped t m → length m.parameters ≤ length a → EntersPlain v t a → EntersPlain v t (a ++ e)
+enters_more : (v : Environment) (t : Tree) (m : Signature) (a e : List Value) → IsTyped t m → length m.parameters ≤ length a → EntersPlain v t a → EntersPlain v t (a ++ e)
 enters_more v (constant x) m a e typed wide h = h
 enters_more v (identity k) m a e typed wide h = h
 enters_more v (operation o) m a e typed wide h = h
@@ -106,7 +107,7 @@ enters_more v (guard c x y) m a e (ks, test, begins, one, two) wide h =
 enters_more v (point p x y) m a e (one, two) wide h =
     (h.0, one_along (is_valid v p) _ _ _ _ (enters_more v x m a e one wide) (enters_more v y m a e two wide) h.1)
 
-pub enters_leading : (v : List Bool) (t : Tree) (m : Signature) (a : List Value) → IsTyped t m → length m.parameters ≤ length a → EntersPlain v t (take (arity t) a) → EntersPlain v t a
+pub enters_leading : (v : Environment) (t : Tree) (m : Signature) (a : List Value) → IsTyped t m → length m.parameters ≤ length a → EntersPlain v t (take (arity t) a) → EntersPlain v t a
 enters_leading v t m a typed wide h =
     subst (EntersPlain v t) (take-append-drop (arity t) a)
     (enters_more v t m (take (arity t) a) (drop (arity t) a) typed (enough v t m a typed wide) h)

@@ -1,5 +1,5 @@
 -- Filters of a tree that can run can run.
-use Rattle.std.proofs.Common.{◌≡◌, ℕ, ◌+◌, ◌≤◌, List, [], ◌∷◌, length, take, drop, arith, lit≤, length-drop, length-take, ap, ◌-◌, Ok, Err, Bool}
+use Rattle.std.proofs.Common.{◌≡◌, ℕ, ◌+◌, ◌≤◌, List, [], ◌∷◌, length, take, drop, arith, lit≤, length-drop, length-take, ap, ◌-◌, Ok, Err}
 use Rattle.mh_type.specs.declared.kind.Kind.{Kind}
 use Rattle.mh_type.specs.declared.value.Value.{Value}
 use Rattle.mh_tree.specs.Limits.{total_size, greatest_bound}
@@ -9,7 +9,8 @@ use Rattle.mh_type.specs.declared.outcome.Throw.{Throw}
 use Rattle.mh_type.specs.declared.outcome.Outcome.TheVariants.{Thrown}
 use Rattle.mh_tree.specs.Meaning.{mean, steps, filtered, filter_steps, with_arguments, after_filters}
 use Rattle.mh_tree.specs.Widths.{CanRun, CanFilter}
-use Rattle.mh_tree.proofs.LeadingArguments.{as_few, as_many}
+use Rattle.mh_tree.proofs.PublicLaws.{as_few, as_many}
+use Rattle.mh_tree.specs.Environment.{Environment}
 
 can_filter : (fs : Filters) (old new : List Kind) (p w n : ℕ) → AreTyped fs old new → p + length old ≤ w → greatest_bound fs ≤ n → total_size fs ≤ 262144 → CanFilter fs p w n
 can_filter no_more old new p w n h a b c = tt
@@ -51,7 +52,7 @@ target_runs t p fs w n r =
       small = omega (arith, r.small);
     }
 
-module _ (v : List Bool) (t : Tree) (p : ℕ) (fs : Filters) (a : List Value) where
+module _ (v : Environment) (t : Tree) (p : ℕ) (fs : Filters) (a : List Value) where
   pub filter_throws : (x : Throw) → filtered v fs p a ≡ Err x → mean v (filter t p fs) a ≡ Thrown x
   filter_throws x h = ap (λ r. with_arguments r (mean v t)) h
 

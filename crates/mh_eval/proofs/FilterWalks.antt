@@ -1,5 +1,5 @@
 -- Walks of filters, and of a tree with filters.
-use Rattle.std.proofs.Common.{◌≡◌, ℕ, ◌+◌, ◌≤◌, ◌∙◌, ap, sym, subst, refl, arith, Bool, false, List, [], ◌∷◌, ◌++◌, drop, length, length-drop, Result, Ok, Err}
+use Rattle.std.proofs.Common.{◌≡◌, ℕ, ◌+◌, ◌≤◌, ◌∙◌, ap, sym, subst, refl, arith, false, List, [], ◌∷◌, ◌++◌, drop, length, length-drop, Result, Ok, Err}
 use Rattle.std.specs.Prelude.{slice_set}
 use Rattle.std.proofs.lemmas.List.{set-append_left, get_or-drop, drop-set-add}
 use Rattle.mh_type.specs.declared.value.Value.{Value}
@@ -11,7 +11,7 @@ use Rattle.mh_type.specs.Kinds.{kind_of}
 use Rattle.mh_tree.specs.Meaning.{mean, steps, filtered, filter_steps, with_value, after, argument}
 use Rattle.mh_tree.specs.Tree.{Tree, Filters, filter, no_more, absent, present}
 use Rattle.mh_tree.specs.Widths.{CanRun, CanFilter}
-use Rattle.mh_tree.proofs.LeadingArguments.{argument_more, filtered_more, with_more, same_count, count, counted}
+use Rattle.mh_tree.proofs.PublicLaws.{argument_more, filtered_more, with_more, same_count, filter_count as count, counted}
 use Rattle.mh_eval.specs.Answers.{Ran}
 use Rattle.mh_eval.specs.Entered.{EntersPlain, FiltersPlain, IsPlainKind, WithArguments}
 use Rattle.mh_eval.specs.Frames.{Extends}
@@ -23,6 +23,7 @@ use Rattle.mh_eval.proofs.Extending.{front_texts}
 use Rattle.mh_eval.proofs.FilterRuns.{filter_throws, filter_throws_steps, filter_goes, filter_goes_steps}
 use Rattle.mh_eval.proofs.QuietTrees.{plain_result, plain_filters, texts_at, texts_set}
 use Rattle.mh_eval.proofs.Walks.{of_value, ran_as, ran_after, refused}
+use Rattle.mh_tree.specs.Environment.{Environment}
 
 ends_ran : (q : Answer) (k : ℕ) (o : Outcome) (m : ℕ) → Ends q k o m → Ran q k o m
 ends_ran (Thrown t) k o m h = h
@@ -33,11 +34,11 @@ ends_ran (Boolean x) k o m h = absurd h
 ends_ran (Text x) k o m h = absurd h
 
 -- no filters
-pub passed_none : {A : Type 0} (u : A) (v : List Bool) (p : ℕ) (a : List Value) (n c : ℕ) → Passed (Ok u) 0 v no_more p a a n c
+pub passed_none : {A : Type 0} (u : A) (v : Environment) (p : ℕ) (a : List Value) (n c : ℕ) → Passed (Ok u) 0 v no_more p a a n c
 passed_none u v p a n c = record { value = (refl, refl); few = omega arith; quiet = λ e plain none room. tt }
 
 -- a place with no filter
-pub passed_absent : {A : Type 0} (r : Result A Answer) (k : ℕ) (v : List Bool) (fs : Filters) (p : ℕ) (a b : List Value) (n c : ℕ) → Passed r k v fs (p + 1) a b n c → Passed r k v (absent fs) p a b n c
+pub passed_absent : {A : Type 0} (r : Result A Answer) (k : ℕ) (v : Environment) (fs : Filters) (p : ℕ) (a b : List Value) (n c : ℕ) → Passed r k v fs (p + 1) a b n c → Passed r k v (absent fs) p a b n c
 passed_absent r k v fs p a b n c h = record { value = h.value; few = h.few; quiet = λ e plain none room. h.quiet e plain none room }
 
 stops_filter : (q : Answer) (k : ℕ) (o : Outcome) (m : ℕ) (go : Value → Result (List Value) Throw) (more : Value → ℕ) → Ends q k o m → Stops q k (with_value o go) (m + after o more)
@@ -57,7 +58,7 @@ stops_later (Boolean x) j k m n r s h same more = absurd h
 stops_later (Text x) j k m n r s h same more = absurd h
 
 -- a filter that is there
-module _ (v : List Bool) (f : Tree) (fs : Filters) (base p : ℕ) (old new : List Value) (c k w : ℕ) (can : CanFilter (present f fs) p (length (drop base old)) w) where
+module _ (v : Environment) (f : Tree) (fs : Filters) (base p : ℕ) (old new : List Value) (c k w : ℕ) (can : CanFilter (present f fs) p (length (drop base old)) w) where
   here : argument old (base + p) ≡ argument (drop base old) p
   here = sym (get_or-drop base old p (value.Boolean false))
 
@@ -109,7 +110,7 @@ module _ (v : List Bool) (f : Tree) (fs : Filters) (base p : ℕ) (old new : Lis
       }
 
 -- a tree with filters
-module _ (v : List Bool) (t : Tree) (p : ℕ) (fs : Filters) (a : List Value) (w : ℕ) (runs : CanRun (filter t p fs) (length a) w) where
+module _ (v : Environment) (t : Tree) (p : ℕ) (fs : Filters) (a : List Value) (w : ℕ) (runs : CanRun (filter t p fs) (length a) w) where
   filters_room : p + count fs ≤ length a
   filters_room =
       let n = runs.typed.0 in

@@ -1,9 +1,9 @@
-pub mod AnswersGiven
-pub mod Branches
-pub mod EntersLeading
-pub mod Extending
-pub mod FilterRuns
-pub mod FilterWalks
-pub mod QuietCalls
-pub mod QuietTrees
-pub mod Walks
+mod AnswersGiven
+mod Branches
+mod EntersLeading
+mod Extending
+mod FilterRuns
+mod FilterWalks
+mod QuietCalls
+mod QuietTrees
+mod Walks

@@ -1,29 +1,38 @@
 -- What memory a handle's code takes in a call.
-use Rattle.std.proofs.Common.{◌≡◌, ◌+◌, ◌≤◌, ap, sym, ◌∙◌, List, [], length, map, arith, Bool, zero-add, subst, ℕ}
+use Rattle.std.proofs.Common.{◌≡◌, ◌+◌, ◌≤◌, ap, sym, ◌∙◌, List, [], length, map, arith, zero-add, subst, ℕ, Result, Ok, Err, IfOk}
 use Rattle.std.specs.List.{range_with_len}
 use Rattle.mh_type.specs.declared.value.Value.{Value}
 use Rattle.mh_type.specs.declared.outcome.Outcome.{Outcome}
 use Rattle.mh_type.specs.Fits.{Fits}
 use Rattle.mh_tree.specs.Code.{Code}
 use Rattle.mh_tree.specs.Handle.{TypedTree, IsSound}
+use Rattle.mh_tree.specs.Limits.{most_nodes}
 use Rattle.mh_tree.specs.Meaning.{mean, steps}
 use Rattle.mh_tree.specs.Prepared.{handle_code}
-use Rattle.mh_tree.specs.Running.{run_code, code_steps}
+use Rattle.mh_tree.specs.Running.{run_code, code_steps, weight}
 use Rattle.mh_tree.specs.declared.operand.Operand.TheVariants.{Argument}
-use Rattle.mh_tree.proofs.Calls.{count, call_means, call_costs}
-use Rattle.mh_tree.proofs.Scope.{reads_arguments}
-use Rattle.mh_eval.specs.Answers.{Ran}
+use Rattle.mh_tree.proofs.PublicLaws.{call_count as count, call_means, call_costs, call_small, reads_arguments}
 use Rattle.mh_eval.specs.Entered.{ArePlain, EntersPlain}
 use Rattle.mh_eval.specs.Quiet.{IsQuiet, deep}
-use Rattle.mh_eval.specs.declared.answer.Answer.{Answer}
 use Rattle.mh_eval.proofs.QuietTrees.{of_kinds, plain_parameters, quiet, shallow}
+use Rattle.mh_tree.specs.Environment.{Environment}
 
-module _ (v : List Bool) (h : TypedTree) (a : List Value) (code : Code) (kept : code ≡ handle_code h) (sound : IsSound h.tree h.signature) (fits : Fits h.signature a) where
-  pub call_ran : (r : Answer) (n : ℕ) → Ran r n (run_code v code a []) (0 + code_steps v code a []) → Ran r n (mean v h.tree a) (steps v h.tree a)
-  call_ran r n ran =
-      let P : Outcome → Type 0 = λ o. Ran r n o (0 + code_steps v code a []) in
-      let Q : ℕ → Type 0 = λ m. Ran r n (mean v h.tree a) m in
-      subst Q (zero-add _ ∙ call_costs v h a code kept sound fits) (subst P (call_means v h a code kept sound fits) ran)
+module _ (v : Environment) (h : TypedTree) (a : List Value) (code : Code) (kept : code ≡ handle_code h) (sound : IsSound h.tree h.signature) (fits : Fits h.signature a) where
+  pub call_outcome : {E : Type 0} (r : Result (Outcome × ℕ) E) → IfOk r (λ p. p.0 ≡ run_code v code a []) → IfOk r (λ p. p.0 ≡ mean v h.tree a)
+  call_outcome r told =
+      let P : Outcome → Type 0 = λ o. IfOk r (λ p. p.0 ≡ o) in
+      subst P (call_means v h a code kept sound fits) told
+
+  pub call_steps : {E : Type 0} (r : Result (Outcome × ℕ) E) → IfOk r (λ p. p.1 ≡ 0 + code_steps v code a []) → IfOk r (λ p. p.1 ≡ steps v h.tree a)
+  call_steps r told =
+      let P : ℕ → Type 0 = λ m. IfOk r (λ p. p.1 ≡ m) in
+      subst P (zero-add _ ∙ call_costs v h a code kept sound fits) told
+
+  pub call_few : {E : Type 0} (r : Result (Outcome × ℕ) E) → IfOk r (λ p. p.1 ≤ 0 + weight code) → IfOk r (λ p. p.1 ≤ most_nodes)
+  call_few (Ok p) few =
+      let small = call_small v h a code kept sound fits in
+      omega (arith, few, small)
+  call_few (Err e) few = tt
 
   pub call_quiet : EntersPlain v h.tree a → IsQuiet v code a []
   call_quiet plain =

@@ -19,11 +19,7 @@ use Rattle.mh_tree.specs.Meaning.{◌>>=◌, mean, filtered, with_arguments, wit
 use Rattle.mh_tree.specs.Tree.{Tree, Filters, constant, identity, operation, insert, discard, permute, filter, filter_return, fold, guard, point, no_more, absent, present}
 use Rattle.mh_tree.specs.TypeOf.{type_of}
 use Rattle.mh_tree.specs.Typing.{IsTyped, AreTyped}
-use Rattle.mh_tree.proofs.Types.{few_parameters}
-use Rattle.mh_tree.proofs.Types.{type_computed}
-use Rattle.mh_tree.proofs.LeadingArguments.{mean_leading, filtered_length}
-use Rattle.mh_tree.proofs.OperandReads.{Reads, reads_now, reads_at, reads_inserted, reads_discarded, reads_permuted, reads_one, reads_newest, reads_set, reads_nothing, permuted_wide, filter_wide, shorter, one_more}
-use Rattle.mh_tree.proofs.Means.{means}
+use Rattle.mh_tree.proofs.PublicLaws.{few_parameters, type_computed, mean_leading, filtered_length, Reads, reads_now, reads_at, reads_inserted, reads_discarded, reads_permuted, reads_one, reads_newest, reads_set, reads_nothing, permuted_wide, filter_wide, shorter, one_more, means}
 use Rattle.mh_tree.specs.Code.{Code}
 use Rattle.mh_eval.proofs.EntersLeading.{chosen_along, one_along, enters_leading}
 use Rattle.mh_eval.specs.Entered.{WithValue, Chosen, OneOf, IsPlainKind, ArePlain, IsPlain, WithArguments, EntersPlain, FiltersPlain}
@@ -31,6 +27,7 @@ use Rattle.mh_tree.specs.Prepared.{operand_at, prepared, prepared_filters}
 use Rattle.mh_eval.specs.Quiet.{IsQuiet, NoTexts, deep}
 use Rattle.mh_tree.specs.declared.operand.Operand.{Operand}
 use Rattle.mh_tree.specs.declared.operand.Operand.TheVariants.{Local, Constant}
+use Rattle.mh_tree.specs.Environment.{Environment}
 
 abbrev NoText : Outcome → Type 0
 NoText o = WithValue o (λ x. IsPlainKind (kind_of x))
@@ -158,7 +155,7 @@ of_operation Len b h = of_one_text b _ (λ x. tt)
 pub not_text : (k : Kind) → IsPlainKind k → k ≡ kind.Text → ⊥
 not_text k h e = subst IsPlainKind e h
 
-root_plain : (v : List Bool) (t : Tree) (a : List Value) → EntersPlain v t a → IsPlain (type_of t)
+root_plain : (v : Environment) (t : Tree) (a : List Value) → EntersPlain v t a → IsPlain (type_of t)
 root_plain v (constant x) a e = e.0
 root_plain v (identity k) a e = e.0
 root_plain v (operation o) a e = e.0
@@ -172,12 +169,12 @@ root_plain v (guard c x y) a e = e.0
 root_plain v (point p x y) a e = e.0
 
 -- the parameters of a node that is entered
-pub plain_parameters : (v : List Bool) (t : Tree) (m : Signature) (a : List Value) → IsTyped t m → EntersPlain v t a → ArePlain m.parameters
+pub plain_parameters : (v : Environment) (t : Tree) (m : Signature) (a : List Value) → IsTyped t m → EntersPlain v t a → ArePlain m.parameters
 plain_parameters v t m a typed e =
     let P : Signature → Type 0 = λ n. ArePlain n.parameters in
     subst P (type_computed t m typed) (root_plain v t a e).1
 
-pub inserted_plain : (v : List Bool) (t : Tree) (n : Signature) (p : ℕ) (xs b : List Value) → IsTyped t n → map kind_of xs ≡ take (length xs) (drop p n.parameters) → NoTexts b → EntersPlain v t (put_in b p xs) → NoTexts (put_in b p xs)
+pub inserted_plain : (v : Environment) (t : Tree) (n : Signature) (p : ℕ) (xs b : List Value) → IsTyped t n → map kind_of xs ≡ take (length xs) (drop p n.parameters) → NoTexts b → EntersPlain v t (put_in b p xs) → NoTexts (put_in b p xs)
 inserted_plain v t n p xs b typed kinds h e =
     let plain = plain_parameters v t n _ typed e in
     let values = of_kinds xs (subst ArePlain (sym kinds) (kinds_take (length xs) (drop p n.parameters) (kinds_drop p n.parameters plain))) in
@@ -213,7 +210,7 @@ if_plain false X Y A B e f g = g e
 
 -- a tree that enters no node with String in its type gives no text
 mutual
-  pub plain_result : (v : List Bool) (t : Tree) (m : Signature) (b : List Value) → IsTyped t m → length m.parameters ≤ length b → NoTexts b → EntersPlain v t b → NoText (mean v t b)
+  pub plain_result : (v : Environment) (t : Tree) (m : Signature) (b : List Value) → IsTyped t m → length m.parameters ≤ length b → NoTexts b → EntersPlain v t b → NoText (mean v t b)
   plain_result v (constant x) m b typed wide h e = e.0.0
   plain_result v (identity k) m b typed wide h e = texts_at 0 b h
   plain_result v (operation o) m b typed wide h e = of_operation o b e.0.0
@@ -257,7 +254,7 @@ mutual
   plain_result v (point p x y) m b (one, two) wide h e =
       if_plain (is_valid v p) _ _ _ _ e.1 (plain_result v x m b one wide h) (plain_result v y m b two wide h)
 
-  pub plain_filters : (v : List Bool) (fs : Filters) (old new : List Kind) (p : ℕ) (b : List Value) → AreTyped fs old new → NoTexts b → FiltersPlain v fs p b → WithArguments (filtered v fs p b) NoTexts
+  pub plain_filters : (v : Environment) (fs : Filters) (old new : List Kind) (p : ℕ) (b : List Value) → AreTyped fs old new → NoTexts b → FiltersPlain v fs p b → WithArguments (filtered v fs p b) NoTexts
   plain_filters v no_more old new p b typed h e = h
   plain_filters v (absent fs) (z ∷ old) (j ∷ new) p b typed h e = plain_filters v fs old new (p + 1) b typed.1 h e
   plain_filters v (absent fs) [] new p b typed h e = absurd typed
@@ -275,7 +272,7 @@ both_with (Thrown t) g F E p q = tt
 
 -- and its code takes no memory
 mutual
-  pub quiet : (v : List Bool) (t : Tree) (m : Signature) (env : List Operand) (d s : ℕ) (a l b : List Value) → IsTyped t m → length m.parameters ≤ length b → d ≡ length l → Reads a l env b → NoTexts b → EntersPlain v t b → IsQuiet v (prepared t env d s) a l
+  pub quiet : (v : Environment) (t : Tree) (m : Signature) (env : List Operand) (d s : ℕ) (a l b : List Value) → IsTyped t m → length m.parameters ≤ length b → d ≡ length l → Reads a l env b → NoTexts b → EntersPlain v t b → IsQuiet v (prepared t env d s) a l
   quiet v (constant x) m env d s a l b typed wide deep h n e = not_text (kind_of x) e.0.0
   quiet v (identity k) m env d s a l b typed wide deep h n e =
       let same = reads_at a l env b 0 (reads_now a l env b h) in
@@ -330,7 +327,7 @@ mutual
   quiet v (point p x y) m env d s a l b (one, two) wide deep h n e =
       one_along (is_valid v p) _ _ _ _ (quiet v x m env d 0 a l b one wide deep h n) (quiet v y m env d 0 a l b two wide deep h n) e.1
 
-  quiet_filters : (v : List Bool) (fs : Filters) (old new : List Kind) (p : ℕ) (env : List Operand) (d s : ℕ) (a l b : List Value) (go : List Operand → ℕ → ℕ → Code) (t : Tree) (w : ℕ) → AreTyped fs old new → w ≤ length b → d ≡ length l → Reads a l env b → NoTexts b → FiltersPlain v fs p b → WithArguments (filtered v fs p b) (EntersPlain v t) → ((env' : List Operand) (d' s' : ℕ) (l' b' : List Value) → w ≤ length b' → d' ≡ length l' → Reads a l' env' b' → NoTexts b' → EntersPlain v t b' → IsQuiet v (go env' d' s') a l') → IsQuiet v (prepared_filters fs p env d s go) a l
+  quiet_filters : (v : Environment) (fs : Filters) (old new : List Kind) (p : ℕ) (env : List Operand) (d s : ℕ) (a l b : List Value) (go : List Operand → ℕ → ℕ → Code) (t : Tree) (w : ℕ) → AreTyped fs old new → w ≤ length b → d ≡ length l → Reads a l env b → NoTexts b → FiltersPlain v fs p b → WithArguments (filtered v fs p b) (EntersPlain v t) → ((env' : List Operand) (d' s' : ℕ) (l' b' : List Value) → w ≤ length b' → d' ≡ length l' → Reads a l' env' b' → NoTexts b' → EntersPlain v t b' → IsQuiet v (go env' d' s') a l') → IsQuiet v (prepared_filters fs p env d s go) a l
   quiet_filters v no_more old new p env d s a l b go t w typed wide deep h n e inner k = k env d s l b wide deep h n inner
   quiet_filters v (absent fs) (z ∷ old) (j ∷ new) p env d s a l b go t w typed wide deep h n e inner k =
       quiet_filters v fs old new (p + 1) env d s a l b go t w typed.1 wide deep h n e inner k

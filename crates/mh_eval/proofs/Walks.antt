@@ -25,9 +25,7 @@ use Rattle.mh_tree.specs.declared.node.Node.TheFolds.{fold-roll-Node}
 use Rattle.mh_tree.specs.Typing.{IsTyped}
 use Rattle.mh_type.specs.Kinds.{kind_of}
 use Rattle.mh_tree.specs.Widths.{CanRun}
-use Rattle.mh_tree.proofs.Effort.{effort}
-use Rattle.mh_tree.proofs.LeadingArguments.{argument_more, arity_counts, mean_leading, mean_more, steps_leading, put_in_more, taken_out_more, reordered_more}
-use Rattle.mh_tree.proofs.Types.{few_parameters}
+use Rattle.mh_tree.proofs.PublicLaws.{effort, argument_more, arity_counts, mean_leading, mean_more, steps_leading, put_in_more, taken_out_more, reordered_more, few_parameters}
 use Rattle.mh_eval.specs.Answers.{Gives, Ran}
 use Rattle.mh_eval.specs.Entered.{EntersPlain, IsPlainKind, WithValue, Chosen, OneOf}
 use Rattle.mh_eval.specs.Frames.{Extends}
@@ -40,6 +38,7 @@ use Rattle.mh_eval.proofs.Branches.{guard_mean, guard_steps, fold_mean, fold_ste
 use Rattle.mh_eval.proofs.EntersLeading.{enters_leading}
 use Rattle.mh_eval.proofs.Extending.{front_texts}
 use Rattle.mh_eval.proofs.QuietTrees.{not_text, plain_result, texts_at, texts_append, texts_take, texts_drop, texts_reordered, inserted_plain}
+use Rattle.mh_tree.specs.Environment.{Environment}
 
 -- one step more
 pub ran_more : (r : Answer) (k : ℕ) (o : Outcome) (m : ℕ) → Ran r k o m → Ran r (1 + k) o (1 + m)
@@ -66,7 +65,7 @@ ran_as r k o p m n h same more =
     subst P same (subst (Ran r k o) more h)
 
 -- a frame that is narrower than the arguments
-pub first_sixteen : (r : Answer) (k : ℕ) (v : List Bool) (t : Tree) (a : List Value) (w n c : ℕ) → CanRun t (length a) w → Walked r k v t (take 16 a) n c → Walked r k v t a n c
+pub first_sixteen : (r : Answer) (k : ℕ) (v : Environment) (t : Tree) (a : List Value) (w n c : ℕ) → CanRun t (length a) w → Walked r k v t (take 16 a) n c → Walked r k v t a n c
 first_sixteen r k v t a w n c runs h =
     let few : length runs.signature.parameters ≤ 16 = few_parameters t runs.signature runs.typed in
     let wide : length runs.signature.parameters ≤ length (take 16 a) = omega (arith, few, runs.wide, length-take 16 a) in
@@ -85,7 +84,7 @@ first_sixteen r k v t a w n c runs h =
     }
 
 -- with less room
-pub within : (r : Answer) (k : ℕ) (v : List Bool) (t : Tree) (a : List Value) (m n c d : ℕ) → Walked r k v t a m d → m ≤ n → c ≤ d → Walked r k v t a n c
+pub within : (r : Answer) (k : ℕ) (v : Environment) (t : Tree) (a : List Value) (m n c d : ℕ) → Walked r k v t a m d → m ≤ n → c ≤ d → Walked r k v t a n c
 within r k v t a m n c d h few room = record {
   ran = h.ran;
   few = h.few;
@@ -93,7 +92,7 @@ within r k v t a m n c d h few room = record {
 }
 
 -- a node that hands other arguments to its target
-module _ (v : List Bool) (u t : Tree) (a b : List Value) (deeper : 1 + depth t ≤ depth u) (larger : 1 + size t ≤ size u) (same : mean v u a ≡ mean v t b) (more : steps v u a ≡ 1 + steps v t b) (enters : (e : List Value) → EntersPlain v u (a ++ e) → NoTexts (a ++ e) → (f : List Value) × EntersPlain v t (b ++ f) × NoTexts (b ++ f)) (n c : ℕ) where
+module _ (v : Environment) (u t : Tree) (a b : List Value) (deeper : 1 + depth t ≤ depth u) (larger : 1 + size t ≤ size u) (same : mean v u a ≡ mean v t b) (more : steps v u a ≡ 1 + steps v t b) (enters : (e : List Value) → EntersPlain v u (a ++ e) → NoTexts (a ++ e) → (f : List Value) × EntersPlain v t (b ++ f) × NoTexts (b ++ f)) (n c : ℕ) where
   pub through : (r : Answer) (k m d : ℕ) → Walked r k v t b m d → m ≤ n + 32 → c ≤ d → Walked r (1 + k) v u a n c
   through r k m d h few room = record {
     ran = ran_as r (1 + k) _ _ _ _ (ran_more r k _ _ h.ran) (sym same) (sym more);
@@ -121,14 +120,14 @@ not_ok : {E : Type 0} (A : Type 0) (e : E) → IsOk {T = A} {E = E} (Err e) → 
 not_ok A e h = cc
 
 -- a node whose arguments for a part were refused memory
-pub refused : {A E : Type 0} (v : List Bool) (u : Tree) (a b old new : List Value) (c d : ℕ) (e : E) → Extends {A = A} {E = E} (Err e) old new b c d → length b ≤ 32 * depth u → ((f : List Value) → EntersPlain v u (a ++ f) → NoTexts (a ++ f) → NoTexts b) → Walked NoMemory 0 v u a (length old) c
+pub refused : {A E : Type 0} (v : Environment) (u : Tree) (a b old new : List Value) (c d : ℕ) (e : E) → Extends {A = A} {E = E} (Err e) old new b c d → length b ≤ 32 * depth u → ((f : List Value) → EntersPlain v u (a ++ f) → NoTexts (a ++ f) → NoTexts b) → Walked NoMemory 0 v u a (length old) c
 refused {A} v u a b old new c d e h few plain = record {
   ran = tt;
   few = omega arith;
   quiet = λ f enters none room. not_ok A e (h.quiet (plain f enters none) (omega (arith, few, room)));
 }
 
-module _ (v : List Bool) (t : Tree) (p : ℕ) (xs a : List Value) (w : ℕ) (runs : CanRun (insert t p xs) (length a) w) where
+module _ (v : Environment) (t : Tree) (p : ℕ) (xs a : List Value) (w : ℕ) (runs : CanRun (insert t p xs) (length a) w) where
   insert_inside : p ≤ length a
   insert_inside =
       let made = ap (λ (s : Signature). length s.parameters) runs.typed.2.made in
@@ -167,7 +166,7 @@ module _ (v : List Bool) (t : Tree) (p : ℕ) (xs a : List Value) (w : ℕ) (run
       refused v (insert t p xs) a (put_in a p xs) old new c d e h (omega (arith, insert_few, narrow, some_level t))
       (λ f plain none. front_texts (put_in a p xs) f (insert_enters f plain none).1)
 
-module _ (v : List Bool) (t : Tree) (p : ℕ) (ks : List Kind) (a : List Value) (w : ℕ) (runs : CanRun (discard t p ks) (length a) w) where
+module _ (v : Environment) (t : Tree) (p : ℕ) (ks : List Kind) (a : List Value) (w : ℕ) (runs : CanRun (discard t p ks) (length a) w) where
   discard_count : length runs.signature.parameters ≡ length runs.typed.0.parameters + length ks
   discard_count =
       let made = ap (λ (s : Signature). length s.parameters) runs.typed.2.made in
@@ -202,7 +201,7 @@ module _ (v : List Bool) (t : Tree) (p : ℕ) (ks : List Kind) (a : List Value) 
       refused v (discard t p ks) a (taken_out a p (length ks)) old new c d e h (omega (arith, few, some_level t))
       (λ f plain none. front_texts (taken_out a p (length ks)) f (discard_enters f plain none).1)
 
-module _ (v : List Bool) (t : Tree) (m : Signature) (r : List ℕ) (a : List Value) (w : ℕ) (runs : CanRun (permute t m r) (length a) w) where
+module _ (v : Environment) (t : Tree) (m : Signature) (r : List ℕ) (a : List Value) (w : ℕ) (runs : CanRun (permute t m r) (length a) w) where
   permute_count : length r ≡ length runs.typed.0.parameters
   permute_count = sym (ap (λ (ks : List Kind). length ks) runs.typed.2.same ∙ length-map r _)
 
@@ -277,7 +276,7 @@ ended (Boolean y) k o m go more h = absurd h
 ended (Text y) k o m go more h = absurd h
 
 -- a node whose first part gives a value on which it goes on
-module _ (v : List Bool) (u t : Tree) (a : List Value) (go : Value → Outcome) (more : Value → ℕ) (same : mean v u a ≡ (mean v t a >>= go)) (count : steps v u a ≡ 1 + (steps v t a + after (mean v t a) more)) (deeper : 1 + depth t ≤ depth u) (larger : 1 + size t ≤ size u) (enters : (e : List Value) → EntersPlain v u (a ++ e) → NoTexts (a ++ e) → EntersPlain v t (a ++ e)) (n c : ℕ) (r : Answer) (k : ℕ) (first : Walked r k v t a n c) where
+module _ (v : Environment) (u t : Tree) (a : List Value) (go : Value → Outcome) (more : Value → ℕ) (same : mean v u a ≡ (mean v t a >>= go)) (count : steps v u a ≡ 1 + (steps v t a + after (mean v t a) more)) (deeper : 1 + depth t ≤ depth u) (larger : 1 + size t ≤ size u) (enters : (e : List Value) → EntersPlain v u (a ++ e) → NoTexts (a ++ e) → EntersPlain v t (a ++ e)) (n c : ℕ) (r : Answer) (k : ℕ) (first : Walked r k v t a n c) where
   pub part_ends : (q : Answer) → settled r ≡ Err q → Walked q (1 + k) v u a n c
   part_ends q is = record {
     ran = ran_as q (1 + k) _ _ _ _ (ended q k _ _ go more (ends r q is k _ _ first.ran)) (sym same) (sym count);
@@ -303,7 +302,7 @@ module _ (v : List Bool) (u t : Tree) (a : List Value) (go : Value → Outcome) 
 pub of_value : (o : Outcome) (x : Value) (P : Value → Type 0) → o ≡ outcome.Value x → WithValue o P → P x
 of_value o x P is h = subst (λ q. WithValue q P) is h
 
-module _ (v : List Bool) (t f' : Tree) (a : List Value) (w : ℕ) (runs : CanRun (filter_return t f') (length a) w) where
+module _ (v : Environment) (t f' : Tree) (a : List Value) (w : ℕ) (runs : CanRun (filter_return t f') (length a) w) where
   return_next : (x : Value) (e : List Value) → mean v t a ≡ outcome.Value x → EntersPlain v (filter_return t f') (a ++ e) → NoTexts (a ++ e) → (g : List Value) × EntersPlain v f' (x ∷ g) × NoTexts (x ∷ g)
   return_next x e given plain none =
       let is = mean_more v t _ a e runs.typed.1 runs.wide ∙ given in
@@ -326,7 +325,7 @@ module _ (v : List Bool) (t f' : Tree) (a : List Value) (w : ℕ) (runs : CanRun
         within NoMemory 0 v (filter_return t f') a (length mid) n c d
         (refused v (filter_return t f') a (x ∷ []) mid new d f e h (omega arith) (λ g plain none. let next = return_next x g given plain none in (next.2.0, tt))) few room
 
-module _ (v : List Bool) (t c' : Tree) (a : List Value) (w : ℕ) (runs : CanRun (fold t c') (length a) w) where
+module _ (v : Environment) (t c' : Tree) (a : List Value) (w : ℕ) (runs : CanRun (fold t c') (length a) w) where
   fold_wide : length runs.typed.1 ≤ length a
   fold_wide = omega (arith, shorter runs.typed.1 runs.signature.parameters runs.typed.4, runs.wide)
 
@@ -372,38 +371,38 @@ pub one_depth : (b : Bool) (x y : Tree) → depth (one_of b x y) ≤ max (depth 
 one_depth true x y = omega arith
 one_depth false x y = omega arith
 
-pub one_mean : (b : Bool) (v : List Bool) (x y : Tree) (a : List Value) → (if b then mean v x a else mean v y a) ≡ mean v (one_of b x y) a
+pub one_mean : (b : Bool) (v : Environment) (x y : Tree) (a : List Value) → (if b then mean v x a else mean v y a) ≡ mean v (one_of b x y) a
 one_mean true v x y a = refl
 one_mean false v x y a = refl
 
-one_steps : (b : Bool) (v : List Bool) (x y : Tree) (a : List Value) → (if b then steps v x a else steps v y a) ≡ steps v (one_of b x y) a
+one_steps : (b : Bool) (v : Environment) (x y : Tree) (a : List Value) → (if b then steps v x a else steps v y a) ≡ steps v (one_of b x y) a
 one_steps true v x y a = refl
 one_steps false v x y a = refl
 
-one_plain : (b : Bool) (v : List Bool) (x y : Tree) (a : List Value) → OneOf b (EntersPlain v x a) (EntersPlain v y a) → EntersPlain v (one_of b x y) a
+one_plain : (b : Bool) (v : Environment) (x y : Tree) (a : List Value) → OneOf b (EntersPlain v x a) (EntersPlain v y a) → EntersPlain v (one_of b x y) a
 one_plain true v x y a h = h
 one_plain false v x y a h = h
 
-chosen_mean : (z : Value) (v : List Bool) (x y : Tree) (a : List Value) → choose z (mean v x a) (mean v y a) ≡ mean v (one_of (is_true z) x y) a
+chosen_mean : (z : Value) (v : Environment) (x y : Tree) (a : List Value) → choose z (mean v x a) (mean v y a) ≡ mean v (one_of (is_true z) x y) a
 chosen_mean (value.Boolean b) v x y a = one_mean b v x y a
 chosen_mean (value.Int i) v x y a = refl
 chosen_mean (value.Long i) v x y a = refl
 chosen_mean (value.Text s) v x y a = refl
 
-chosen_steps : (z : Value) (v : List Bool) (x y : Tree) (a : List Value) → choose_steps z (steps v x a) (steps v y a) ≡ steps v (one_of (is_true z) x y) a
+chosen_steps : (z : Value) (v : Environment) (x y : Tree) (a : List Value) → choose_steps z (steps v x a) (steps v y a) ≡ steps v (one_of (is_true z) x y) a
 chosen_steps (value.Boolean b) v x y a = one_steps b v x y a
 chosen_steps (value.Int i) v x y a = refl
 chosen_steps (value.Long i) v x y a = refl
 chosen_steps (value.Text s) v x y a = refl
 
-chosen_plain : (z : Value) (v : List Bool) (x y : Tree) (a : List Value) → Chosen z (EntersPlain v x a) (EntersPlain v y a) → EntersPlain v (one_of (is_true z) x y) a
+chosen_plain : (z : Value) (v : Environment) (x y : Tree) (a : List Value) → Chosen z (EntersPlain v x a) (EntersPlain v y a) → EntersPlain v (one_of (is_true z) x y) a
 chosen_plain (value.Boolean true) v x y a h = h
 chosen_plain (value.Boolean false) v x y a h = h
 chosen_plain (value.Int i) v x y a h = h
 chosen_plain (value.Long i) v x y a h = h
 chosen_plain (value.Text s) v x y a h = h
 
-module _ (v : List Bool) (t x y : Tree) (a : List Value) (w : ℕ) (runs : CanRun (guard t x y) (length a) w) where
+module _ (v : Environment) (t x y : Tree) (a : List Value) (w : ℕ) (runs : CanRun (guard t x y) (length a) w) where
   guard_wide : length runs.typed.0 ≤ length a
   guard_wide = omega (arith, shorter runs.typed.0 runs.signature.parameters runs.typed.2, runs.wide)
 
@@ -429,7 +428,7 @@ pub one_runs : (b : Bool) (x y : Tree) (m : Signature) (n w : ℕ) → IsTyped x
 one_runs true x y m n w one two wide p q small = record { signature = m; typed = one; wide = wide; known = p; small = omega arith }
 one_runs false x y m n w one two wide p q small = record { signature = m; typed = two; wide = wide; known = q; small = omega arith }
 
-pub point_walks : (v : List Bool) (p : ℕ) (x y : Tree) (a : List Value) (n c : ℕ) (r : Answer) (k m d : ℕ) → Walked r k v (one_of (is_valid v p) x y) a m d → m ≤ n + 32 → c ≤ d → Walked r (1 + k) v (point p x y) a n c
+pub point_walks : (v : Environment) (p : ℕ) (x y : Tree) (a : List Value) (n c : ℕ) (r : Answer) (k m d : ℕ) → Walked r k v (one_of (is_valid v p) x y) a m d → m ≤ n + 32 → c ≤ d → Walked r (1 + k) v (point p x y) a n c
 point_walks v p x y a =
     let b = is_valid v p in
     through v (point p x y) (one_of b x y) a a (omega (arith, one_depth b x y)) (omega (arith, one_size b x y)) (one_mean b v x y a) (ap (λ n. 1 + n) (one_steps b v x y a))
@@ -444,7 +443,7 @@ sixteen_runs t a w runs = record {
   small = runs.small;
 }
 
-pub identity_walks : (v : List Bool) (k : Kind) (a : List Value) (n c w : ℕ) (r : Answer) (x : Value) → CanRun (identity k) (length a) w → x ≡ argument a 0 → Gives r (outcome.Value x) → ((kind_of x ≡ kind.Text → ⊥) → IsAnswered r) → Walked r 1 v (identity k) a n c
+pub identity_walks : (v : Environment) (k : Kind) (a : List Value) (n c w : ℕ) (r : Answer) (x : Value) → CanRun (identity k) (length a) w → x ≡ argument a 0 → Gives r (outcome.Value x) → ((kind_of x ≡ kind.Text → ⊥) → IsAnswered r) → Walked r 1 v (identity k) a n c
 identity_walks v k a n c w r x runs is gives answers =
     let many : 0 < length a = omega (arith, runs.wide, ap (λ (s : Signature). length s.parameters) runs.typed) in
     record {
@@ -454,7 +453,7 @@ identity_walks v k a n c w r x runs is gives answers =
           answers (not_text (kind_of x) (subst (λ y. IsPlainKind (kind_of y)) (argument_more a e 0 many ∙ sym is) (texts_at 0 (a ++ e) none)));
     }
 
-pub operation_walks : (v : List Bool) (o : Op) (a : List Value) (n c : ℕ) (r : Answer) → Gives r (operate o a) → ((o ≡ Concat → ⊥) → IsAnswered r) → Walked r 1 v (operation o) a n c
+pub operation_walks : (v : Environment) (o : Op) (a : List Value) (n c : ℕ) (r : Answer) → Gives r (operate o a) → ((o ≡ Concat → ⊥) → IsAnswered r) → Walked r 1 v (operation o) a n c
 operation_walks v o a n c r gives answers = record {
   ran = gives_ran r _ 1 gives;
   few = omega arith;

@@ -13,6 +13,7 @@ use Rattle.mh_tree.specs.Arity.{arity}
 use Rattle.mh_tree.specs.Meaning.{mean, filtered, argument, put_in, taken_out, is_valid}
 use Rattle.mh_tree.specs.Tree.{Tree, Filters, constant, identity, operation, insert, discard, permute, filter, filter_return, fold, guard, point, no_more, absent, present}
 use Rattle.mh_tree.specs.TypeOf.{type_of}
+use Rattle.mh_tree.specs.Environment.{Environment}
 
 abbrev pub IsPlainKind : Kind → Type 0
 IsPlainKind kind.Text = ⊥
@@ -48,7 +49,7 @@ WithArguments (Err t) P = Unit {0}
 
 abbrev mutual
   -- each node that is entered on the arguments
-  pub EntersPlain : List Bool → Tree → List Value → Type 0
+  pub EntersPlain : Environment → Tree → List Value → Type 0
   EntersPlain v (constant x) a = IsPlain (type_of (constant x)) × Unit {0}
   EntersPlain v (identity k) a = IsPlain (type_of (identity k)) × Unit {0}
   EntersPlain v (operation o) a = IsPlain (type_of (operation o)) × Unit {0}
@@ -69,7 +70,7 @@ abbrev mutual
   EntersPlain v (point p x y) a = IsPlain (type_of (point p x y)) × OneOf (is_valid v p) (EntersPlain v x a) (EntersPlain v y a)
 
   -- the same of the filters of the places from p on
-  pub FiltersPlain : List Bool → Filters → ℕ → List Value → Type 0
+  pub FiltersPlain : Environment → Filters → ℕ → List Value → Type 0
   FiltersPlain v no_more p a = Unit {0}
   FiltersPlain v (absent fs) p a = FiltersPlain v fs (p + 1) a
   FiltersPlain v (present f fs) p a =

@@ -1,5 +1,5 @@
 -- Code that runs with no further memory: what runs gives no text, and joins none.
-use Rattle.std.specs.Prelude.{◌≡◌, ℕ, ◌+◌, Bool, max, List, [], ◌∷◌, ◌++◌}
+use Rattle.std.specs.Prelude.{◌≡◌, ℕ, ◌+◌, max, List, [], ◌∷◌, ◌++◌}
 use Rattle.mh_type.specs.declared.kind.Kind.TheVariants as kind
 use Rattle.mh_type.specs.declared.operation.Op.TheVariants.{Concat}
 use Rattle.mh_type.specs.declared.value.Value.{Value}
@@ -10,9 +10,10 @@ use Rattle.mh_tree.specs.Running.{run_code, value_of}
 use Rattle.mh_eval.specs.Entered.{WithValue, Chosen, OneOf, IsPlainKind}
 use Rattle.mh_eval.specs.declared.answer.Answer.{Answer}
 use Rattle.mh_eval.specs.declared.answer.Answer.TheVariants.{NoMemory}
+use Rattle.mh_tree.specs.Environment.{Environment}
 
 -- its leaves give no text, and its operations join none, as far as they run
-abbrev pub IsQuiet : List Bool → Code → List Value → List Value → Type 0
+abbrev pub IsQuiet : Environment → Code → List Value → List Value → Type 0
 IsQuiet v (leaf s o) a l = kind_of (value_of a l o) ≡ kind.Text → ⊥
 IsQuiet v (apply s op x y) a l = op ≡ Concat → ⊥
 IsQuiet v (bind s f g) a l = IsQuiet v f a l × WithValue (run_code v f a l) (λ x. IsQuiet v g a (l ++ x ∷ []))

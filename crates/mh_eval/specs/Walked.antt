@@ -13,13 +13,16 @@ use Rattle.mh_eval.specs.Entered.{EntersPlain, FiltersPlain}
 use Rattle.mh_eval.specs.Quiet.{IsAnswered, NoTexts}
 use Rattle.mh_eval.specs.declared.answer.Answer.{Answer}
 use Rattle.mh_eval.specs.declared.answer.Answer.TheVariants.{Int, Long, Boolean, Text, Thrown, NoMemory}
+use Rattle.mh_type.specs.Limits.{most_parameters}
+use Rattle.mh_eval.specs.Limits.{level_room}
+use Rattle.mh_tree.specs.Environment.{Environment}
 
 -- The outcome and the steps, or memory was refused. With n values on the stack and a capacity of c it is not refused where no node
 -- that is entered has String in its type and each level of the tree has room for 32 more, whatever further arguments e there are.
-pub record Walked (r : Answer) (k : ℕ) (v : List Bool) (t : Tree) (a : List Value) (n c : ℕ) : Type 0 where
+pub record Walked (r : Answer) (k : ℕ) (v : Environment) (t : Tree) (a : List Value) (n c : ℕ) : Type 0 where
   pub ran : Ran r k (mean v t a) (steps v t a)
   pub few : k ≤ size t
-  pub quiet : (e : List Value) → EntersPlain v t (a ++ e) → NoTexts (a ++ e) → n + 32 * depth t ≤ c → IsAnswered r
+  pub quiet : (e : List Value) → EntersPlain v t (a ++ e) → NoTexts (a ++ e) → n + level_room * depth t ≤ c → IsAnswered r
 
 -- the truth of a value
 abbrev pub is_true : Value → Bool
@@ -47,11 +50,11 @@ Ends NoMemory k o m = Unit {0}
 Ends _ k o m = ⊥
 
 -- A filter's value stands in the place of its argument, or the walk ends and the stack is as before.
-pub record Placed {A : Type 0} (r : Result A Answer) (k : ℕ) (v : List Bool) (f : Tree) (p : ℕ) (old new : List Value) (c : ℕ) : Type 0 where
+pub record Placed {A : Type 0} (r : Result A Answer) (k : ℕ) (v : Environment) (f : Tree) (p : ℕ) (old new : List Value) (c : ℕ) : Type 0 where
   pub value : Settles r (λ s. Ends s k (mean v f (argument old p ∷ [])) (steps v f (argument old p ∷ [])) × (new ≡ old))
       ((mean v f (argument old p ∷ []) ≡ outcome.Value (argument new p)) × (k ≡ steps v f (argument old p ∷ [])) × (new ≡ slice_set old p (argument new p)))
   pub few : k ≤ size f
-  pub quiet : EntersPlain v f (argument old p ∷ []) → NoTexts (argument old p ∷ []) → length old + 16 + 32 * depth f ≤ c → Settles r IsAnswered (Unit {0})
+  pub quiet : EntersPlain v f (argument old p ∷ []) → NoTexts (argument old p ∷ []) → length old + most_parameters + level_room * depth f ≤ c → Settles r IsAnswered (Unit {0})
 
 -- an answer that ends a walk of filters
 abbrev pub Stops : Answer → ℕ → Result (List Value) Throw → ℕ → Type 0
@@ -60,7 +63,7 @@ Stops NoMemory k r m = Unit {0}
 Stops _ k r m = ⊥
 
 -- The arguments after filters stand in their places, or the walk ends.
-pub record Passed {A : Type 0} (r : Result A Answer) (k : ℕ) (v : List Bool) (fs : Filters) (p : ℕ) (old new : List Value) (n c : ℕ) : Type 0 where
+pub record Passed {A : Type 0} (r : Result A Answer) (k : ℕ) (v : Environment) (fs : Filters) (p : ℕ) (old new : List Value) (n c : ℕ) : Type 0 where
   pub value : Settles r (λ s. Stops s k (filtered v fs p old) (filter_steps v fs p old)) ((filtered v fs p old ≡ Ok new) × (k ≡ filter_steps v fs p old))
   pub few : k ≤ total_size fs
-  pub quiet : (e : List Value) → FiltersPlain v fs p (old ++ e) → NoTexts (old ++ e) → n + 16 + 32 * deepest fs ≤ c → Settles r IsAnswered (Unit {0})
+  pub quiet : (e : List Value) → FiltersPlain v fs p (old ++ e) → NoTexts (old ++ e) → n + most_parameters + level_room * deepest fs ≤ c → Settles r IsAnswered (Unit {0})

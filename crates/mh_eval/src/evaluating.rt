@@ -4,6 +4,7 @@ ghost use Rattle.std.specs.Prelude.{◌≡◌, ◌<◌, ◌≤◌, ◌↔◌, le
 ghost use Rattle.mh_tree.specs.Limits.{point_bound};
 ghost use Rattle.mh_tree.specs.Meaning.{mean, steps};
 ghost use Rattle.mh_type.specs.Fits.{Fits};
+ghost use Rattle.mh_tree.specs.Environment.{with_points};
 
 use crate::evaluator::eval;
 use crate::fault::Unevaluated;
@@ -24,12 +25,20 @@ pub fn evaluate(
     handle: &Handle,
     arguments: &[Value],
 ) -> Result<(Outcome, u64), Unevaluated>
-    ensures outcome { IfOk result (λ r. r.0 ≡ mean valid.now handle.now.tree arguments.now) }
-    ensures steps { IfOk result (λ r. r.1 ≡ steps valid.now handle.now.tree arguments.now) }
-    ensures tested { OnOk result (Fits handle.now.signature arguments.now × (point_bound handle.now.tree ≤ length valid.now)) }
-    ensures unfit { IsErrOf result Unevaluated.DoesNotFit ↔ ¬ Fits handle.now.signature arguments.now }
-    ensures no_point { IsErrOf result Unevaluated.NoPoint ↔ (Fits handle.now.signature arguments.now × (length valid.now < point_bound handle.now.tree)) }
-    ensures no_memory { IsErrOf result Unevaluated.NoMemory → Fits handle.now.signature arguments.now × (point_bound handle.now.tree ≤ length valid.now) }
+    ensures outcome { IfOk result (λ r. r.0
+        ≡ mean (with_points valid.now) handle.now.tree arguments.now) }
+    ensures steps { IfOk result (λ r. r.1
+        ≡ steps (with_points valid.now) handle.now.tree arguments.now) }
+    ensures tested { OnOk result (Fits handle.now.signature arguments.now
+        × (point_bound handle.now.tree ≤ length valid.now)) }
+    ensures unfit { IsErrOf result Unevaluated.DoesNotFit
+        ↔ ¬ Fits handle.now.signature arguments.now }
+    ensures no_point { IsErrOf result Unevaluated.NoPoint
+        ↔ (Fits handle.now.signature arguments.now
+        × (length valid.now < point_bound handle.now.tree)) }
+    ensures no_memory { IsErrOf result Unevaluated.NoMemory
+        → Fits handle.now.signature arguments.now
+        × (point_bound handle.now.tree ≤ length valid.now) }
 {
     if !fits(handle.method_type(), arguments) {
         return Err(Unevaluated::DoesNotFit);

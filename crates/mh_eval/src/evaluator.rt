@@ -1,25 +1,28 @@
-//! The evaluator: a walk over a handle's nodes on the stack. The arguments of a node stand on the top of the stack, from a place on.
+//! The evaluator: a walk over a handle's nodes on the stack. The arguments of a node stand on the
+//! top of the stack, from a place on.
 
 ghost use Rattle.std.specs.Prelude.{◌≡◌, ◌+◌, ◌<◌, ◌≤◌, ◌∷◌, [], length, take, drop, slice_index_or, slice_set, vec_capacity, if◌then◌else◌, IfOk, IsOk};
 ghost use Rattle.mh_eval.specs.Entered.{EntersPlain};
 ghost use Rattle.mh_eval.specs.Answers.{Gives};
 ghost use Rattle.mh_eval.specs.Quiet.{IsAnswered};
 ghost use Rattle.mh_eval.specs.Walked.{Walked, Placed, Passed, settled, is_true};
-ghost use Rattle.mh_tree.specs.Limits.{size, total_size, point_bound};
+ghost use Rattle.mh_tree.specs.Limits.{size, total_size, point_bound, most_nodes};
 ghost use Rattle.mh_tree.specs.Meaning.{mean, steps};
 ghost use Rattle.mh_tree.specs.Tree.{insert, discard, permute, filter, filter_return, fold, guard, point as point_tree, filters_of, present};
 ghost use Rattle.mh_tree.specs.TreeOf.{tree_of, filter_trees};
 ghost use Rattle.mh_tree.specs.Widths.{CanRun, CanFilter};
 ghost use Rattle.mh_type.specs.Fits.{Fits};
 ghost use Rattle.mh_type.specs.Operations.{operate as outcome_of_operation, op_signature};
+ghost use Rattle.mh_type.specs.Limits.{most_parameters};
+ghost use Rattle.mh_tree.specs.Environment.{with_points};
 
 use crate::answer::{Answer, outcome_of};
-use crate::fault::NoMemory;
 use crate::frames::{
     put, put_copies, put_first, put_inserted, put_reordered, put_taken_out, put_values,
 };
 use crate::operations::{operate, share};
 use crate::stack::Stack;
+use mh_base::NoMemory;
 use mh_tree::{Handle, Node};
 use mh_type::{Kind, MethodType, Op, Outcome, Value};
 use std::alloc::Global;
@@ -32,9 +35,10 @@ const WIDEST: usize = 16;
 /// which points are valid.
 ///
 /// A guard's test and a fold's combiner get as many of the leading arguments as they have
-/// parameters. A throw of any part that runs is the outcome, and nothing after it runs. The arguments
-/// of each node and its result stand on the stack, and no list is made. Refused with `NoMemory` alone,
-/// and not where no node that is entered has String in its type; the stack is as before.
+/// parameters. A throw of any part that runs is the outcome, and nothing after it runs. The
+/// arguments of each node and its result stand on the stack, and no list is made. Refused with
+/// `NoMemory` alone, and not where no node that is entered has String in its type; the stack is as
+/// before.
 pub fn eval(
     stack: &mut Stack,
     valid: &[bool],
@@ -43,11 +47,14 @@ pub fn eval(
 ) -> Result<(Outcome, u64), NoMemory>
     requires fits { Fits handle.now.signature arguments.now }
     requires known { point_bound handle.now.tree ≤ length valid.now }
-    ensures outcome { IfOk result (λ r. r.0 ≡ mean valid.now handle.now.tree arguments.now) }
-    ensures steps { IfOk result (λ r. r.1 ≡ steps valid.now handle.now.tree arguments.now) }
-    ensures few { IfOk result (λ r. r.1 ≤ 262144) }
+    ensures outcome { IfOk result (λ r. r.0
+        ≡ mean (with_points valid.now) handle.now.tree arguments.now) }
+    ensures steps { IfOk result (λ r. r.1
+        ≡ steps (with_points valid.now) handle.now.tree arguments.now) }
+    ensures few { IfOk result (λ r. r.1 ≤ most_nodes) }
     ensures stack { stack.new ≡ stack.old }
-    ensures memory { EntersPlain valid.now handle.now.tree arguments.now → IsOk result }
+    ensures memory { EntersPlain (with_points valid.now) handle.now.tree arguments.now
+        → IsOk result }
 {
     let alloc = stack.alloc();
     let (answer, steps) = run_on_arguments(
@@ -68,9 +75,11 @@ fn run_on_arguments(
     node: &Node,
     arguments: &[Value],
 ) -> (Answer, u64)
-    requires narrow { length arguments.now ≤ 16 }
+    requires narrow { length arguments.now ≤ most_parameters }
     requires can_run { CanRun (tree_of node.now) (length arguments.now) (length valid.now) }
-    ensures walked { Walked result.0 result.1 valid.now (tree_of node.now) arguments.now (length stack.old.items + 16) (vec_capacity stack.old) }
+    ensures walked { Walked result.0 result.1 (with_points valid.now)
+        (tree_of node.now) arguments.now (length stack.old.items + most_parameters)
+        (vec_capacity stack.old) }
     ensures stack { stack.new.items ≡ stack.old.items }
     ensures room { vec_capacity stack.old ≤ vec_capacity stack.new }
 {
@@ -92,9 +101,11 @@ fn run(
     from: usize,
 ) -> (Answer, u64)
     requires inside { from ≤ length stack.old.items }
-    requires narrow { length stack.old.items ≤ from + 16 }
-    requires can_run { CanRun (tree_of node.now) (length (drop from stack.old.items)) (length valid.now) }
-    ensures walked { Walked result.0 result.1 valid.now (tree_of node.now) (drop from stack.old.items) (length stack.old.items) (vec_capacity stack.old) }
+    requires narrow { length stack.old.items ≤ from + most_parameters }
+    requires can_run { CanRun (tree_of node.now) (length (drop from stack.old.items))
+        (length valid.now) }
+    ensures walked { Walked result.0 result.1 (with_points valid.now) (tree_of node.now)
+        (drop from stack.old.items) (length stack.old.items) (vec_capacity stack.old) }
     ensures stack { stack.new.items ≡ stack.old.items }
     ensures room { vec_capacity stack.old ≤ vec_capacity stack.new }
 {
@@ -139,7 +150,8 @@ fn run(
     }
 }
 
-// The same on arguments that were put on the top, which are taken off again. Of more than a tree reads, the first are taken.
+// The same on arguments that were put on the top, which are taken off again. Of more than a tree
+// reads, the first are taken.
 #[cycle(run)]
 fn run_above(
     alloc: Global,
@@ -149,8 +161,10 @@ fn run_above(
     from: usize,
 ) -> (Answer, u64)
     requires inside { from ≤ length stack.old.items }
-    requires can_run { CanRun (tree_of node.now) (length (drop from stack.old.items)) (length valid.now) }
-    ensures walked { Walked result.0 result.1 valid.now (tree_of node.now) (drop from stack.old.items) (from + 16) (vec_capacity stack.old) }
+    requires can_run { CanRun (tree_of node.now) (length (drop from stack.old.items))
+        (length valid.now) }
+    ensures walked { Walked result.0 result.1 (with_points valid.now) (tree_of node.now)
+        (drop from stack.old.items) (from + most_parameters) (vec_capacity stack.old) }
     ensures stack { stack.new.items ≡ take from stack.old.items }
     ensures room { vec_capacity stack.old ≤ vec_capacity stack.new }
 {
@@ -160,7 +174,8 @@ fn run_above(
     (answer, steps)
 }
 
-// The operation, on the first two arguments. One that reads a single argument may be given no second.
+// The operation, on the first two arguments. One that reads a single argument may be given no
+// second.
 fn run_operation(alloc: Global, op: Op, arguments: &[Value]) -> Answer
     requires wide { length (op_signature op).parameters ≤ length arguments.now }
     ensures value { Gives result (outcome_of_operation op arguments.now) }
@@ -202,9 +217,12 @@ fn run_insert(
     from: usize,
 ) -> (Answer, u64)
     requires inside { from ≤ length stack.old.items }
-    requires narrow { length stack.old.items ≤ from + 16 }
-    requires can_run { CanRun (insert (tree_of target.now) position values.now) (length (drop from stack.old.items)) (length valid.now) }
-    ensures walked { Walked result.0 result.1 valid.now (insert (tree_of target.now) position values.now) (drop from stack.old.items) (length stack.old.items) (vec_capacity stack.old) }
+    requires narrow { length stack.old.items ≤ from + most_parameters }
+    requires can_run { CanRun (insert (tree_of target.now) position values.now)
+        (length (drop from stack.old.items)) (length valid.now) }
+    ensures walked { Walked result.0 result.1 (with_points valid.now)
+        (insert (tree_of target.now) position values.now) (drop from stack.old.items)
+        (length stack.old.items) (vec_capacity stack.old) }
     ensures stack { stack.new.items ≡ stack.old.items }
     ensures room { vec_capacity stack.old ≤ vec_capacity stack.new }
 {
@@ -229,9 +247,12 @@ fn run_drop(
     from: usize,
 ) -> (Answer, u64)
     requires inside { from ≤ length stack.old.items }
-    requires narrow { length stack.old.items ≤ from + 16 }
-    requires can_run { CanRun (discard (tree_of target.now) position kinds.now) (length (drop from stack.old.items)) (length valid.now) }
-    ensures walked { Walked result.0 result.1 valid.now (discard (tree_of target.now) position kinds.now) (drop from stack.old.items) (length stack.old.items) (vec_capacity stack.old) }
+    requires narrow { length stack.old.items ≤ from + most_parameters }
+    requires can_run { CanRun (discard (tree_of target.now) position kinds.now)
+        (length (drop from stack.old.items)) (length valid.now) }
+    ensures walked { Walked result.0 result.1 (with_points valid.now)
+        (discard (tree_of target.now) position kinds.now) (drop from stack.old.items)
+        (length stack.old.items) (vec_capacity stack.old) }
     ensures stack { stack.new.items ≡ stack.old.items }
     ensures room { vec_capacity stack.old ≤ vec_capacity stack.new }
 {
@@ -256,9 +277,12 @@ fn run_permute(
     from: usize,
 ) -> (Answer, u64)
     requires inside { from ≤ length stack.old.items }
-    requires narrow { length stack.old.items ≤ from + 16 }
-    requires can_run { CanRun (permute (tree_of target.now) new_type.now reorder.now) (length (drop from stack.old.items)) (length valid.now) }
-    ensures walked { Walked result.0 result.1 valid.now (permute (tree_of target.now) new_type.now reorder.now) (drop from stack.old.items) (length stack.old.items) (vec_capacity stack.old) }
+    requires narrow { length stack.old.items ≤ from + most_parameters }
+    requires can_run { CanRun (permute (tree_of target.now) new_type.now reorder.now)
+        (length (drop from stack.old.items)) (length valid.now) }
+    ensures walked { Walked result.0 result.1 (with_points valid.now)
+        (permute (tree_of target.now) new_type.now reorder.now) (drop from stack.old.items)
+        (length stack.old.items) (vec_capacity stack.old) }
     ensures stack { stack.new.items ≡ stack.old.items }
     ensures room { vec_capacity stack.old ≤ vec_capacity stack.new }
 {
@@ -296,9 +320,12 @@ fn run_filter_return(
     from: usize,
 ) -> (Answer, u64)
     requires inside { from ≤ length stack.old.items }
-    requires narrow { length stack.old.items ≤ from + 16 }
-    requires can_run { CanRun (filter_return (tree_of target.now) (tree_of last.now)) (length (drop from stack.old.items)) (length valid.now) }
-    ensures walked { Walked result.0 result.1 valid.now (filter_return (tree_of target.now) (tree_of last.now)) (drop from stack.old.items) (length stack.old.items) (vec_capacity stack.old) }
+    requires narrow { length stack.old.items ≤ from + most_parameters }
+    requires can_run { CanRun (filter_return (tree_of target.now) (tree_of last.now))
+        (length (drop from stack.old.items)) (length valid.now) }
+    ensures walked { Walked result.0 result.1 (with_points valid.now)
+        (filter_return (tree_of target.now) (tree_of last.now)) (drop from stack.old.items)
+        (length stack.old.items) (vec_capacity stack.old) }
     ensures stack { stack.new.items ≡ stack.old.items }
     ensures room { vec_capacity stack.old ≤ vec_capacity stack.new }
 {
@@ -327,9 +354,12 @@ fn run_fold(
     from: usize,
 ) -> (Answer, u64)
     requires inside { from ≤ length stack.old.items }
-    requires narrow { length stack.old.items ≤ from + 16 }
-    requires can_run { CanRun (fold (tree_of target.now) (tree_of combiner.now)) (length (drop from stack.old.items)) (length valid.now) }
-    ensures walked { Walked result.0 result.1 valid.now (fold (tree_of target.now) (tree_of combiner.now)) (drop from stack.old.items) (length stack.old.items) (vec_capacity stack.old) }
+    requires narrow { length stack.old.items ≤ from + most_parameters }
+    requires can_run { CanRun (fold (tree_of target.now) (tree_of combiner.now))
+        (length (drop from stack.old.items)) (length valid.now) }
+    ensures walked { Walked result.0 result.1 (with_points valid.now)
+        (fold (tree_of target.now) (tree_of combiner.now)) (drop from stack.old.items)
+        (length stack.old.items) (vec_capacity stack.old) }
     ensures stack { stack.new.items ≡ stack.old.items }
     ensures room { vec_capacity stack.old ≤ vec_capacity stack.new }
 {
@@ -359,7 +389,8 @@ fn holds(value: &Value) -> bool
 
 // One of two branches.
 fn branch_by<'a>(truth: bool, target: &'a Node, fallback: &'a Node) -> &'a Node
-    ensures value { tree_of result.now ≡ (if truth then tree_of target.now else tree_of fallback.now) }
+    ensures value { tree_of result.now
+        ≡ (if truth then tree_of target.now else tree_of fallback.now) }
 {
     if truth { target } else { fallback }
 }
@@ -376,9 +407,12 @@ fn run_guard(
     from: usize,
 ) -> (Answer, u64)
     requires inside { from ≤ length stack.old.items }
-    requires narrow { length stack.old.items ≤ from + 16 }
-    requires can_run { CanRun (guard (tree_of test.now) (tree_of target.now) (tree_of fallback.now)) (length (drop from stack.old.items)) (length valid.now) }
-    ensures walked { Walked result.0 result.1 valid.now (guard (tree_of test.now) (tree_of target.now) (tree_of fallback.now)) (drop from stack.old.items) (length stack.old.items) (vec_capacity stack.old) }
+    requires narrow { length stack.old.items ≤ from + most_parameters }
+    requires can_run { CanRun (guard (tree_of test.now) (tree_of target.now) (tree_of fallback.now))
+        (length (drop from stack.old.items)) (length valid.now) }
+    ensures walked { Walked result.0 result.1 (with_points valid.now)
+        (guard (tree_of test.now) (tree_of target.now) (tree_of fallback.now))
+        (drop from stack.old.items) (length stack.old.items) (vec_capacity stack.old) }
     ensures stack { stack.new.items ≡ stack.old.items }
     ensures room { vec_capacity stack.old ≤ vec_capacity stack.new }
 {
@@ -404,9 +438,12 @@ fn run_point(
     from: usize,
 ) -> (Answer, u64)
     requires inside { from ≤ length stack.old.items }
-    requires narrow { length stack.old.items ≤ from + 16 }
-    requires can_run { CanRun (point_tree point (tree_of target.now) (tree_of fallback.now)) (length (drop from stack.old.items)) (length valid.now) }
-    ensures walked { Walked result.0 result.1 valid.now (point_tree point (tree_of target.now) (tree_of fallback.now)) (drop from stack.old.items) (length stack.old.items) (vec_capacity stack.old) }
+    requires narrow { length stack.old.items ≤ from + most_parameters }
+    requires can_run { CanRun (point_tree point (tree_of target.now) (tree_of fallback.now))
+        (length (drop from stack.old.items)) (length valid.now) }
+    ensures walked { Walked result.0 result.1 (with_points valid.now)
+        (point_tree point (tree_of target.now) (tree_of fallback.now)) (drop from stack.old.items)
+        (length stack.old.items) (vec_capacity stack.old) }
     ensures stack { stack.new.items ≡ stack.old.items }
     ensures room { vec_capacity stack.old ≤ vec_capacity stack.new }
 {
@@ -427,9 +464,13 @@ fn run_filter(
     from: usize,
 ) -> (Answer, u64)
     requires inside { from ≤ length stack.old.items }
-    requires narrow { length stack.old.items ≤ from + 16 }
-    requires can_run { CanRun (filter (tree_of target.now) position (filters_of (filter_trees filters.now))) (length (drop from stack.old.items)) (length valid.now) }
-    ensures walked { Walked result.0 result.1 valid.now (filter (tree_of target.now) position (filters_of (filter_trees filters.now))) (drop from stack.old.items) (length stack.old.items) (vec_capacity stack.old) }
+    requires narrow { length stack.old.items ≤ from + most_parameters }
+    requires can_run { CanRun (filter (tree_of target.now) position
+        (filters_of (filter_trees filters.now))) (length (drop from stack.old.items))
+        (length valid.now) }
+    ensures walked { Walked result.0 result.1 (with_points valid.now)
+        (filter (tree_of target.now) position (filters_of (filter_trees filters.now)))
+        (drop from stack.old.items) (length stack.old.items) (vec_capacity stack.old) }
     ensures stack { stack.new.items ≡ stack.old.items }
     ensures room { vec_capacity stack.old ≤ vec_capacity stack.new }
 {
@@ -447,8 +488,8 @@ fn run_filter(
     (answer, 1 + (before + steps))
 }
 
-// The arguments, which stand from `base` on, after the filters of the places from `position` on, in their stead, and the number of
-// nodes entered.
+// The arguments, which stand from `base` on, after the filters of the places from `position` on, in
+// their stead, and the number of nodes entered.
 #[cycle(run)]
 fn run_filters(
     alloc: Global,
@@ -459,9 +500,12 @@ fn run_filters(
     position: usize,
 ) -> (Result<(), Answer>, u64)
     requires inside { base ≤ length stack.old.items }
-    requires fits { CanFilter (filters_of (filter_trees filters.now)) position (length (drop base stack.old.items)) (length valid.now) }
-    requires small { total_size (filters_of (filter_trees filters.now)) ≤ 262144 }
-    ensures passed { Passed result.0 result.1 valid.now (filters_of (filter_trees filters.now)) position (drop base stack.old.items) (drop base stack.new.items) (length stack.old.items) (vec_capacity stack.old) }
+    requires fits { CanFilter (filters_of (filter_trees filters.now)) position
+        (length (drop base stack.old.items)) (length valid.now) }
+    requires small { total_size (filters_of (filter_trees filters.now)) ≤ most_nodes }
+    ensures passed { Passed result.0 result.1 (with_points valid.now)
+        (filters_of (filter_trees filters.now)) position (drop base stack.old.items)
+        (drop base stack.new.items) (length stack.old.items) (vec_capacity stack.old) }
     ensures stack { take base stack.new.items ≡ take base stack.old.items }
     ensures room { vec_capacity stack.old ≤ vec_capacity stack.new }
 {
@@ -486,9 +530,14 @@ fn run_present(
     position: usize,
 ) -> (Result<(), Answer>, u64)
     requires inside { base ≤ length stack.old.items }
-    requires fits { CanFilter (present (tree_of node.now) (filters_of (filter_trees rest.now))) position (length (drop base stack.old.items)) (length valid.now) }
-    requires small { total_size (present (tree_of node.now) (filters_of (filter_trees rest.now))) ≤ 262144 }
-    ensures passed { Passed result.0 result.1 valid.now (present (tree_of node.now) (filters_of (filter_trees rest.now))) position (drop base stack.old.items) (drop base stack.new.items) (length stack.old.items) (vec_capacity stack.old) }
+    requires fits { CanFilter (present (tree_of node.now) (filters_of (filter_trees rest.now)))
+        position (length (drop base stack.old.items)) (length valid.now) }
+    requires small { total_size (present (tree_of node.now) (filters_of (filter_trees rest.now)))
+        ≤ most_nodes }
+    ensures passed { Passed result.0 result.1 (with_points valid.now)
+        (present (tree_of node.now) (filters_of (filter_trees rest.now))) position
+        (drop base stack.old.items) (drop base stack.new.items) (length stack.old.items)
+        (vec_capacity stack.old) }
     ensures stack { take base stack.new.items ≡ take base stack.old.items }
     ensures room { vec_capacity stack.old ≤ vec_capacity stack.new }
 {
@@ -511,7 +560,8 @@ fn run_place(
 ) -> (Result<(), Answer>, u64)
     requires inside { place < length stack.old.items }
     requires can_run { CanRun (tree_of node.now) 1 (length valid.now) }
-    ensures placed { Placed result.0 result.1 valid.now (tree_of node.now) place stack.old.items stack.new.items (vec_capacity stack.old) }
+    ensures placed { Placed result.0 result.1 (with_points valid.now)
+        (tree_of node.now) place stack.old.items stack.new.items (vec_capacity stack.old) }
     ensures room { vec_capacity stack.old ≤ vec_capacity stack.new }
 {
     let top = stack.len();

@@ -7,7 +7,7 @@ ghost use Rattle.mh_eval.specs.Frames.{Extends};
 ghost use Rattle.mh_tree.specs.Meaning.{argument, put_in, taken_out};
 ghost use Rattle.mh_type.specs.Kinds.{kind_of};
 
-use crate::fault::NoMemory;
+use mh_base::NoMemory;
 use mh_type::Value;
 
 // Another owner of a value.
@@ -28,7 +28,8 @@ fn owner(value: &Value) -> Result<Value, NoMemory>
 
 // A value, on the stack.
 pub(crate) fn put(stack: &mut Vec<Value>, value: Value) -> Result<(), NoMemory>
-    ensures extends { Extends result stack.old.items stack.new.items (value ∷ []) (vec_capacity stack.old) (vec_capacity stack.new) }
+    ensures extends { Extends result stack.old.items stack.new.items (value ∷ [])
+        (vec_capacity stack.old) (vec_capacity stack.new) }
 {
     match stack.push(value) {
         Ok(()) => Ok(()),
@@ -39,7 +40,8 @@ pub(crate) fn put(stack: &mut Vec<Value>, value: Value) -> Result<(), NoMemory>
 // Another owner of a value on the stack, on it.
 fn put_copy(stack: &mut Vec<Value>, place: usize) -> Result<(), NoMemory>
     requires inside { place < length stack.old.items }
-    ensures extends { Extends result stack.old.items stack.new.items (argument stack.old.items place ∷ []) (vec_capacity stack.old) (vec_capacity stack.new) }
+    ensures extends { Extends result stack.old.items stack.new.items
+        (argument stack.old.items place ∷ []) (vec_capacity stack.old) (vec_capacity stack.new) }
 {
     let value = owner(&stack[place])?;
     put(stack, value)
@@ -47,7 +49,8 @@ fn put_copy(stack: &mut Vec<Value>, place: usize) -> Result<(), NoMemory>
 
 // Another owner of a value, on the stack.
 fn put_owner(stack: &mut Vec<Value>, value: &Value) -> Result<(), NoMemory>
-    ensures extends { Extends result stack.old.items stack.new.items (value.now ∷ []) (vec_capacity stack.old) (vec_capacity stack.new) }
+    ensures extends { Extends result stack.old.items stack.new.items (value.now ∷ [])
+        (vec_capacity stack.old) (vec_capacity stack.new) }
 {
     let value = owner(value)?;
     put(stack, value)
@@ -55,7 +58,8 @@ fn put_owner(stack: &mut Vec<Value>, value: &Value) -> Result<(), NoMemory>
 
 // Further owners of values, on the stack.
 pub(crate) fn put_values(stack: &mut Vec<Value>, values: &[Value]) -> Result<(), NoMemory>
-    ensures extends { Extends result stack.old.items stack.new.items values.now (vec_capacity stack.old) (vec_capacity stack.new) }
+    ensures extends { Extends result stack.old.items stack.new.items values.now
+        (vec_capacity stack.old) (vec_capacity stack.new) }
 {
     for value in values {
         put_owner(stack, value)?;
@@ -67,7 +71,8 @@ pub(crate) fn put_values(stack: &mut Vec<Value>, values: &[Value]) -> Result<(),
 pub(crate) fn put_copies(stack: &mut Vec<Value>, first: usize, end: usize) -> Result<(), NoMemory>
     requires inside { end ≤ length stack.old.items }
     requires some { first ≤ end }
-    ensures extends { Extends result stack.old.items stack.new.items (drop first (take end stack.old.items)) (vec_capacity stack.old) (vec_capacity stack.new) }
+    ensures extends { Extends result stack.old.items stack.new.items
+        (drop first (take end stack.old.items)) (vec_capacity stack.old) (vec_capacity stack.new) }
 {
     for place in first..end {
         put_copy(stack, place)?;
@@ -82,7 +87,9 @@ pub(crate) fn put_reordered(
     reorder: &[usize],
 ) -> Result<(), NoMemory>
     requires inside { All (λ i. i < length (drop from stack.old.items)) reorder.now }
-    ensures extends { Extends result stack.old.items stack.new.items (map (argument (drop from stack.old.items)) reorder.now) (vec_capacity stack.old) (vec_capacity stack.new) }
+    ensures extends { Extends result stack.old.items stack.new.items
+        (map (argument (drop from stack.old.items)) reorder.now) (vec_capacity stack.old)
+        (vec_capacity stack.new) }
 {
     for place in reorder {
         put_copy(stack, from + *place)?;
@@ -98,7 +105,9 @@ pub(crate) fn put_inserted(
     values: &[Value],
 ) -> Result<(), NoMemory>
     requires inside { from + position ≤ length stack.old.items }
-    ensures extends { Extends result stack.old.items stack.new.items (put_in (drop from stack.old.items) position values.now) (vec_capacity stack.old) (vec_capacity stack.new) }
+    ensures extends { Extends result stack.old.items stack.new.items
+        (put_in (drop from stack.old.items) position values.now) (vec_capacity stack.old)
+        (vec_capacity stack.new) }
 {
     let end = stack.len();
     put_copies(stack, from, from + position)?;
@@ -115,7 +124,9 @@ pub(crate) fn put_taken_out(
     count: usize,
 ) -> Result<(), NoMemory>
     requires inside { from + (position + count) ≤ length stack.old.items }
-    ensures extends { Extends result stack.old.items stack.new.items (taken_out (drop from stack.old.items) position count) (vec_capacity stack.old) (vec_capacity stack.new) }
+    ensures extends { Extends result stack.old.items stack.new.items
+        (taken_out (drop from stack.old.items) position count) (vec_capacity stack.old)
+        (vec_capacity stack.new) }
 {
     let end = stack.len();
     put_copies(stack, from, from + position)?;
@@ -126,7 +137,8 @@ pub(crate) fn put_taken_out(
 // A value before the arguments, which stand from `from` on.
 pub(crate) fn put_first(stack: &mut Vec<Value>, from: usize, value: Value) -> Result<(), NoMemory>
     requires inside { from ≤ length stack.old.items }
-    ensures extends { Extends result stack.old.items stack.new.items (value ∷ drop from stack.old.items) (vec_capacity stack.old) (vec_capacity stack.new) }
+    ensures extends { Extends result stack.old.items stack.new.items
+        (value ∷ drop from stack.old.items) (vec_capacity stack.old) (vec_capacity stack.new) }
 {
     let end = stack.len();
     put(stack, value)?;

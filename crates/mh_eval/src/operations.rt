@@ -11,7 +11,7 @@ ghost use Rattle.mh_eval.specs.Answers.{Gives};
 ghost use Rattle.mh_eval.specs.Quiet.{IsAnswered};
 
 use crate::answer::Answer;
-use mh_type::{Kind, Op, Text, Throw, TypeFault, Value};
+use mh_type::{Kind, Op, Outcome, Text, Throw, TypeFault, Value};
 use std::alloc::Global;
 
 const TWO_TO_THE_32: i64 = 0x1_0000_0000;
@@ -19,7 +19,8 @@ const TWO_TO_THE_32: i64 = 0x1_0000_0000;
 // Whether two ints are equal.
 #[inline(always)]
 fn int_equal(first: &Value, second: &Value) -> bool
-    ensures value { outcome_of Op.Ieq (first.now ∷ second.now ∷ []) ≡ Outcome.Value (Value.Boolean result) }
+    ensures value { outcome_of Op.Ieq (first.now ∷ second.now ∷ [])
+        ≡ Outcome.Value (Value.Boolean result) }
 {
     match (first, second) {
         (Value::Int(x), Value::Int(y)) => *x == *y,
@@ -30,7 +31,8 @@ fn int_equal(first: &Value, second: &Value) -> bool
 // Whether an int is below another.
 #[inline(always)]
 fn int_less(first: &Value, second: &Value) -> bool
-    ensures value { outcome_of Op.Ilt (first.now ∷ second.now ∷ []) ≡ Outcome.Value (Value.Boolean result) }
+    ensures value { outcome_of Op.Ilt (first.now ∷ second.now ∷ [])
+        ≡ Outcome.Value (Value.Boolean result) }
 {
     match (first, second) {
         (Value::Int(x), Value::Int(y)) => *x < *y,
@@ -41,7 +43,8 @@ fn int_less(first: &Value, second: &Value) -> bool
 // Whether two longs are equal.
 #[inline(always)]
 fn long_equal(first: &Value, second: &Value) -> bool
-    ensures value { outcome_of Op.Leq (first.now ∷ second.now ∷ []) ≡ Outcome.Value (Value.Boolean result) }
+    ensures value { outcome_of Op.Leq (first.now ∷ second.now ∷ [])
+        ≡ Outcome.Value (Value.Boolean result) }
 {
     match (first, second) {
         (Value::Long(x), Value::Long(y)) => *x == *y,
@@ -52,7 +55,8 @@ fn long_equal(first: &Value, second: &Value) -> bool
 // Whether a long is below another.
 #[inline(always)]
 fn long_less(first: &Value, second: &Value) -> bool
-    ensures value { outcome_of Op.Llt (first.now ∷ second.now ∷ []) ≡ Outcome.Value (Value.Boolean result) }
+    ensures value { outcome_of Op.Llt (first.now ∷ second.now ∷ [])
+        ≡ Outcome.Value (Value.Boolean result) }
 {
     match (first, second) {
         (Value::Long(x), Value::Long(y)) => *x < *y,
@@ -63,7 +67,8 @@ fn long_less(first: &Value, second: &Value) -> bool
 // The other truth value.
 #[inline(always)]
 fn negate(first: &Value, second: &Value) -> bool
-    ensures value { outcome_of Op.Not (first.now ∷ second.now ∷ []) ≡ Outcome.Value (Value.Boolean result) }
+    ensures value { outcome_of Op.Not (first.now ∷ second.now ∷ [])
+        ≡ Outcome.Value (Value.Boolean result) }
 {
     match first {
         Value::Boolean(x) => !*x,
@@ -74,7 +79,8 @@ fn negate(first: &Value, second: &Value) -> bool
 // Whether two truth values are equal.
 #[inline(always)]
 fn truth_equal(first: &Value, second: &Value) -> bool
-    ensures value { outcome_of Op.Beq (first.now ∷ second.now ∷ []) ≡ Outcome.Value (Value.Boolean result) }
+    ensures value { outcome_of Op.Beq (first.now ∷ second.now ∷ [])
+        ≡ Outcome.Value (Value.Boolean result) }
 {
     match (first, second) {
         (Value::Boolean(x), Value::Boolean(y)) => *x == *y,
@@ -85,7 +91,8 @@ fn truth_equal(first: &Value, second: &Value) -> bool
 // Whether two texts are equal.
 #[inline(always)]
 fn text_equal(first: &Value, second: &Value) -> bool
-    ensures value { outcome_of Op.Seq (first.now ∷ second.now ∷ []) ≡ Outcome.Value (Value.Boolean result) }
+    ensures value { outcome_of Op.Seq (first.now ∷ second.now ∷ [])
+        ≡ Outcome.Value (Value.Boolean result) }
 {
     match (first, second) {
         (Value::Text(s), Value::Text(t)) => s.as_str() == t.as_str(),
@@ -93,19 +100,41 @@ fn text_equal(first: &Value, second: &Value) -> bool
     }
 }
 
-// The truth of an operation that compares.
+// The truth of an operation that compares two numbers, where both have its kind.
 #[inline(always)]
 pub(crate) fn truth(op: Op, first: &Value, second: &Value) -> Option<bool>
-    ensures value { IfSome result (λ b. outcome_of op (first.now ∷ second.now ∷ []) ≡ Outcome.Value (Value.Boolean b)) }
+    ensures value { IfSome result (λ b. outcome_of op (first.now ∷ second.now ∷ [])
+        ≡ Outcome.Value (Value.Boolean b)) }
+{
+    match (first, second) {
+        (Value::Int(_), Value::Int(_)) => int_truth(op, first, second),
+        (Value::Long(_), Value::Long(_)) => long_truth(op, first, second),
+        _ => None,
+    }
+}
+
+// The truth of an operation that compares ints.
+#[inline(always)]
+fn int_truth(op: Op, first: &Value, second: &Value) -> Option<bool>
+    ensures value { IfSome result (λ b. outcome_of op (first.now ∷ second.now ∷ [])
+        ≡ Outcome.Value (Value.Boolean b)) }
 {
     match op {
         Op::Ieq => Some(int_equal(first, second)),
         Op::Ilt => Some(int_less(first, second)),
+        _ => None,
+    }
+}
+
+// The truth of an operation that compares longs.
+#[inline(always)]
+fn long_truth(op: Op, first: &Value, second: &Value) -> Option<bool>
+    ensures value { IfSome result (λ b. outcome_of op (first.now ∷ second.now ∷ [])
+        ≡ Outcome.Value (Value.Boolean b)) }
+{
+    match op {
         Op::Leq => Some(long_equal(first, second)),
         Op::Llt => Some(long_less(first, second)),
-        Op::Not => Some(negate(first, second)),
-        Op::Beq => Some(truth_equal(first, second)),
-        Op::Seq => Some(text_equal(first, second)),
         _ => None,
     }
 }
@@ -165,7 +194,8 @@ pub(crate) fn operate(alloc: Global, op: Op, first: &Value, second: &Value) -> A
     }
 }
 
-// The quotient of ints, truncated towards zero, or the throw of a zero divisor (JLS SE 17, 15.17.2).
+// The quotient of ints, truncated towards zero, or the throw of a zero divisor (JLS SE 17,
+// 15.17.2).
 fn int_quotient(x: i32, y: i32) -> Answer
     ensures value { Gives result (divided Value.Int (int_wrapping_div w32) x y) }
     ensures quiet { IsAnswered result }
@@ -234,6 +264,18 @@ fn concat(alloc: Global, some: &Text, more: &Text) -> Answer
         Ok(text) => Answer::Text(text),
         Err(TypeFault::BadText) => Answer::Thrown(Throw::TextTooLong),
         Err(_) => Answer::NoMemory,
+    }
+}
+
+// A number as the outcome that it is.
+#[inline(always)]
+pub(crate) fn outcome_of_number(value: &Value) -> Option<Outcome>
+    ensures value { IfSome result (λ o. o ≡ Outcome.Value value.now) }
+{
+    match value {
+        Value::Int(number) => Some(Outcome::Value(Value::Int(*number))),
+        Value::Long(number) => Some(Outcome::Value(Value::Long(*number))),
+        _ => None,
     }
 }
 

@@ -4,18 +4,21 @@ ghost use Rattle.std.specs.Prelude.{◌≡◌, ◌+◌, ◌≤◌, ◌∷◌, []
 ghost use Rattle.mh_eval.specs.Answers.{Gives, Ran, PushedBy, IsPushed};
 ghost use Rattle.mh_tree.specs.Code.{bind, branch};
 ghost use Rattle.mh_tree.specs.CodeOf.{code_of};
-ghost use Rattle.mh_eval.specs.Entering.{Leaves, EndsWith};
+ghost use Rattle.mh_eval.specs.Entering.{Leaves, EndsWith, Tells};
 ghost use Rattle.mh_eval.specs.Quiet.{IsAnswered, IsQuiet, deep};
 ghost use Rattle.mh_tree.specs.Running.{run_code as code_outcome, code_steps, value_of, weight};
 ghost use Rattle.mh_tree.specs.Scoped.{IsIn, IsScoped};
-ghost use Rattle.mh_type.specs.Operations.{operate as outcome_of};
+ghost use Rattle.mh_type.specs.Operations.{operate as operated};
+ghost use Rattle.mh_tree.specs.Limits.{most_nodes};
+ghost use Rattle.mh_tree.specs.Environment.{with_points};
 
-use crate::answer::{Answer, Pushed};
-use crate::operations::{operate, share};
+use crate::answer::{Answer, Pushed, outcome_of};
+use crate::operations::{operate, outcome_of_number, share};
 use crate::reading::read;
 use crate::walking::walk;
+use mh_base::NoMemory;
 use mh_tree::{Operand, Piece};
-use mh_type::{Op, Value};
+use mh_type::{Op, Outcome, Value};
 use std::alloc::Global;
 
 // The answer of an operation on two operands.
@@ -30,7 +33,7 @@ fn apply(
 ) -> Answer
     requires first { IsIn (length arguments.now) (length stack.now.items) first.now }
     requires second { IsIn (length arguments.now) (length stack.now.items) second.now }
-    ensures value { Gives result (outcome_of op.now
+    ensures value { Gives result (operated op.now
         (value_of arguments.now stack.now.items first.now
         ∷ value_of arguments.now stack.now.items second.now ∷ [])) }
     ensures quiet { (op.now ≡ Op.Concat → ⊥) → IsAnswered result }
@@ -40,8 +43,9 @@ fn apply(
     operate(alloc, *op, first, second)
 }
 
-// The answer of prepared code on arguments, below the locals on the stack, and the steps so far. Where only
-// points, branches on one operation and a leaf run, nothing is called and no local is put.
+// The outcome of prepared code on arguments, below the locals on the stack, with the steps, those
+// before included. Where only points, branches on one comparison of numbers and a leaf that is a
+// number run, nothing is called and no local is put.
 #[inline(always)]
 pub(crate) fn run_code(
     alloc: Global,
@@ -50,20 +54,150 @@ pub(crate) fn run_code(
     code: &Piece,
     arguments: &[Value],
     before: u64,
+) -> Result<(Outcome, u64), NoMemory>
+    requires scoped { IsScoped (length valid.now) (length arguments.now) (length stack.old.items)
+        (code_of code.now) }
+    requires few { before + weight (code_of code.now) ≤ most_nodes }
+    ensures told { Tells result (with_points valid.now) arguments.now
+        (code_of code.now) stack.old.items before (vec_capacity stack.old) }
+    ensures stack { stack.new.items ≡ stack.old.items }
+    ensures room { vec_capacity stack.old ≤ vec_capacity stack.new }
+{
+    let (node, total) = walk(stack.as_slice(), valid, code, arguments, before);
+    run_piece(alloc, stack, valid, node, arguments, total)
+}
+
+// The same of the piece that the way down ends with. Whether it is inlined is left to the compiler,
+// which then simplifies it first, so that the result is written by few stores.
+#[inline]
+fn run_piece(
+    alloc: Global,
+    stack: &mut Vec<Value>,
+    valid: &[bool],
+    code: &Piece,
+    arguments: &[Value],
+    before: u64,
+) -> Result<(Outcome, u64), NoMemory>
+    requires scoped { IsScoped (length valid.now) (length arguments.now) (length stack.old.items)
+        (code_of code.now) }
+    requires few { before + weight (code_of code.now) ≤ most_nodes }
+    ensures told { Tells result (with_points valid.now) arguments.now
+        (code_of code.now) stack.old.items before (vec_capacity stack.old) }
+    ensures stack { stack.new.items ≡ stack.old.items }
+    ensures room { vec_capacity stack.old ≤ vec_capacity stack.new }
+{
+    if let Piece::Leaf { operand, steps } = code {
+        let value = read(arguments, stack.as_slice(), operand);
+        if let Some(outcome) = outcome_of_number(value) {
+            return Ok((outcome, before + u64::from(*steps)));
+        }
+    }
+    run_by_call(alloc, stack, valid, code, arguments, before)
+}
+
+// The same by a call. It is a function of its own so that the room for what the call gives is
+// cleared only where there is a call.
+#[inline(always)]
+fn run_by_call(
+    alloc: Global,
+    stack: &mut Vec<Value>,
+    valid: &[bool],
+    code: &Piece,
+    arguments: &[Value],
+    before: u64,
+) -> Result<(Outcome, u64), NoMemory>
+    requires scoped { IsScoped (length valid.now) (length arguments.now) (length stack.old.items)
+        (code_of code.now) }
+    requires few { before + weight (code_of code.now) ≤ most_nodes }
+    ensures told { Tells result (with_points valid.now) arguments.now
+        (code_of code.now) stack.old.items before (vec_capacity stack.old) }
+    ensures stack { stack.new.items ≡ stack.old.items }
+    ensures room { vec_capacity stack.old ≤ vec_capacity stack.new }
+{
+    run_any(alloc, stack, valid, code, arguments, before)
+}
+
+// The same of any piece. Of an operation an int is told first, with no room cleared for other
+// answers.
+#[inline(never)]
+fn run_any(
+    alloc: Global,
+    stack: &mut Vec<Value>,
+    valid: &[bool],
+    code: &Piece,
+    arguments: &[Value],
+    before: u64,
+) -> Result<(Outcome, u64), NoMemory>
+    requires scoped { IsScoped (length valid.now) (length arguments.now) (length stack.old.items)
+        (code_of code.now) }
+    requires few { before + weight (code_of code.now) ≤ most_nodes }
+    ensures told { Tells result (with_points valid.now) arguments.now
+        (code_of code.now) stack.old.items before (vec_capacity stack.old) }
+    ensures stack { stack.new.items ≡ stack.old.items }
+    ensures room { vec_capacity stack.old ≤ vec_capacity stack.new }
+{
+    if let Piece::Apply { .. } = code {
+        let (answer, total) = answer_piece(alloc, stack, valid, code, arguments, before);
+        if let Answer::Int(number) = answer {
+            return Ok((Outcome::Value(Value::Int(number)), total));
+        }
+        return outcome_of(answer, total);
+    }
+    run_other(alloc, stack, valid, code, arguments, before)
+}
+
+// The same of a piece that is no operation.
+#[inline(always)]
+fn run_other(
+    alloc: Global,
+    stack: &mut Vec<Value>,
+    valid: &[bool],
+    code: &Piece,
+    arguments: &[Value],
+    before: u64,
+) -> Result<(Outcome, u64), NoMemory>
+    requires scoped { IsScoped (length valid.now) (length arguments.now) (length stack.old.items)
+        (code_of code.now) }
+    requires few { before + weight (code_of code.now) ≤ most_nodes }
+    ensures told { Tells result (with_points valid.now) arguments.now
+        (code_of code.now) stack.old.items before (vec_capacity stack.old) }
+    ensures stack { stack.new.items ≡ stack.old.items }
+    ensures room { vec_capacity stack.old ≤ vec_capacity stack.new }
+{
+    let (answer, total) = answer_piece(alloc, stack, valid, code, arguments, before);
+    outcome_of(answer, total)
+}
+
+// The answer of prepared code, with the steps, those before included. A leaf and an operation are
+// answered here, with no local.
+#[inline(always)]
+#[cycle(run_on)]
+fn answer_piece(
+    alloc: Global,
+    stack: &mut Vec<Value>,
+    valid: &[bool],
+    code: &Piece,
+    arguments: &[Value],
+    before: u64,
 ) -> (Answer, u64)
-    requires scoped { IsScoped (length valid.now) (length arguments.now) (length stack.old.items) (code_of code.now) }
-    requires few { before + weight (code_of code.now) ≤ 262144 }
-    ensures ran { Ran result.0 result.1 (code_outcome valid.now (code_of code.now) arguments.now stack.old.items) (before + code_steps valid.now (code_of code.now) arguments.now stack.old.items) }
+    requires scoped { IsScoped (length valid.now) (length arguments.now) (length stack.old.items)
+        (code_of code.now) }
+    requires few { before + weight (code_of code.now) ≤ most_nodes }
+    ensures ran { Ran result.0 result.1
+        (code_outcome (with_points valid.now) (code_of code.now) arguments.now stack.old.items)
+        (before + code_steps (with_points valid.now)
+        (code_of code.now) arguments.now stack.old.items) }
     ensures few { result.1 ≤ before + weight (code_of code.now) }
     ensures stack { stack.new.items ≡ stack.old.items }
     ensures room { vec_capacity stack.old ≤ vec_capacity stack.new }
-    ensures quiet { IsQuiet valid.now (code_of code.now) arguments.now stack.old.items → length stack.old.items + deep (code_of code.now) ≤ vec_capacity stack.old → IsAnswered result.0 }
+    ensures quiet { IsQuiet (with_points valid.now) (code_of code.now) arguments.now stack.old.items
+        → length stack.old.items + deep (code_of code.now) ≤ vec_capacity stack.old
+        → IsAnswered result.0 }
 {
-    let (node, total) = walk(stack.as_slice(), valid, code, arguments, before);
-    match node {
+    match code {
         Piece::Leaf { operand, steps } => {
             let answer = share(read(arguments, stack.as_slice(), operand));
-            (answer, total + u64::from(*steps))
+            (answer, before + u64::from(*steps))
         }
         Piece::Apply {
             op,
@@ -72,13 +206,14 @@ pub(crate) fn run_code(
             steps,
         } => {
             let answer = apply(alloc, arguments, stack, op, first, second);
-            (answer, total + u64::from(*steps))
+            (answer, before + u64::from(*steps))
         }
-        _ => run_on(alloc, stack, valid, node, arguments, total),
+        _ => run_on(alloc, stack, valid, code, arguments, before),
     }
 }
 
-// The same, with locals. Its last parts run in the loop, so that their answers pass through no further call.
+// The same, with locals. Its last parts run in the loop, so that their answers pass through no
+// further call.
 #[inline(never)]
 #[cycle(run_on)]
 fn run_on(
@@ -89,13 +224,19 @@ fn run_on(
     arguments: &[Value],
     before: u64,
 ) -> (Answer, u64)
-    requires scoped { IsScoped (length valid.now) (length arguments.now) (length stack.old.items) (code_of code.now) }
-    requires few { before + weight (code_of code.now) ≤ 262144 }
-    ensures ran { Ran result.0 result.1 (code_outcome valid.now (code_of code.now) arguments.now stack.old.items) (before + code_steps valid.now (code_of code.now) arguments.now stack.old.items) }
+    requires scoped { IsScoped (length valid.now) (length arguments.now) (length stack.old.items)
+        (code_of code.now) }
+    requires few { before + weight (code_of code.now) ≤ most_nodes }
+    ensures ran { Ran result.0 result.1
+        (code_outcome (with_points valid.now) (code_of code.now) arguments.now stack.old.items)
+        (before + code_steps (with_points valid.now)
+        (code_of code.now) arguments.now stack.old.items) }
     ensures few { result.1 ≤ before + weight (code_of code.now) }
     ensures stack { stack.new.items ≡ stack.old.items }
     ensures room { vec_capacity stack.old ≤ vec_capacity stack.new }
-    ensures quiet { IsQuiet valid.now (code_of code.now) arguments.now stack.old.items → length stack.old.items + deep (code_of code.now) ≤ vec_capacity stack.old → IsAnswered result.0 }
+    ensures quiet { IsQuiet (with_points valid.now) (code_of code.now) arguments.now stack.old.items
+        → length stack.old.items + deep (code_of code.now) ≤ vec_capacity stack.old
+        → IsAnswered result.0 }
 {
     let depth = stack.len();
     let mut node = code;
@@ -128,10 +269,10 @@ fn enter<'a>(
 ) -> (Result<&'a Piece, Answer>, u64)
     requires scoped { IsScoped (length valid.now) (length arguments.now) (length stack.old.items)
         (code_of piece.now) }
-    requires few { before + weight (code_of piece.now) ≤ 262144 }
-    ensures left { IfOk result.0 (λ p. Leaves valid.now arguments.now
+    requires few { before + weight (code_of piece.now) ≤ most_nodes }
+    ensures left { IfOk result.0 (λ p. Leaves (with_points valid.now) arguments.now
         (code_of piece.now) stack.old.items before (code_of p.now) stack.new.items result.1) }
-    ensures ends { IfErr result.0 (λ r. EndsWith valid.now arguments.now
+    ensures ends { IfErr result.0 (λ r. EndsWith (with_points valid.now) arguments.now
         (code_of piece.now) stack.old.items before (vec_capacity stack.old) r result.1) }
     ensures kept { take (length stack.old.items) stack.new.items ≡ stack.old.items }
     ensures room { vec_capacity stack.old ≤ vec_capacity stack.new }
@@ -190,13 +331,13 @@ fn enter_bind<'a>(
 ) -> (Result<&'a Piece, Answer>, u64)
     requires scoped { IsScoped (length valid.now) (length arguments.now) (length stack.old.items)
         (bind 0 (code_of first.now) (code_of then.now)) }
-    requires few { before + weight (bind 0 (code_of first.now) (code_of then.now)) ≤ 262144 }
-    ensures left { IfOk result.0 (λ p. Leaves valid.now arguments.now
-        (bind 0 (code_of first.now) (code_of then.now))
-        stack.old.items before (code_of p.now) stack.new.items result.1) }
-    ensures ends { IfErr result.0 (λ r. EndsWith valid.now arguments.now
-        (bind 0 (code_of first.now) (code_of then.now))
-        stack.old.items before (vec_capacity stack.old) r result.1) }
+    requires few { before + weight (bind 0 (code_of first.now) (code_of then.now)) ≤ most_nodes }
+    ensures left { IfOk result.0 (λ p. Leaves (with_points valid.now) arguments.now
+        (bind 0 (code_of first.now) (code_of then.now)) stack.old.items before
+        (code_of p.now) stack.new.items result.1) }
+    ensures ends { IfErr result.0 (λ r. EndsWith (with_points valid.now) arguments.now
+        (bind 0 (code_of first.now) (code_of then.now)) stack.old.items before
+        (vec_capacity stack.old) r result.1) }
     ensures kept { take (length stack.old.items) stack.new.items ≡ stack.old.items }
     ensures room { vec_capacity stack.old ≤ vec_capacity stack.new }
 {
@@ -224,17 +365,17 @@ fn enter_branch<'a>(
     requires scoped { IsScoped (length valid.now) (length arguments.now) (length stack.old.items)
         (branch 0 (code_of test.now) (code_of target.now) (code_of fallback.now)) }
     requires few { before + weight
-        (branch 0 (code_of test.now) (code_of target.now) (code_of fallback.now)) ≤ 262144 }
-    ensures left { IfOk result.0 (λ p. Leaves valid.now arguments.now
-        (branch 0 (code_of test.now) (code_of target.now) (code_of fallback.now))
-        stack.old.items before (code_of p.now) stack.new.items result.1) }
-    ensures ends { IfErr result.0 (λ r. EndsWith valid.now arguments.now
-        (branch 0 (code_of test.now) (code_of target.now) (code_of fallback.now))
-        stack.old.items before (vec_capacity stack.old) r result.1) }
+        (branch 0 (code_of test.now) (code_of target.now) (code_of fallback.now)) ≤ most_nodes }
+    ensures left { IfOk result.0 (λ p. Leaves (with_points valid.now) arguments.now
+        (branch 0 (code_of test.now) (code_of target.now) (code_of fallback.now)) stack.old.items
+        before (code_of p.now) stack.new.items result.1) }
+    ensures ends { IfErr result.0 (λ r. EndsWith (with_points valid.now) arguments.now
+        (branch 0 (code_of test.now) (code_of target.now) (code_of fallback.now)) stack.old.items
+        before (vec_capacity stack.old) r result.1) }
     ensures kept { stack.new.items ≡ stack.old.items }
     ensures room { vec_capacity stack.old ≤ vec_capacity stack.new }
 {
-    let (answer, after) = run_on(alloc, stack, valid, test, arguments, before);
+    let (answer, after) = answer_piece(alloc, stack, valid, test, arguments, before);
     match answer {
         Answer::Boolean(true) => (Ok(target), after),
         Answer::Thrown(throw) => (Err(Answer::Thrown(throw)), after),
@@ -254,12 +395,19 @@ fn push_first(
     arguments: &[Value],
     before: u64,
 ) -> (Pushed, u64)
-    requires scoped { IsScoped (length valid.now) (length arguments.now) (length stack.old.items) (code_of first.now) }
-    requires few { before + weight (code_of first.now) ≤ 262144 }
-    ensures pushed { PushedBy result.0 result.1 (code_outcome valid.now (code_of first.now) arguments.now stack.old.items) (before + code_steps valid.now (code_of first.now) arguments.now stack.old.items) stack.old.items stack.new.items }
+    requires scoped { IsScoped (length valid.now) (length arguments.now) (length stack.old.items)
+        (code_of first.now) }
+    requires few { before + weight (code_of first.now) ≤ most_nodes }
+    ensures pushed { PushedBy result.0 result.1
+        (code_outcome (with_points valid.now) (code_of first.now) arguments.now stack.old.items)
+        (before + code_steps (with_points valid.now)
+        (code_of first.now) arguments.now stack.old.items) stack.old.items stack.new.items }
     ensures few { result.1 ≤ before + weight (code_of first.now) }
     ensures room { vec_capacity stack.old ≤ vec_capacity stack.new }
-    ensures quiet { IsQuiet valid.now (code_of first.now) arguments.now stack.old.items → length stack.old.items + deep (code_of first.now) ≤ vec_capacity stack.old → length stack.old.items + 1 ≤ vec_capacity stack.old → IsPushed result.0 }
+    ensures quiet { IsQuiet (with_points valid.now)
+        (code_of first.now) arguments.now stack.old.items
+        → length stack.old.items + deep (code_of first.now) ≤ vec_capacity stack.old
+        → length stack.old.items + 1 ≤ vec_capacity stack.old → IsPushed result.0 }
 {
     let (answer, total) = run_on(alloc, stack, valid, first, arguments, before);
     let value = match answer {

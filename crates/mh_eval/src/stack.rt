@@ -2,16 +2,17 @@
 
 ghost use Rattle.std.specs.Prelude.{◌≡◌, IfOk};
 
-use crate::fault::NoMemory;
+use mh_base::NoMemory;
 use mh_type::Value;
 use std::alloc::Global;
+use std::fmt;
 use std::marker::Model;
 
 /// The values that a stack has room for.
 pub const ROOM: usize = 16384;
 
-/// The results on which an evaluation goes on. One stack serves any number of calls, one at a time; between
-/// calls it is empty, after `NoMemory` too.
+/// The results on which an evaluation goes on. One stack serves any number of calls, one at a time;
+/// between calls it is empty, after `NoMemory` too.
 #[derive(Drop)]
 pub struct Stack {
     pub(crate) alloc: Global,
@@ -20,13 +21,21 @@ pub struct Stack {
 
 impl Model for Stack {
     ghost use Rattle.std.specs.Prelude.{◌≡◌, ◌≤◌, List, [], vec_capacity};
+    ghost use Rattle.mh_eval.specs.Limits.{least_room};
     ghost use Rattle.mh_type.specs.declared.value.Value.{Value as Held};
 
     ghost Value = { List Held };
 
     ghost view = { λ s. s.values.items };
 
-    ghost invariant = { λ s. (s.values.items ≡ []) × (16384 ≤ vec_capacity s.values) };
+    ghost invariant = { λ s. (s.values.items ≡ []) × (least_room ≤ vec_capacity s.values) };
+}
+
+/// It is empty between calls, so its name is all.
+impl fmt::Debug for Stack {
+    fn fmt<W: fmt::Write>(&self, f: &mut fmt::Formatter<W>) -> fmt::Result {
+        f.write_str("Stack")
+    }
 }
 
 impl Stack {

@@ -8,13 +8,15 @@ ghost use Rattle.mh_tree.specs.Running.{run_code, code_steps, value_of, weight};
 ghost use Rattle.mh_tree.specs.Scoped.{IsIn, IsScoped};
 ghost use Rattle.mh_type.specs.Operations.{operate as outcome_of};
 ghost use Rattle.mh_type.specs.declared.outcome.Outcome.{Outcome};
+ghost use Rattle.mh_tree.specs.Limits.{most_nodes};
+ghost use Rattle.mh_tree.specs.Environment.{with_points};
 
 use crate::operations::truth;
 use crate::reading::read;
 use mh_tree::{Operand, Piece};
 use mh_type::{Op, Value};
 
-// The truth of an operation that compares two operands.
+// The truth of an operation that compares two operands, where they are numbers.
 #[inline(always)]
 fn compare(
     arguments: &[Value],
@@ -26,15 +28,16 @@ fn compare(
     requires first { IsIn (length arguments.now) (length locals.now) first.now }
     requires second { IsIn (length arguments.now) (length locals.now) second.now }
     ensures value { IfSome result (λ b. outcome_of op.now
-        (value_of arguments.now locals.now first.now
-        ∷ value_of arguments.now locals.now second.now ∷ []) ≡ Outcome.Value (Value.Boolean b)) }
+        (value_of arguments.now locals.now first.now ∷ value_of arguments.now locals.now second.now
+        ∷ []) ≡ Outcome.Value (Value.Boolean b)) }
 {
     let first = read(arguments, locals, first);
     let second = read(arguments, locals, second);
     truth(*op, first, second)
 }
 
-// The piece behind points and behind branches whose test is one operation, with the steps so far.
+// The piece behind points and behind branches whose test is one comparison of numbers, with the
+// steps so far.
 #[inline(always)]
 pub(crate) fn walk<'a>(
     locals: &[Value],
@@ -43,13 +46,20 @@ pub(crate) fn walk<'a>(
     arguments: &[Value],
     before: u64,
 ) -> (&'a Piece, u64)
-    requires scoped { IsScoped (length valid.now) (length arguments.now) (length locals.now) (code_of code.now) }
-    requires few { before + weight (code_of code.now) ≤ 262144 }
-    ensures outcome { run_code valid.now (code_of result.0.now) arguments.now locals.now ≡ run_code valid.now (code_of code.now) arguments.now locals.now }
-    ensures steps { result.1 + code_steps valid.now (code_of result.0.now) arguments.now locals.now ≡ before + code_steps valid.now (code_of code.now) arguments.now locals.now }
+    requires scoped { IsScoped (length valid.now) (length arguments.now) (length locals.now)
+        (code_of code.now) }
+    requires few { before + weight (code_of code.now) ≤ most_nodes }
+    ensures outcome { run_code (with_points valid.now)
+        (code_of result.0.now) arguments.now locals.now
+        ≡ run_code (with_points valid.now) (code_of code.now) arguments.now locals.now }
+    ensures steps { result.1 + code_steps (with_points valid.now)
+        (code_of result.0.now) arguments.now locals.now
+        ≡ before + code_steps (with_points valid.now) (code_of code.now) arguments.now locals.now }
     ensures few { result.1 + weight (code_of result.0.now) ≤ before + weight (code_of code.now) }
-    ensures scoped { IsScoped (length valid.now) (length arguments.now) (length locals.now) (code_of result.0.now) }
-    ensures quiet { IsQuiet valid.now (code_of code.now) arguments.now locals.now → IsQuiet valid.now (code_of result.0.now) arguments.now locals.now }
+    ensures scoped { IsScoped (length valid.now) (length arguments.now) (length locals.now)
+        (code_of result.0.now) }
+    ensures quiet { IsQuiet (with_points valid.now) (code_of code.now) arguments.now locals.now
+        → IsQuiet (with_points valid.now) (code_of result.0.now) arguments.now locals.now }
     ensures shallow { deep (code_of result.0.now) ≤ deep (code_of code.now) }
     ensures lower { height (code_of result.0.now) ≤ height (code_of code.now) }
 {

@@ -1,14 +1,14 @@
-pub mod Pushing
-pub mod Bounds
-pub mod Chaining
-pub mod Spreading
-pub mod Searching
-pub mod Starts
-pub mod Runs
-pub mod Answered
-pub mod Ended
-pub mod Phases
-pub mod Running
-pub mod Blocked
-pub mod Maximal
-pub mod Measuring
+mod Pushing
+mod Bounds
+mod Chaining
+mod Spreading
+mod Searching
+mod Starts
+mod Runs
+mod Answered
+mod Ended
+mod Phases
+mod Running
+mod Blocked
+mod Maximal
+mod Measuring

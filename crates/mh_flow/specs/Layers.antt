@@ -4,6 +4,7 @@ use Rattle.std.specs.List.{All}
 use Rattle.mh_flow.specs.declared.need_row.NeedRow.{NeedRow}
 use Rattle.mh_flow.specs.declared.path.Turn.{Turn}
 use Rattle.mh_flow.specs.Carried.{row_at, out_of_link, into_point, carried, number_at}
+use Rattle.mh_network.specs.Limits.{greatest_sum}
 
 -- one turn of a path: back over one row of a link and forth over another, to point p
 pub record IsTurn (rows : List NeedRow) (links points : ℕ → ℕ) (p forth back : ℕ) : Type 0 where
@@ -53,7 +54,7 @@ pub record IsPushed (old new : List NeedRow) (old_left new_left : List ℕ) (lin
 
 pub record IsWithin (rows : List NeedRow) (gain_left : List ℕ) : Type 0 where
   pub links : All (λ r. r.link < length gain_left) rows
-  pub gains : (j : ℕ) → number_at gain_left j + out_of_link rows j ≤ 2 ^ 62
+  pub gains : (j : ℕ) → number_at gain_left j + out_of_link rows j ≤ greatest_sum
 
 -- amount of what row `back` carries goes to row `forth`, of the same link
 pub record IsMoved (old new : List NeedRow) (back forth amount : ℕ) : Type 0 where

@@ -6,7 +6,7 @@ ghost use Rattle.mh_flow.specs.Levels.{far};
 ghost use Rattle.mh_flow.specs.Over.{IsOpen, IsOver, IsSameLevels};
 
 use crate::layer_run::LayerRun;
-use mh_network::NoMemory;
+use mh_base::NoMemory;
 
 /// Pushes along paths up the levels until none is left.
 pub(crate) fn block(run: &mut LayerRun<'_>) -> Result<(), NoMemory>

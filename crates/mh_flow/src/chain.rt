@@ -4,11 +4,11 @@ ghost use Rattle.std.specs.Prelude.{◌<◌, All, IfOk, length};
 ghost use Rattle.mh_flow.specs.Carried.{number_at};
 ghost use Rattle.mh_flow.specs.Chains.{IsChained};
 
-use mh_network::NoMemory;
+use mh_base::NoMemory;
 use std::alloc::Global;
 
-/// For each key its places, from the last to the first. A place is told as one more than its number,
-/// and 0 is none.
+/// For each key its places, from the last to the first. A place is told as one more than its
+/// number, and 0 is none.
 #[derive(Drop)]
 pub(crate) struct Chain {
     /// For each key its last place.
@@ -20,7 +20,8 @@ pub(crate) struct Chain {
 /// The places of each key below `count`.
 pub(crate) fn chain_of(alloc: Global, keys: &[u32], count: usize) -> Result<Chain, NoMemory>
     requires inside { All (λ k. k < count) keys.now }
-    ensures value { IfOk result (λ c. IsChained (number_at keys.now) (length keys.now) count c.last.items c.before.items) }
+    ensures value { IfOk result (λ c. IsChained (number_at keys.now)
+        (length keys.now) count c.last.items c.before.items) }
 {
     let mut last = vec![in alloc; 0; count]?;
     let mut before = Vec::new(alloc);

@@ -18,8 +18,10 @@ use crate::path::Path;
 use crate::push::push_along;
 use crate::search::{Places, find_path};
 use crate::start::{costs, gains, need_rows, rows_by_link, rows_by_point};
-use mh_network::{NoMemory, Problem, needs_are_of_links};
+use mh_base::NoMemory;
+use mh_network::{Problem, needs_are_of_links};
 use std::alloc::Global;
+use std::fmt;
 use std::marker::Model;
 
 /// A run of the layered flow (Dinitz 1970).
@@ -50,8 +52,15 @@ impl<'p> Model for LayerRun<'p> {
     ghost invariant = { IsKept };
 }
 
+/// How many phases it took so far.
+impl<'p> fmt::Debug for LayerRun<'p> {
+    fn fmt<W: fmt::Write>(&self, f: &mut fmt::Formatter<W>) -> fmt::Result {
+        write!(f, "LayerRun({} phases)", self.phases)
+    }
+}
+
 /// A greatest flow, the links that its source reaches, and the phases that it took.
-#[derive(Drop)]
+#[derive(Debug, Drop)]
 pub struct FlowRun {
     rows: Vec<(u32, u32, u64)>,
     reached: Vec<u32>,
@@ -63,7 +72,11 @@ impl Model for FlowRun {
 
     ghost Value = { FlowData };
 
-    ghost view = { λ a. record { rows = a.rows.items; reached = a.reached.items; phases = a.phases } };
+    ghost view = { λ a. record {
+      rows = a.rows.items;
+      reached = a.reached.items;
+      phases = a.phases;
+    } };
 }
 
 impl FlowRun {
@@ -119,12 +132,13 @@ impl<'p> LayerRun<'p> {
         })
     }
 
-    /// Builds the level of each link and point and of the sink, its distance from the source over edges
-    /// with room left, and counts one phase more.
+    /// Builds the level of each link and point and of the sink, its distance from the source over
+    /// edges with room left, and counts one phase more.
     pub fn build_levels(&mut self) -> Result<(), NoMemory>
         requires count { self.old.phases + 1 < 2 ^ 64 }
         ensures distances { OnOk result (AreDistances self.new) }
-        ensures layered { OnOk result (IsLayered self.new.rows self.new.gain_left self.new.links self.new.points) }
+        ensures layered { OnOk result (IsLayered self.new.rows self.new.gain_left self.new.links
+            self.new.points) }
         ensures sink { OnOk result (IsSinkLevel self.new.cost_left self.new.points self.new.sink) }
         ensures phases { OnOk result (self.new.phases ≡ self.old.phases + 1) }
         ensures same { IsSameFlow self.new self.old }
@@ -155,7 +169,8 @@ impl<'p> LayerRun<'p> {
 
     /// Pushes as much along a path as it allows.
     pub fn push_path(&mut self, path: &Path)
-        requires path { IsPath self.old.rows self.old.gain_left (number_at self.old.links) (number_at self.old.points) path.now.point path.now.turns.items path.now.first }
+        requires path { IsPath self.old.rows self.old.gain_left (number_at self.old.links)
+            (number_at self.old.points) path.now.point path.now.turns.items path.now.first }
         requires inside { path.now.point < length self.old.points }
         requires end { IsEnd self.old path.now.point }
         ensures pushed { IsPathPushed self.old self.new path.now.point }
@@ -178,7 +193,8 @@ impl<'p> LayerRun<'p> {
     /// The flow, the links that have a level, and the count of phases.
     pub fn finish(self) -> Result<FlowRun, NoMemory>
         ensures rows { IfOk result (λ run. run.rows ≡ positive_rows self.entry.rows) }
-        ensures reached { IfOk result (λ run. (j : ℕ) → member run.reached j ≡ is_reached self.entry.links j) }
+        ensures reached { IfOk result (λ run. (j : ℕ)
+            → member run.reached j ≡ is_reached self.entry.links j) }
         ensures phases { IfOk result (λ run. run.phases ≡ self.entry.phases) }
     {
         Ok(FlowRun {
@@ -208,7 +224,8 @@ impl<'p> LayerRun<'p> {
 
     /// The last row of each link and each point, from which a phase begins.
     pub(crate) fn places(&self) -> Result<Places, NoMemory>
-        ensures spent { IfOk result (λ p. IsSpent self.now.rows self.now.gain_left self.now.links self.now.points p.links.items p.points.items) }
+        ensures spent { IfOk result (λ p. IsSpent self.now.rows self.now.gain_left self.now.links
+            self.now.points p.links.items p.points.items) }
         ensures kept { IsLayerRun self.now }
     {
         Ok(Places {
@@ -229,17 +246,17 @@ impl<'p> LayerRun<'p> {
     /// Finds a path to the path's point, or tells that none is left.
     pub(crate) fn search(&self, places: &mut Places, path: &mut Path) -> Result<bool, NoMemory>
         requires phase { IsPhase self.now.rows self.now.gain_left self.now.links self.now.points }
-        requires spent { IsSpent self.now.rows self.now.gain_left self.now.links self.now.points places.old.links.items places.old.points.items }
+        requires spent { IsSpent self.now.rows self.now.gain_left self.now.links self.now.points
+            places.old.links.items places.old.points.items }
         requires inside { path.old.point < length self.now.points }
         requires reached { number_at self.now.points path.old.point < far }
         ensures point { path.new.point ≡ path.old.point }
-        ensures spent { OnOk result (IsSpent self.now.rows self.now.gain_left self.now.links self.now.points places.new.links.items places.new.points.items) }
+        ensures spent { OnOk result (IsSpent self.now.rows self.now.gain_left self.now.links
+            self.now.points places.new.links.items places.new.points.items) }
         ensures lower { OnOk result (IsLower places.old.points.items places.new.points.items) }
-        ensures found { IfOk
-            result
-            (λ b. MatchBool
-            b
-            (IsPath self.now.rows self.now.gain_left (number_at self.now.links) (number_at self.now.points) path.old.point path.new.turns.items path.new.first)
+        ensures found { IfOk result (λ b. MatchBool b
+            (IsPath self.now.rows self.now.gain_left (number_at self.now.links)
+            (number_at self.now.points) path.old.point path.new.turns.items path.new.first)
             (number_at places.new.points.items path.old.point ≡ 0)) }
     {
         let found = find_path(

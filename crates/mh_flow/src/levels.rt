@@ -11,7 +11,7 @@ ghost use Rattle.mh_flow.specs.Spreads.{link_key, point_key, IsListed, IsSpread,
 
 use crate::chain::Chain;
 use crate::need_row::NeedRow;
-use mh_network::NoMemory;
+use mh_base::NoMemory;
 use std::alloc::Global;
 
 /// The level of a node that is not reached.
@@ -20,10 +20,9 @@ pub(crate) const UNREACHED: u32 = u32::MAX;
 /// Lowers a level to one more than that of a neighbour, if it is above that.
 fn lower(levels: &mut [u32], at: usize, from: u32) -> bool
     requires { at < length levels.old }
-    ensures cases { MatchBool
-        result
-        ((from + 1 < far) × (from + 1 < number_at levels.old at) × (levels.new ≡ slice_set levels.old at (from + 1)))
-        ((levels.new ≡ levels.old) × (from < far → number_at levels.old at ≤ from + 1)) }
+    ensures cases { MatchBool result ((from + 1 < far) × (from + 1 < number_at levels.old at)
+        × (levels.new ≡ slice_set levels.old at (from + 1))) ((levels.new ≡ levels.old)
+        × (from < far → number_at levels.old at ≤ from + 1)) }
 {
     if from < UNREACHED && from + 1 < levels[at] {
         levels[at] = from + 1;
@@ -52,7 +51,8 @@ fn settle_point(
     ensures settled { IsSettledForth (row_at rows.now at) links.now points.new }
     ensures same { OnFalse result (points.new ≡ points.old) }
     ensures less { OnTrue result (sum points.new < sum points.old) }
-    ensures others { (q : ℕ) → ((row_at rows.now at).point ≡ q → ⊥) → number_at points.new q ≡ number_at points.old q }
+    ensures others { (q : ℕ) → ((row_at rows.now at).point ≡ q → ⊥)
+        → number_at points.new q ≡ number_at points.old q }
 {
     let row = rows[at];
     lower(points, row.point as usize, links[row.link as usize])
@@ -77,7 +77,8 @@ fn settle_link(
     ensures settled { IsSettledBack (row_at rows.now at) links.new points.now }
     ensures same { OnFalse result (links.new ≡ links.old) }
     ensures less { OnTrue result (sum links.new < sum links.old) }
-    ensures others { (q : ℕ) → ((row_at rows.now at).link ≡ q → ⊥) → number_at links.new q ≡ number_at links.old q }
+    ensures others { (q : ℕ) → ((row_at rows.now at).link ≡ q → ⊥)
+        → number_at links.new q ≡ number_at links.old q }
 {
     let row = rows[at];
     row.amount > 0 && lower(links, row.link as usize, points[row.point as usize])
@@ -93,12 +94,14 @@ fn spread_link(
     points: &mut [u32],
     lowered: &mut Vec<usize>,
 ) -> Result<(), NoMemory>
-    requires chained { IsChained (link_key rows.now) (length rows.now) (length links.now) by_link.now.last.items by_link.now.before.items }
+    requires chained { IsChained (link_key rows.now) (length rows.now)
+        (length links.now) by_link.now.last.items by_link.now.before.items }
     requires link { link < length links.now }
     requires range { IsInRange rows.now links.now points.old }
     requires levels { IsPointLevels rows.now gain_left.now links.now points.old }
     ensures levels { OnOk result (IsPointLevels rows.now gain_left.now links.now points.new) }
-    ensures spread { OnOk result (IsSpread points.old points.new lowered.old.items lowered.new.items) }
+    ensures spread { OnOk result (IsSpread points.old points.new lowered.old.items
+        lowered.new.items) }
     ensures settled { OnOk result (IsLinkSettled rows.now links.now points.new link) }
 {
     let mut at = by_link.last[link];
@@ -122,12 +125,14 @@ fn spread_point(
     points: &[u32],
     lowered: &mut Vec<usize>,
 ) -> Result<(), NoMemory>
-    requires chained { IsChained (point_key rows.now) (length rows.now) (length points.now) by_point.now.last.items by_point.now.before.items }
+    requires chained { IsChained (point_key rows.now) (length rows.now)
+        (length points.now) by_point.now.last.items by_point.now.before.items }
     requires point { point < length points.now }
     requires range { IsInRange rows.now links.old points.now }
     requires levels { IsPointLevels rows.now gain_left.now links.old points.now }
     ensures levels { OnOk result (IsPointLevels rows.now gain_left.now links.new points.now) }
-    ensures spread { OnOk result (IsSpread links.old links.new lowered.old.items lowered.new.items) }
+    ensures spread { OnOk result (IsSpread links.old links.new lowered.old.items
+        lowered.new.items) }
     ensures settled { OnOk result (IsPointSettled rows.now links.new points.now point) }
 {
     let mut at = by_point.last[point];
@@ -151,11 +156,13 @@ fn spread_links(
     links: &[u32],
     points: &mut [u32],
 ) -> Result<Vec<usize>, NoMemory>
-    requires chained { IsChained (link_key rows.now) (length rows.now) (length links.now) by_link.now.last.items by_link.now.before.items }
+    requires chained { IsChained (link_key rows.now) (length rows.now)
+        (length links.now) by_link.now.last.items by_link.now.before.items }
     requires inside { All (λ j. j < length links.now) from.now }
     requires range { IsInRange rows.now links.now points.old }
     requires levels { IsPointLevels rows.now gain_left.now links.now points.old }
-    requires waiting { (j : ℕ) → IsListed from.now j ⊎ IsLinkSettled rows.now links.now points.old j }
+    requires waiting { (j : ℕ) → IsListed from.now j
+        ⊎ IsLinkSettled rows.now links.now points.old j }
     ensures levels { OnOk result (IsPointLevels rows.now gain_left.now links.now points.new) }
     ensures spread { IfOk result (λ lowered. IsSpread points.old points.new [] lowered.items) }
     ensures settled { OnOk result ((j : ℕ) → IsLinkSettled rows.now links.now points.new j) }
@@ -177,11 +184,13 @@ fn spread_points(
     links: &mut [u32],
     points: &[u32],
 ) -> Result<Vec<usize>, NoMemory>
-    requires chained { IsChained (point_key rows.now) (length rows.now) (length points.now) by_point.now.last.items by_point.now.before.items }
+    requires chained { IsChained (point_key rows.now) (length rows.now)
+        (length points.now) by_point.now.last.items by_point.now.before.items }
     requires inside { All (λ p. p < length points.now) from.now }
     requires range { IsInRange rows.now links.old points.now }
     requires levels { IsPointLevels rows.now gain_left.now links.old points.now }
-    requires waiting { (p : ℕ) → IsListed from.now p ⊎ IsPointSettled rows.now links.old points.now p }
+    requires waiting { (p : ℕ) → IsListed from.now p
+        ⊎ IsPointSettled rows.now links.old points.now p }
     ensures levels { OnOk result (IsPointLevels rows.now gain_left.now links.new points.now) }
     ensures spread { IfOk result (λ lowered. IsSpread links.old links.new [] lowered.items) }
     ensures settled { OnOk result ((p : ℕ) → IsPointSettled rows.now links.new points.now p) }
@@ -213,17 +222,21 @@ pub(crate) fn settle(
     links: &mut [u32],
     points: &mut [u32],
 ) -> Result<(), NoMemory>
-    requires by_link { IsChained (link_key rows.now) (length rows.now) (length links.old) by_link.now.last.items by_link.now.before.items }
-    requires by_point { IsChained (point_key rows.now) (length rows.now) (length points.old) by_point.now.last.items by_point.now.before.items }
+    requires by_link { IsChained (link_key rows.now) (length rows.now)
+        (length links.old) by_link.now.last.items by_link.now.before.items }
+    requires by_point { IsChained (point_key rows.now) (length rows.now)
+        (length points.old) by_point.now.last.items by_point.now.before.items }
     requires inside { All (λ j. j < length links.old) front.items }
     requires range { IsInRange rows.now links.old points.old }
     requires levels { IsPointLevels rows.now gain_left.now links.old points.old }
-    requires waiting { (j : ℕ) → IsListed front.items j ⊎ IsLinkSettled rows.now links.old points.old j }
+    requires waiting { (j : ℕ) → IsListed front.items j
+        ⊎ IsLinkSettled rows.now links.old points.old j }
     requires settled { (p : ℕ) → IsPointSettled rows.now links.old points.old p }
     ensures levels { OnOk result (IsPointLevels rows.now gain_left.now links.new points.new) }
     ensures links { OnOk result (IsLower links.old links.new) }
     ensures points { OnOk result (IsLower points.old points.new) }
-    ensures settled { OnOk result ((k : ℕ) → k < length rows.now → IsSettledRow (row_at rows.now k) links.new points.new) }
+    ensures settled { OnOk result ((k : ℕ) → k < length rows.now
+        → IsSettledRow (row_at rows.now k) links.new points.new) }
 {
     let mut front = front;
     while !front.is_empty() {
@@ -251,7 +264,8 @@ fn start_levels(alloc: Global, gain_left: &[u64]) -> Result<Vec<u32>, NoMemory>
 
 fn start_links(alloc: Global, gain_left: &[u64]) -> Result<Vec<usize>, NoMemory>
     ensures inside { IfOk result (λ front. All (λ j. j < length gain_left.now) front.items) }
-    ensures listed { IfOk result (λ front. (j : ℕ) → 0 < number_at gain_left.now j → IsListed front.items j) }
+    ensures listed { IfOk result (λ front. (j : ℕ) → 0 < number_at gain_left.now j
+        → IsListed front.items j) }
 {
     let mut front = Vec::new(alloc);
     for link in 0..gain_left.len() {
@@ -272,11 +286,14 @@ pub(crate) fn levels_from(
     gain_left: &[u64],
     count: usize,
 ) -> Result<(Vec<u32>, Vec<u32>), NoMemory>
-    requires by_link { IsChained (link_key rows.now) (length rows.now) (length gain_left.now) by_link.now.last.items by_link.now.before.items }
-    requires by_point { IsChained (point_key rows.now) (length rows.now) count by_point.now.last.items by_point.now.before.items }
+    requires by_link { IsChained (link_key rows.now) (length rows.now)
+        (length gain_left.now) by_link.now.last.items by_link.now.before.items }
+    requires by_point { IsChained (point_key rows.now)
+        (length rows.now) count by_point.now.last.items by_point.now.before.items }
     requires links { All (λ r. r.link < length gain_left.now) rows.now }
     requires points { All (λ r. r.point < count) rows.now }
-    ensures layered { IfOk result (λ levels. IsLayered rows.now gain_left.now levels.0.items levels.1.items) }
+    ensures layered { IfOk result (λ levels. IsLayered rows.now gain_left.now levels.0.items
+        levels.1.items) }
     ensures links { IfOk result (λ levels. length levels.0.items ≡ length gain_left.now) }
     ensures points { IfOk result (λ levels. length levels.1.items ≡ count) }
 {

@@ -1,5 +1,10 @@
-//! The greatest flow of a problem by levels and blocking flows (Dinitz 1970), and the links that its
-//! source reaches.
+//! The greatest flow of a problem by levels and blocking flows (Dinitz 1970), and the links that
+//! its source reaches.
+//!
+//! ```
+//! let run = max_flow(alloc, &problem)?;
+//! println!(rt; "{} phases", run.phases())?;
+//! ```
 #![tactic(auto)]
 
 mod blocking;
@@ -16,6 +21,6 @@ mod start;
 
 pub use flow::max_flow;
 pub use layer_run::{FlowRun, LayerRun};
-pub use mh_network::NoMemory;
+pub use mh_base::NoMemory;
 pub use need_row::NeedRow;
 pub use path::{Path, Turn};

@@ -1,7 +1,7 @@
 //! What a flow carries over a need.
 
 /// A need of a link, and what the flow carries over it.
-#[derive(Clone, Copy)]
+#[derive(Clone, Copy, Debug)]
 pub struct NeedRow {
     /// The link, by number.
     pub link: u32,

@@ -3,10 +3,11 @@
 ghost use Rattle.std.specs.Prelude.{◌≡◌, ◌≤◌, length, ℕ, IfOk};
 ghost use Rattle.mh_network.specs.Selection.{member};
 ghost use Rattle.mh_flow.specs.Run.{is_reached, positive_rows};
+ghost use Rattle.mh_network.specs.Limits.{most_links};
 
 use crate::levels::UNREACHED;
 use crate::need_row::NeedRow;
-use mh_network::NoMemory;
+use mh_base::NoMemory;
 use std::alloc::Global;
 
 /// The rows that carry something.
@@ -23,7 +24,7 @@ pub(crate) fn positive(alloc: Global, rows: &[NeedRow]) -> Result<Vec<(u32, u32,
 
 /// The links that have a level.
 pub(crate) fn reached_links(alloc: Global, levels: &[u32]) -> Result<Vec<u32>, NoMemory>
-    requires { length levels.now ≤ 4096 }
+    requires { length levels.now ≤ most_links }
     ensures { IfOk result (λ v. (j : ℕ) → member v.items j ≡ is_reached levels.now j) }
 {
     let mut reached = Vec::new(alloc);

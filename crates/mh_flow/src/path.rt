@@ -1,7 +1,7 @@
 //! Paths from the source to the sink, told from their end.
 
 /// Forth over one row of a link to a point, and back over another row of that link.
-#[derive(Clone, Copy)]
+#[derive(Clone, Copy, Debug)]
 pub struct Turn {
     /// The row that leads to the point, by number.
     pub forth: usize,
@@ -11,7 +11,7 @@ pub struct Turn {
 
 /// A path from the source to the sink, from its end: the last point, the turns down to the first
 /// link, and the row of that link over which it begins.
-#[derive(Drop)]
+#[derive(Debug, Drop)]
 pub struct Path {
     /// The point from which the path goes to the sink.
     pub point: usize,

@@ -11,7 +11,7 @@ ghost use Rattle.mh_flow.specs.Spreads.{link_key, point_key};
 use crate::chain::Chain;
 use crate::need_row::NeedRow;
 use crate::path::Turn;
-use mh_network::NoMemory;
+use mh_base::NoMemory;
 
 /// For each link and each point the place of the row that is to be tried next: one more than its
 /// number, and 0 where none is left.
@@ -41,12 +41,16 @@ fn row_back(
     point_rows: &[usize],
     link: usize,
 ) -> Option<usize>
-    requires chained { IsChained (link_key rows.now) (length rows.now) (length links.now) by_link.now.last.items by_link.now.before.items }
+    requires chained { IsChained (link_key rows.now) (length rows.now)
+        (length links.now) by_link.now.last.items by_link.now.before.items }
     requires range { IsInRange rows.now links.now points.now }
-    requires spent { IsSpent rows.now gain_left.now links.now points.now link_rows.old point_rows.now }
+    requires spent { IsSpent rows.now gain_left.now links.now points.now link_rows.old
+        point_rows.now }
     requires link { link < length links.now }
-    ensures spent { IsSpent rows.now gain_left.now links.now points.now link_rows.new point_rows.now }
-    ensures found { MatchOption result (number_at link_rows.new link ≡ 0) (λ k. IsRowBack rows.now links.now points.now point_rows.now link k) }
+    ensures spent { IsSpent rows.now gain_left.now links.now points.now link_rows.new
+        point_rows.now }
+    ensures found { MatchOption result (number_at link_rows.new link ≡ 0)
+        (λ k. IsRowBack rows.now links.now points.now point_rows.now link k) }
 {
     while link_rows[link] > 0 {
         let back = link_rows[link] - 1;
@@ -60,8 +64,8 @@ fn row_back(
     None
 }
 
-/// The turns of a path down the levels from a point to a link with gain left, and the row over which
-/// the path begins; or none, and the point is spent.
+/// The turns of a path down the levels from a point to a link with gain left, and the row over
+/// which the path begins; or none, and the point is spent.
 pub(crate) fn find_path(
     rows: &[NeedRow],
     by_link: &Chain,
@@ -74,17 +78,23 @@ pub(crate) fn find_path(
     point: usize,
     turns: &mut Vec<Turn>,
 ) -> Result<Option<usize>, NoMemory>
-    requires by_link { IsChained (link_key rows.now) (length rows.now) (length links.now) by_link.now.last.items by_link.now.before.items }
-    requires by_point { IsChained (point_key rows.now) (length rows.now) (length points.now) by_point.now.last.items by_point.now.before.items }
+    requires by_link { IsChained (link_key rows.now) (length rows.now)
+        (length links.now) by_link.now.last.items by_link.now.before.items }
+    requires by_point { IsChained (point_key rows.now) (length rows.now)
+        (length points.now) by_point.now.last.items by_point.now.before.items }
     requires range { IsInRange rows.now links.now points.now }
     requires same { length gain_left.now ≡ length links.now }
     requires phase { IsPhase rows.now gain_left.now links.now points.now }
-    requires spent { IsSpent rows.now gain_left.now links.now points.now link_rows.old point_rows.old }
+    requires spent { IsSpent rows.now gain_left.now links.now points.now link_rows.old
+        point_rows.old }
     requires point { point < length points.now }
     requires reached { number_at points.now point < far }
-    ensures spent { OnOk result (IsSpent rows.now gain_left.now links.now points.now link_rows.new point_rows.new) }
+    ensures spent { OnOk result (IsSpent rows.now gain_left.now links.now points.now link_rows.new
+        point_rows.new) }
     ensures lower { OnOk result (IsLower point_rows.old point_rows.new) }
-    ensures found { IfOk result (λ f. MatchOption f (number_at point_rows.new point ≡ 0) (λ first. IsPath rows.now gain_left.now (number_at links.now) (number_at points.now) point turns.new.items first)) }
+    ensures found { IfOk result (λ f. MatchOption f (number_at point_rows.new point ≡ 0)
+        (λ first. IsPath rows.now gain_left.now (number_at links.now)
+        (number_at points.now) point turns.new.items first)) }
 {
     turns.clear();
     let mut at = point;

@@ -9,12 +9,14 @@ ghost use Rattle.mh_flow.specs.Spreads.{link_key, point_key};
 
 use crate::chain::{Chain, chain_of};
 use crate::need_row::NeedRow;
-use mh_network::{NoMemory, Problem};
+use mh_base::NoMemory;
+use mh_network::Problem;
 use std::alloc::Global;
 
 /// A row for each need, by link and then point, with nothing carried.
 pub(crate) fn need_rows(alloc: Global, problem: &Problem) -> Result<Vec<NeedRow>, NoMemory>
-    ensures { IfOk result (λ rows. rows.items ≡ needs_below problem.now (length problem.now.links)) }
+    ensures { IfOk result (λ rows. rows.items ≡ needs_below problem.now
+        (length problem.now.links)) }
 {
     let mut rows = Vec::new(alloc);
     for link in 0..problem.links() {
@@ -25,7 +27,8 @@ pub(crate) fn need_rows(alloc: Global, problem: &Problem) -> Result<Vec<NeedRow>
 
 /// Adds a row for each need of a link, with nothing carried.
 fn push_needs(rows: &mut Vec<NeedRow>, link: u32, needs: &[u32]) -> Result<(), NoMemory>
-    ensures { OnOk result (rows.new.items ≡ rows.old.items ++ map (λ p. record { link = link; point = p; amount = 0 }) needs.now) }
+    ensures { OnOk result (rows.new.items ≡ rows.old.items ++ map
+        (λ p. record { link = link; point = p; amount = 0 }) needs.now) }
 {
     for point in needs {
         rows.push(NeedRow {
@@ -40,7 +43,8 @@ fn push_needs(rows: &mut Vec<NeedRow>, link: u32, needs: &[u32]) -> Result<(), N
 /// The rows of each link.
 pub(crate) fn rows_by_link(alloc: Global, rows: &[NeedRow], count: usize) -> Result<Chain, NoMemory>
     requires inside { All (λ r. r.link < count) rows.now }
-    ensures value { IfOk result (λ c. IsChained (link_key rows.now) (length rows.now) count c.last.items c.before.items) }
+    ensures value { IfOk result (λ c. IsChained (link_key rows.now)
+        (length rows.now) count c.last.items c.before.items) }
 {
     let keys = links_of(alloc, rows)?;
     let chain = chain_of(alloc, &keys, count)?;
@@ -62,7 +66,8 @@ pub(crate) fn rows_by_point(
     count: usize,
 ) -> Result<Chain, NoMemory>
     requires inside { All (λ r. r.point < count) rows.now }
-    ensures value { IfOk result (λ c. IsChained (point_key rows.now) (length rows.now) count c.last.items c.before.items) }
+    ensures value { IfOk result (λ c. IsChained (point_key rows.now)
+        (length rows.now) count c.last.items c.before.items) }
 {
     let keys = points_of(alloc, rows)?;
     let chain = chain_of(alloc, &keys, count)?;
@@ -80,7 +85,8 @@ fn points_of(alloc: Global, rows: &[NeedRow]) -> Result<Vec<u32>, NoMemory>
 /// The gain of each link.
 pub(crate) fn gains(alloc: Global, problem: &Problem) -> Result<Vec<u64>, NoMemory>
     ensures count { IfOk result (λ v. length v.items ≡ length problem.now.links) }
-    ensures gains { IfOk result (λ v. (j : ℕ) → j < length v.items → number_at v.items j ≡ gain_of problem.now j) }
+    ensures gains { IfOk result (λ v. (j : ℕ) → j < length v.items
+        → number_at v.items j ≡ gain_of problem.now j) }
 {
     let mut gains = Vec::new(alloc);
     for link in 0..problem.links() {
@@ -92,7 +98,8 @@ pub(crate) fn gains(alloc: Global, problem: &Problem) -> Result<Vec<u64>, NoMemo
 /// The cost of each point.
 pub(crate) fn costs(alloc: Global, problem: &Problem) -> Result<Vec<u64>, NoMemory>
     ensures count { IfOk result (λ v. length v.items ≡ length problem.now.costs) }
-    ensures costs { IfOk result (λ v. (p : ℕ) → p < length v.items → number_at v.items p ≡ cost_of problem.now p) }
+    ensures costs { IfOk result (λ v. (p : ℕ) → p < length v.items
+        → number_at v.items p ≡ cost_of problem.now p) }
 {
     let mut costs = Vec::new(alloc);
     for point in 0..problem.points() {

@@ -1,4 +1,5 @@
-pub mod Added
-pub mod Flushes
-pub mod Held
-pub mod Taken
+mod Added
+mod Flushes
+mod Held
+pub mod PublicLaws
+mod Taken

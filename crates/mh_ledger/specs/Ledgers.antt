@@ -1,7 +1,8 @@
 -- What the ledger of a worker counts for each link, as the counters of the cases of an inline cache do
 -- (Hölzle, Chambers, Ungar 1991), and what the totals keep of all workers.
-use Rattle.std.specs.Prelude.{ℕ, ◌+◌, ◌≡◌, ◌<◌, ◌≤◌, ◌^◌, List, [], ◌∷◌, length, replicate, slice_index_or, slice_set}
+use Rattle.std.specs.Prelude.{ℕ, ◌+◌, ◌≡◌, ◌<◌, ◌≤◌, List, [], ◌∷◌, length, replicate, slice_index_or, slice_set}
 use Rattle.std.specs.List.{All, sum_by}
+use Rattle.mh_ledger.specs.Limits.{greatest_limit}
 
 -- the number at a place
 abbrev pub at : List ℕ → ℕ → ℕ
@@ -48,15 +49,15 @@ pub record AreHeld (t : TotalsState) (ledgers : List LedgerState) : Type 0 where
 pub record IsLedger (l : LedgerState) : Type 0 where
   pub lengths : length l.flushed ≡ length l.unflushed
   pub unflushed : All (λ n. n ≤ l.limit) l.unflushed
-  pub flushed : All (λ n. n ≤ 2 ^ 62) l.flushed
-  pub limit : l.limit ≤ 2 ^ 62
+  pub flushed : All (λ n. n ≤ greatest_limit) l.flushed
+  pub limit : l.limit ≤ greatest_limit
 
 -- each total is the sum of the shares, within the limit
 pub record IsTotals (t : TotalsState) : Type 0 where
   pub lengths : All (λ share. length share ≡ length t.total) t.shares
   pub sums : (j : ℕ) → at t.total j ≡ sum_by (λ share. at share j) t.shares
   pub within : All (λ n. n ≤ t.limit) t.total
-  pub limit : t.limit ≤ 2 ^ 62
+  pub limit : t.limit ≤ greatest_limit
 
 -- before any hit
 abbrev pub opened_ledger : ℕ → ℕ → ℕ → LedgerState

@@ -2,9 +2,10 @@
 
 ghost use Rattle.std.specs.Prelude.{◌≡◌, ◌+◌, ◌<◌, ◌≤◌, ◌^◌, ◌↔◌, ℕ, List, length, replicate, slice_set, IfOk, OnOk, OnErr, IsTrue};
 ghost use Rattle.mh_ledger.specs.Ledgers.{at, made, with_hit, settled, opened_ledger, AreHeld, Holds, IsLedger, LedgerState, TotalsState};
+ghost use Rattle.mh_ledger.specs.Limits.{greatest_limit};
 
-use crate::memory::NoMemory;
 use crate::sums::{add, clear};
+use mh_base::NoMemory;
 use std::alloc::Global;
 use std::marker::Model;
 use thiserror::Error;
@@ -17,12 +18,12 @@ pub const LARGEST_LIMIT: u64 = 1 << 62;
 #[error("LedgerFull")]
 pub struct LedgerFull;
 
-/// How often one worker's calls hit each link: the hits that it has flushed into the totals, and those
-/// that it has not. A link is a case of its site, so these are the counters of the cases of a polymorphic
-/// inline cache (Hölzle, Chambers, Ungar 1991), kept for each worker apart.
+/// How often one worker's calls hit each link: the hits that it has flushed into the totals, and
+/// those that it has not. A link is a case of its site, so these are the counters of the cases of a
+/// polymorphic inline cache (Hölzle, Chambers, Ungar 1991), kept for each worker apart.
 ///
 /// `Totals::open` makes ledgers, and `Totals::flush` moves hits. No call of a ledger takes memory.
-#[derive(Drop)]
+#[derive(Debug, Drop)]
 pub struct Ledger {
     worker: usize,
     limit: u64,
@@ -38,9 +39,19 @@ impl Model for Ledger {
 
     ghost coded = { coded_ledger };
 
-    ghost view = { λ l. record { worker = l.worker; limit = l.limit; unflushed = l.unflushed.items; flushed = l.flushed.items } };
+    ghost view = { λ l. record {
+      worker = l.worker;
+      limit = l.limit;
+      unflushed = l.unflushed.items;
+      flushed = l.flushed.items;
+    } };
 
-    ghost invariant = { λ l. IsLedger record { worker = l.worker; limit = l.limit; unflushed = l.unflushed.items; flushed = l.flushed.items } };
+    ghost invariant = { λ l. IsLedger record {
+      worker = l.worker;
+      limit = l.limit;
+      unflushed = l.unflushed.items;
+      flushed = l.flushed.items;
+    } };
 }
 
 impl Ledger {
@@ -51,7 +62,7 @@ impl Ledger {
         links: usize,
         limit: u64,
     ) -> Result<Ledger, NoMemory>
-        requires limit { limit ≤ 2 ^ 62 }
+        requires limit { limit ≤ greatest_limit }
         ensures value { IfOk result (λ l. l ≡ opened_ledger links limit worker) }
     {
         Ok(Ledger {
@@ -129,14 +140,15 @@ impl Ledger {
 
     /// Counts one more hit of a link. O(1).
     ///
-    /// Refused just where as many hits of the link are unflushed as may be, and then nothing changes. A
-    /// ledger that totals hold is held as before.
+    /// Refused just where as many hits of the link are unflushed as may be, and then nothing
+    /// changes. A ledger that totals hold is held as before.
     pub fn hit(&mut self, link: usize) -> Result<(), LedgerFull>
         requires inside { link < length self.old.unflushed }
         ensures room { OnOk result (at self.old.unflushed link < self.old.limit) }
         ensures counted { OnOk result (self.new ≡ with_hit self.old link) }
         ensures held { (t : TotalsState) → Holds t self.old → Holds t self.new }
-        ensures all { (t : TotalsState) → (ledgers : List LedgerState) → Holds t self.old → AreHeld t ledgers → AreHeld t (slice_set ledgers self.old.worker self.new) }
+        ensures all { (t : TotalsState) → (ledgers : List LedgerState) → Holds t self.old
+            → AreHeld t ledgers → AreHeld t (slice_set ledgers self.old.worker self.new) }
         ensures full { OnErr result (at self.old.unflushed link ≡ self.old.limit) }
         ensures same { OnErr result (self.new ≡ self.old) }
     {
@@ -149,7 +161,7 @@ impl Ledger {
 
     // Moves the unflushed hits to those that were flushed.
     pub(crate) fn settle(&mut self)
-        requires fits { (j : ℕ) → j < length self.old.unflushed → made self.old j ≤ 2 ^ 62 }
+        requires fits { (j : ℕ) → j < length self.old.unflushed → made self.old j ≤ greatest_limit }
         ensures value { self.new ≡ settled self.old }
     {
         add(&mut self.flushed, &self.unflushed);

@@ -3,13 +3,15 @@
 ghost use Rattle.std.specs.Prelude.{◌≡◌, ◌+◌, ◌<◌, ◌≤◌, ◌^◌, ◌↔◌, ℕ, length, replicate, IsTrue};
 ghost use Rattle.std.specs.List.{All};
 ghost use Rattle.mh_ledger.specs.Ledgers.{at, added};
+ghost use Rattle.mh_ledger.specs.Limits.{greatest_limit};
 
 // Whether no sum passes the limit.
 pub(crate) fn all_fit(sums: &[u64], more: &[u64], limit: u64) -> bool
     requires lengths { length sums.now ≡ length more.now }
-    requires sums { All (λ n. n ≤ 2 ^ 62) sums.now }
-    requires more { All (λ n. n ≤ 2 ^ 62) more.now }
-    ensures value { IsTrue result ↔ ((j : ℕ) → j < length sums.now → at sums.now j + at more.now j ≤ limit) }
+    requires sums { All (λ n. n ≤ greatest_limit) sums.now }
+    requires more { All (λ n. n ≤ greatest_limit) more.now }
+    ensures value { IsTrue result ↔ ((j : ℕ) → j < length sums.now
+        → at sums.now j + at more.now j ≤ limit) }
 {
     for place in 0..sums.len() {
         if sums[place] + more[place] > limit {
@@ -22,8 +24,8 @@ pub(crate) fn all_fit(sums: &[u64], more: &[u64], limit: u64) -> bool
 // Adds to each number the one at its place.
 pub(crate) fn add(sums: &mut Vec<u64>, more: &[u64])
     requires lengths { length sums.old.items ≡ length more.now }
-    requires sums { All (λ n. n ≤ 2 ^ 62) sums.old.items }
-    requires more { All (λ n. n ≤ 2 ^ 62) more.now }
+    requires sums { All (λ n. n ≤ greatest_limit) sums.old.items }
+    requires more { All (λ n. n ≤ greatest_limit) more.now }
     ensures value { sums.new.items ≡ added sums.old.items more.now }
 {
     for place in 0..sums.len() {

@@ -3,10 +3,11 @@
 ghost use Rattle.std.specs.Prelude.{◌≡◌, ◌≢◌, ◌+◌, ◌<◌, ◌≤◌, ◌^◌, ◌↔◌, ℕ, List, length, map, replicate, slice_set, IfOk, OnOk, OnErr, IsTrue};
 ghost use Rattle.std.specs.List.{range_with_len, sum_by};
 ghost use Rattle.mh_ledger.specs.Ledgers.{at, ledger_at, made, opened_ledger, opened_totals, settled, flushed_into, share_of, AreHeld, HasRoom, Holds, IsLedger, IsTotals, LedgerState};
+ghost use Rattle.mh_ledger.specs.Limits.{greatest_limit};
 
 use crate::ledger::{Ledger, zeros};
-use crate::memory::NoMemory;
 use crate::sums::{add, all_fit};
+use mh_base::NoMemory;
 use std::alloc::Global;
 use std::marker::Model;
 use thiserror::Error;
@@ -18,10 +19,11 @@ pub struct TotalTooLarge;
 
 /// How often all workers' calls hit each link, as far as they have flushed.
 ///
-/// Beside the totals stands what each worker has flushed, its share, so that each total is the sum of the
-/// shares. A ledger is held where its worker's share is just what the ledger has flushed: whoever has one
-/// held ledger of each worker knows each total as the sum of what these have flushed.
-#[derive(Drop)]
+/// Beside the totals stands what each worker has flushed, its share, so that each total is the sum
+/// of the shares. A ledger is held where its worker's share is just what the ledger has flushed:
+/// whoever has one held ledger of each worker knows each total as the sum of what these have
+/// flushed.
+#[derive(Debug, Drop)]
 pub struct Totals {
     limit: u64,
     totals: Vec<u64>,
@@ -44,8 +46,8 @@ impl Model for Totals {
 }
 
 impl Totals {
-    /// Totals of 0, and a ledger without hits for each worker, in order, all held. Neither limit is above
-    /// `LARGEST_LIMIT`. O(links * workers), and nothing after it takes memory.
+    /// Totals of 0, and a ledger without hits for each worker, in order, all held. Neither limit is
+    /// above `LARGEST_LIMIT`. O(links * workers), and nothing after it takes memory.
     pub fn open(
         alloc: Global,
         links: usize,
@@ -53,10 +55,12 @@ impl Totals {
         ledger_limit: u64,
         total_limit: u64,
     ) -> Result<(Totals, Vec<Ledger>), NoMemory>
-        requires ledger { ledger_limit ≤ 2 ^ 62 }
-        requires total { total_limit ≤ 2 ^ 62 }
-        ensures totals { IfOk result (λ opened. opened.0 ≡ opened_totals links workers total_limit) }
-        ensures ledgers { IfOk result (λ opened. opened.1.items ≡ map (opened_ledger links ledger_limit) (range_with_len 0 workers)) }
+        requires ledger { ledger_limit ≤ greatest_limit }
+        requires total { total_limit ≤ greatest_limit }
+        ensures totals { IfOk result (λ opened. opened.0
+            ≡ opened_totals links workers total_limit) }
+        ensures ledgers { IfOk result (λ opened. opened.1.items ≡ map
+            (opened_ledger links ledger_limit) (range_with_len 0 workers)) }
         ensures held { IfOk result (λ opened. AreHeld opened.0 opened.1.items) }
     {
         let totals = Totals::zero(alloc, links, workers, total_limit)?;
@@ -66,7 +70,7 @@ impl Totals {
 
     // Totals of 0.
     fn zero(alloc: Global, links: usize, workers: usize, limit: u64) -> Result<Totals, NoMemory>
-        requires limit { limit ≤ 2 ^ 62 }
+        requires limit { limit ≤ greatest_limit }
         ensures value { IfOk result (λ t. t ≡ opened_totals links workers limit) }
     {
         Ok(Totals {
@@ -100,13 +104,14 @@ impl Totals {
         self.limit
     }
 
-    /// How often a link was hit, as far as the workers have flushed: the sum of their shares, and so of
-    /// what held ledgers have flushed, one of each worker.
+    /// How often a link was hit, as far as the workers have flushed: the sum of their shares, and
+    /// so of what held ledgers have flushed, one of each worker.
     pub fn total(&self, link: usize) -> u64
         requires inside { link < length self.now.total }
         ensures value { result ≡ at self.now.total link }
         ensures shares { result ≡ sum_by (λ share. at share link) self.now.shares }
-        ensures ledgers { (ledgers : List LedgerState) → AreHeld self.now ledgers → result ≡ sum_by (λ l. at l.flushed link) ledgers }
+        ensures ledgers { (ledgers : List LedgerState) → AreHeld self.now ledgers
+            → result ≡ sum_by (λ l. at l.flushed link) ledgers }
     {
         self.totals[link]
     }
@@ -119,8 +124,8 @@ impl Totals {
         self.totals.as_slice()
     }
 
-    /// Whether the totals hold a ledger: for its worker they keep, of each link, just the hits that this
-    /// ledger has flushed. O(links).
+    /// Whether the totals hold a ledger: for its worker they keep, of each link, just the hits that
+    /// this ledger has flushed. O(links).
     pub fn holds(&self, ledger: &Ledger) -> bool
         ensures decides { IsTrue result ↔ Holds self.now ledger.now }
     {
@@ -137,9 +142,9 @@ impl Totals {
         all_fit(&self.totals, ledger.unflushed_hits(), self.limit)
     }
 
-    /// Takes over the hits that a held ledger has not flushed: each total rises by the ledger's number for
-    /// its link, and these numbers become 0. The ledger stays held, and so do the ledgers of the other
-    /// workers. It takes no memory. O(links).
+    /// Takes over the hits that a held ledger has not flushed: each total rises by the ledger's
+    /// number for its link, and these numbers become 0. The ledger stays held, and so do the
+    /// ledgers of the other workers. It takes no memory. O(links).
     ///
     /// Refused just where some total would pass the limit, and then nothing changes.
     pub fn flush(&mut self, ledger: &mut Ledger) -> Result<(), TotalTooLarge>
@@ -147,12 +152,15 @@ impl Totals {
         ensures room { OnOk result (HasRoom self.old ledger.old) }
         ensures totals { OnOk result (self.new ≡ flushed_into self.old ledger.old) }
         ensures ledger { OnOk result (ledger.new ≡ settled ledger.old) }
-        ensures rises { OnOk result ((j : ℕ) → at self.new.total j ≡ at self.old.total j + at ledger.old.unflushed j) }
+        ensures rises { OnOk result ((j : ℕ) → at self.new.total j
+            ≡ at self.old.total j + at ledger.old.unflushed j) }
         ensures emptied { OnOk result ((j : ℕ) → at ledger.new.unflushed j ≡ 0) }
         ensures made { OnOk result ((j : ℕ) → made ledger.new j ≡ made ledger.old j) }
         ensures held { Holds self.new ledger.new }
-        ensures others { (l : LedgerState) → l.worker ≢ ledger.old.worker → Holds self.old l → Holds self.new l }
-        ensures all { (ledgers : List LedgerState) → AreHeld self.old ledgers → AreHeld self.new (slice_set ledgers ledger.old.worker ledger.new) }
+        ensures others { (l : LedgerState) → l.worker ≢ ledger.old.worker → Holds self.old l
+            → Holds self.new l }
+        ensures all { (ledgers : List LedgerState) → AreHeld self.old ledgers
+            → AreHeld self.new (slice_set ledgers ledger.old.worker ledger.new) }
         ensures full { OnErr result (HasRoom self.old ledger.old → ⊥) }
         ensures same { OnErr result (self.new ≡ self.old) }
         ensures kept { OnErr result (ledger.new ≡ ledger.old) }
@@ -181,7 +189,8 @@ impl Totals {
 
 // A share of zeros for each worker.
 fn open_shares(alloc: Global, links: usize, workers: usize) -> Result<Vec<Vec<u64>>, NoMemory>
-    ensures value { IfOk result (λ v. map (λ share. share.items) v.items ≡ replicate workers (replicate links 0)) }
+    ensures value { IfOk result (λ v. map (λ share. share.items) v.items ≡ replicate workers
+        (replicate links 0)) }
 {
     let mut shares = Vec::new(alloc);
     for _worker in 0..workers {
@@ -197,8 +206,9 @@ fn open_ledgers(
     workers: usize,
     limit: u64,
 ) -> Result<Vec<Ledger>, NoMemory>
-    requires limit { limit ≤ 2 ^ 62 }
-    ensures value { IfOk result (λ v. v.items ≡ map (opened_ledger links limit) (range_with_len 0 workers)) }
+    requires limit { limit ≤ greatest_limit }
+    ensures value { IfOk result (λ v. v.items ≡ map (opened_ledger links limit)
+        (range_with_len 0 workers)) }
 {
     let mut ledgers = Vec::new(alloc);
     for worker in 0..workers {

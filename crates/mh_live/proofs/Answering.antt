@@ -12,15 +12,13 @@ use Rattle.mh_core.specs.Problems.{IsTaken}
 use Rattle.mh_core.specs.Records.{plans, snapshots}
 use Rattle.mh_core.specs.Replayed.{controls, world}
 use Rattle.mh_core.specs.Rows.{tests}
-use Rattle.mh_core.specs.Tests.{Tests, test, take_memory, no_more, Passes, Refuses}
+use Rattle.mh_base.specs.Tests.{Tests, test, may_tell, no_more, Passes, Refuses}
 use Rattle.mh_core.specs.declared.record.Record.{Record}
-use Rattle.mh_core.specs.declared.record.Record.TheVariants.{Published}
+use Rattle.mh_core.specs.declared.record.Record.TheVariants.{Flushed, Targeted, Invalidated, Snapped, Published, Installed}
+use Rattle.mh_core.specs.Limits.{LimitsData}
 use Rattle.mh_core.specs.declared.refusal.Refusal.{Refusal}
 use Rattle.mh_core.specs.declared.refusal.Refusal.TheVariants.{NoMemory, NoSnapshot}
-use Rattle.mh_core.proofs.PastSnapshots.{snapshots_count}
-use Rattle.mh_core.proofs.PlanTables.{plans_count}
-use Rattle.mh_core.proofs.StandingTrees.{stands}
-use Rattle.mh_core.proofs.Worlds.{oldest_push, world_front, world_push}
+use Rattle.mh_core.proofs.PublicLaws.{snapshots_count, plans_count, stands, oldest_push, world_front, world_push}
 use Rattle.mh_live.proofs.Replays.{after_front}
 use Rattle.mh_live.specs.Offices.{list_of}
 use Rattle.mh_live.specs.Receipts.{IsLegalRefusal}
@@ -70,10 +68,23 @@ stands_after d w log b p c is definition ready replays list same =
 
 -- ---- refusals
 -- want of memory may be told where all tests pass
-passes_wanting : (t : Tests) → Passes t → Refuses t NoMemory
-passes_wanting no_more passes = refl
-passes_wanting (test fact tells later) passes = inr (passes.0, passes_wanting later passes.1)
-passes_wanting (take_memory later) passes = inl refl
+abbrev MayWant : Tests Refusal → Type 0
+MayWant (no_more tells) = tells NoMemory
+MayWant (test fact tells later) = MayWant later
+MayWant (may_tell tells later) = MayWant later
+
+passes_wanting : (t : Tests Refusal) → MayWant t → Passes t → Refuses t NoMemory
+passes_wanting (no_more tells) may passes = may
+passes_wanting (test fact tells later) may passes = inr (passes.0, passes_wanting later may passes.1)
+passes_wanting (may_tell tells later) may passes = inr (passes_wanting later may passes)
+
+may_want : (d : DefinitionData) (l : LimitsData) (n : ℕ) (r : List Record) (e : Record) → MayWant (tests d l n r e)
+may_want d l n r (Flushed w hits) = refl
+may_want d l n r (Targeted s tree) = refl
+may_want d l n r (Invalidated points) = refl
+may_want d l n r Snapped = refl
+may_want d l n r (Published snapshot plan) = refl
+may_want d l n r (Installed plan) = refl
 
 -- where no call was accepted beside the records
 pub plain_refusal : (b : BookState) (e : Record) (told : Refusal) → Refuses (tests b.definition b.limits (length b.records + 0) b.records e) told → IsLegalRefusal b e told
@@ -82,7 +93,7 @@ plain_refusal b e told refuses = subst (λ (n : ℕ). Refuses (tests b.definitio
 pub ready_refusal : (old mid : BookState) (p : PendingState) (told : Refusal) → SameBook old mid → p.calls ≡ 0 → IsReady mid p → told ≡ NoMemory → IsLegalRefusal old p.entry told
 ready_refusal old mid p told same none ready is =
     let moved : IsReady (record old { room = mid.room }) p = subst (λ (b : BookState). IsReady b p) same ready in
-    let legal : Refuses (tests old.definition old.limits (length old.records + p.calls) old.records p.entry) NoMemory = passes_wanting _ moved.passes in
+    let legal : Refuses (tests old.definition old.limits (length old.records + p.calls) old.records p.entry) NoMemory = passes_wanting (tests old.definition old.limits (length old.records + p.calls) old.records p.entry) (may_want old.definition old.limits (length old.records + p.calls) old.records p.entry) moved.passes in
     subst (IsLegalRefusal old p.entry) (sym is) (plain_refusal old p.entry NoMemory (subst (λ (n : ℕ). Refuses (tests old.definition old.limits (length old.records + n) old.records p.entry) NoMemory) none legal))
 
 pub unshared_refusal : (b : BookState) (n : ℕ) (plan : Plan) (told : Refusal) → ((told ≡ NoSnapshot) × (IsTaken b.records n → ⊥)) ⊎ ((told ≡ NoMemory) × IsTaken b.records n) → IsLegalRefusal b (Published n plan) told

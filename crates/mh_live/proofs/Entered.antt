@@ -8,7 +8,7 @@ use Rattle.mh_tree.specs.Limits.{point_bound}
 use Rattle.mh_tree.specs.Meaning.{mean, steps}
 use Rattle.mh_tree.specs.Typing.{IsTyped}
 use Rattle.mh_site.specs.Defined.{DefinitionData, site_at}
-use Rattle.mh_site.specs.Worlds.{WorldState, state_at}
+use Rattle.mh_site.specs.Worlds.{WorldState, state_at, environment}
 use Rattle.mh_live.specs.Rules.{Stands, world_after}
 use Rattle.mh_live.specs.declared.published.Published.{Published}
 use Rattle.mh_live.proofs.Replays.{after_front, after_points, after_sites}
@@ -29,10 +29,10 @@ module _ (book : Book) (d : DefinitionData) (x : Published) (stands : Stands boo
       linked_fits = subst (λ (m : Signature). Fits m a) (sym (stands.standing s h).linked_type) fits
 
       pub outcome_is : IsTyped (state_at x.world s).base.tree (site_at d s).method_type
-          → mean x.world.valid (state_at x.world s).linked.tree a ≡ mean (world_after d x.past.log).valid (state_at (world_after d x.past.log) s).base.tree a
+          → mean (environment x.world) (state_at x.world s).linked.tree a ≡ mean (environment (world_after d x.past.log)) (state_at (world_after d x.past.log) s).base.tree a
       outcome_is typed =
-          (stands.standing s h).faithful typed x.world.valid a fits
-          ∙ ap (λ (w : WorldState). mean w.valid (state_at w s).base.tree a) stands.replays
+          (stands.standing s h).faithful typed (environment x.world) a fits
+          ∙ ap (λ (w : WorldState). mean (environment w) (state_at w s).base.tree a) stands.replays
 
-      pub steps_are : steps x.world.valid (state_at x.world s).linked.tree a ≡ steps (world_after d x.past.log).valid (state_at (world_after d x.past.log) s).linked.tree a
-      steps_are = ap (λ (w : WorldState). steps w.valid (state_at w s).linked.tree a) stands.replays
+      pub steps_are : steps (environment x.world) (state_at x.world s).linked.tree a ≡ steps (environment (world_after d x.past.log)) (state_at (world_after d x.past.log) s).linked.tree a
+      steps_are = ap (λ (w : WorldState). steps (environment w) (state_at w s).linked.tree a) stands.replays

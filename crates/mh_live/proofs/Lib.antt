@@ -1,12 +1,13 @@
-pub mod Prefixes
-pub mod Adding
-pub mod Ruling
-pub mod Replays
-pub mod Opened
-pub mod Entered
-pub mod Fresh
-pub mod Showing
-pub mod Answering
-pub mod Receiving
-pub mod RollCalls
-pub mod Sending
+mod Adding
+mod Answering
+mod Entered
+mod Fresh
+mod Opened
+mod Prefixes
+pub mod PublicLaws
+mod Receiving
+mod Replays
+mod RollCalls
+mod Ruling
+mod Sending
+mod Showing

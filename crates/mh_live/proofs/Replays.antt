@@ -5,12 +5,12 @@ use Rattle.std.proofs.lemmas.List.{reverse-reverse, length-reverse}
 use Rattle.mh_site.specs.declared.control.Control.{Control}
 use Rattle.mh_site.specs.Defined.{DefinitionData}
 use Rattle.mh_site.specs.Worlds.{WorldState, opened, replay}
-use Rattle.mh_site.proofs.LookBack as back
+use Rattle.mh_site.proofs.PublicLaws as back
 use Rattle.mh_live.specs.Rules.{world_after}
 use Rattle.std.proofs.lemmas.List.FromFn.{length-map-range_with_len}
 
 -- the same world by its controls newest first
-backwards : (d : DefinitionData) (cs : List Control) → world_after d cs ≡ back.world d (reverse cs)
+backwards : (d : DefinitionData) (cs : List Control) → world_after d cs ≡ replay (opened d) (reverse (reverse cs))
 backwards d cs = ap (λ (l : List Control). replay (opened d) l) (sym (reverse-reverse cs))
 
 pub after_sites : (d : DefinitionData) (cs : List Control) → length (world_after d cs).sites ≡ length d.sites

@@ -15,7 +15,7 @@ use Rattle.mh_tree.proofs.node.Node.TheLaws.TheKnot as nodes
 use Rattle.mh_tree.proofs.operand.Operand.TheSendSync as operand
 use Rattle.mh_tree.proofs.piece.Piece.TheLaws.TheKnot as pieces
 use Rattle.mh_site.proofs.link.Link.TheSendSync as link
-use Rattle.mh_site.proofs.listing.Listing.TheSendSync as listing
+use Rattle.mh_base.proofs.listing.Listing.TheSendSync as listing
 use Rattle.mh_site.proofs.name.Name.TheSendSync as name
 use Rattle.mh_site.proofs.numbering.Numbering.TheSendSync as numbering
 use Rattle.mh_site.proofs.point.Point.TheSendSync as point

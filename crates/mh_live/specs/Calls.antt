@@ -6,7 +6,7 @@ use Rattle.mh_tree.specs.Meaning.{mean, steps}
 use Rattle.mh_eval.specs.Entered.{EntersPlain}
 use Rattle.mh_ledger.specs.Ledgers.{LedgerState, at, with_hit}
 use Rattle.mh_site.specs.Defined.{DefinitionData, site_at}
-use Rattle.mh_site.specs.Worlds.{state_at}
+use Rattle.mh_site.specs.Worlds.{state_at, environment}
 use Rattle.mh_site.specs.declared.control.Control.{Control}
 use Rattle.mh_core.specs.Hits.{hits}
 use Rattle.mh_live.specs.Rules.{world_after}
@@ -22,8 +22,8 @@ pub record MayCall (d : DefinitionData) (l : LedgerState) (s : ℕ) (a : List Va
 
 -- by the world after one list of controls: what the base tree gives, the nodes of the linked tree that were entered, and how long the list is
 pub record AnswersBy (d : DefinitionData) (controls : List Control) (s : ℕ) (a : List Value) (answer : Answer) : Type 0 where
-  pub value : let w = world_after d controls in answer.outcome ≡ mean w.valid (state_at w s).base.tree a
-  pub entered : let w = world_after d controls in answer.steps ≡ steps w.valid (state_at w s).linked.tree a
+  pub value : let w = world_after d controls in answer.outcome ≡ mean (environment w) (state_at w s).base.tree a
+  pub entered : let w = world_after d controls in answer.steps ≡ steps (environment w) (state_at w s).linked.tree a
   pub count : answer.front ≡ length controls
 
 -- the link that is hit has one more hit, and no other
@@ -47,4 +47,4 @@ IsUntried _ = Unit {0}
 
 -- by the world after these controls the linked tree enters no node that has String in its type, so that it takes no memory
 abbrev pub TakesNoMemory : DefinitionData → List Control → ℕ → List Value → Type 0
-TakesNoMemory d controls s a = let w = world_after d controls in EntersPlain w.valid (state_at w s).linked.tree a
+TakesNoMemory d controls s a = let w = world_after d controls in EntersPlain (environment w) (state_at w s).linked.tree a

@@ -9,10 +9,6 @@ most_workers = 64
 abbrev pub most_controls : ℕ
 most_controls = 2 ^ 62
 
--- the most hits of a link in the totals
-abbrev pub most_hits : ℕ
-most_hits = 2 ^ 62
-
 -- the most hits of a link that all passes made and did not flush
 abbrev pub most_hits_of_all : ℕ
 most_hits_of_all = 2 ^ 126

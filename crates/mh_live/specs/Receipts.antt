@@ -11,7 +11,7 @@ use Rattle.mh_core.specs.Problems.{IsTaken, problem_at}
 use Rattle.mh_core.specs.Records.{hits_in, plans, snapshots}
 use Rattle.mh_core.specs.Replayed.{controls}
 use Rattle.mh_core.specs.Rows.{tests}
-use Rattle.mh_core.specs.Tests.{Passes, Refuses}
+use Rattle.mh_base.specs.Tests.{Passes, Refuses}
 use Rattle.mh_core.specs.declared.record.Record.{Record}
 use Rattle.mh_core.specs.declared.record.Record.TheVariants.{Flushed, Targeted, Invalidated, Snapped, Published, Installed}
 use Rattle.mh_core.specs.declared.refusal.Refusal.{Refusal}

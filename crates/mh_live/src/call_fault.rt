@@ -5,8 +5,8 @@ ghost use Rattle.mh_live.specs.Faults.{call_fault_number};
 
 use thiserror::Error;
 
-/// Why a call was refused: the first test that failed, in the order of their numbers, of which `NoMemory`
-/// comes last. A refused call counts no hit.
+/// Why a call was refused: the first test that failed, in the order of their numbers, of which
+/// `NoMemory` comes last. A refused call counts no hit.
 #[derive(Clone, Copy, Debug, PartialEq, Eq, Error)]
 pub enum CallFault {
     /// A growth or a further owner of a text was refused.

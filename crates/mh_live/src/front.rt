@@ -1,4 +1,5 @@
-//! The one list of controls. It exists in the proofs alone; what threads share is a word, its length.
+//! The one list of controls. It exists in the proofs alone; what threads share is a word, its
+//! length.
 
 ghost use Rattle.std.specs.Prelude.{◌≡◌, ◌+◌, ◌<◌, ◌≤◌, ◌++◌, ◌∷◌, ◌⊎◌, [], length, IfSome, None as none_of};
 ghost use mathlib.Core.List.{IsPrefix};
@@ -7,6 +8,7 @@ ghost use Rattle.mh_live.specs.Pasts.{head_of};
 
 use logbook::{Gain, Offer, Plain, Play, Rule, Seen, Start, Word};
 use mh_site::Control;
+use std::fmt;
 use std::marker::{Brand, Model, PhantomData};
 
 /// The rule of the list: the word is its length.
@@ -62,8 +64,9 @@ pub type Past = Seen<Control, u64, Law>;
 /// A control that is to be added. It has no bytes.
 pub type Intent = Offer<Control, u64, Law, Nothing>;
 
-/// Which list of controls it is, and of which definition: an opening makes a list, and its office, passes and
-/// receipts all carry its name. A caller takes it as a type parameter and picks it where it opens.
+/// Which list of controls it is, and of which definition: an opening makes a list, and its office,
+/// passes and receipts all carry its name. A caller takes it as a type parameter and picks it where
+/// it opens.
 pub trait Name {
     ghost use Rattle.logbook.specs.Pages.{Book};
     ghost use Rattle.mh_site.specs.Defined.{DefinitionData};
@@ -126,8 +129,8 @@ impl Unnamed {
     }
 }
 
-/// A beginning of the list of controls that was reached. Contracts see it as its controls, oldest first. It
-/// takes 8 bytes whatever its length.
+/// A beginning of the list of controls that was reached. Contracts see it as its controls, oldest
+/// first. It takes 8 bytes whatever its length.
 #[derive(Drop)]
 pub struct Front<N: Name> {
     count: u64,
@@ -149,6 +152,13 @@ impl<N: Name> Model for Front<N> {
     ghost invariant = { λ f. (f.count ≡ length f.past.log) × (f.past.book ≡ N.book) × (f.past.names ≡ []) };
 }
 
+/// How many controls it has.
+impl<N: Name> fmt::Debug for Front<N> {
+    fn fmt<W: fmt::Write>(&self, f: &mut fmt::Formatter<W>) -> fmt::Result {
+        write!(f, "Front({} controls)", self.len())
+    }
+}
+
 impl<N: Name> Front<N> {
     /// How many controls it has.
     pub fn len(&self) -> u64
@@ -168,8 +178,8 @@ impl<N: Name> Front<N> {
         }
     }
 
-    /// Of two fronts of one list the one that is no longer begins the other. It runs no code: a caller
-    /// calls it for what it says.
+    /// Of two fronts of one list the one that is no longer begins the other. It runs no code: a
+    /// caller calls it for what it says.
     pub fn compare(&self, other: &Front<N>)
         ensures shorter { length self.now ≤ length other.now → IsPrefix self.now other.now }
         ensures longer { length other.now ≤ length self.now → IsPrefix other.now self.now }
@@ -202,7 +212,8 @@ impl<N: Name> Front<N> {
 
     /// The front of a beginning that is so long.
     pub fn of(past: &Past, count: u64) -> Front<N>
-        requires past { (count ≡ length past.now.log) × (past.now.book ≡ N.book) × (past.now.names ≡ []) }
+        requires past { (count ≡ length past.now.log) × (past.now.book ≡ N.book)
+            × (past.now.names ≡ []) }
         ensures value { result ≡ past.now.log }
     {
         Front {
@@ -214,7 +225,8 @@ impl<N: Name> Front<N> {
 
     /// The control as one that is to be added.
     pub fn intend(&self, control: &Control) -> Intent
-        ensures value { (result.ask ≡ control.now) × (result.state ≡ none_of) × (result.names ≡ []) }
+        ensures value { (result.ask ≡ control.now) × (result.state ≡ none_of)
+            × (result.names ≡ []) }
     {
         self.past.plain::<Nothing, Control, Add>(control)
     }

@@ -1,16 +1,17 @@
-//! Running threads over a book: many threads call at once without a lock, while one at a time, under a lock,
-//! changes the world.
+//! Running threads over a book: many threads call at once without a lock, while one at a time,
+//! under a lock, changes the world.
 //!
-//! An `Opening` gives a `Live`, which all threads share, and a `Pass` for each worker. There are two copies of
-//! the world. Calls read one of them; a change is made in the other, which calls read from then on, and then
-//! in the first. So a call is answered by one world, and takes no lock, no memory for it and no owner of a
-//! tree.
+//! An `Opening` gives a `Live`, which all threads share, and a `Pass` for each worker. There are
+//! two copies of the world. Calls read one of them; a change is made in the other, which calls read
+//! from then on, and then in the first. So a call is answered by one world, and takes no lock, no
+//! memory for it and no owner of a tree.
 //!
-//! All that changes a world is in one list of controls, of which each published world is the replay of a
-//! beginning. What a pass has seen, and the receipt of a change, are beginnings of that list: a pass that has
-//! learnt a receipt answers by no world before it.
+//! All that changes a world is in one list of controls, of which each published world is the replay
+//! of a beginning. What a pass has seen, and the receipt of a change, are beginnings of that list:
+//! a pass that has learnt a receipt answers by no world before it.
 //!
-//! What its calls name of the crates below stands here too, and the whole of mh_core under its own name:
+//! What its calls name of the crates below stands here too, and the whole of mh_core under its own
+//! name:
 //!
 //! ```
 //! let opening = Opening::new(alloc, &definition, 2, limits)?;

@@ -23,15 +23,24 @@ use mh_network::Problem;
 use mh_site::Listing;
 use mh_tree::Declared;
 use std::alloc::Global;
+use std::fmt;
 use std::sync::{Mutex, MutexGuard, Wait};
 
-/// An office that many threads share: one at a time, under a lock, changes the world that all passes read.
+/// An office that many threads share: one at a time, under a lock, changes the world that all
+/// passes read.
 ///
-/// A method that says `rt` may wait for the lock. One that changes the world also waits for the passes that
-/// are inside a call.
+/// A method that says `rt` may wait for the lock. One that changes the world also waits for the
+/// passes that are inside a call.
 #[derive(Drop)]
 pub struct Live<N: Name> {
     office: Mutex<Office<N>>,
+}
+
+/// Its name alone: what it keeps stands under its lock.
+impl<N: Name> fmt::Debug for Live<N> {
+    fn fmt<W: fmt::Write>(&self, f: &mut fmt::Formatter<W>) -> fmt::Result {
+        f.write_str("Live")
+    }
 }
 
 impl<N: Name> Live<N> {
@@ -42,20 +51,21 @@ impl<N: Name> Live<N> {
         }
     }
 
-    /// The office, which no other thread enters until what this gives is dropped: for what is asked of one state
-    /// of it, as its book, whether it is closed, or several changes with nothing between them. Its methods say
-    /// which records they append to. A thread that has it must call no method here that says `rt`, which would
-    /// wait for itself.
+    /// The office, which no other thread enters until what this gives is dropped: for what is asked
+    /// of one state of it, as its book, whether it is closed, or several changes with nothing
+    /// between them. Its methods say which records they append to. A thread that has it must call
+    /// no method here that says `rt`, which would wait for itself.
     pub fn office<R: Wait>(&self, rt: &R) -> MutexGuard<'_, Office<N>> {
         self.office.lock(rt)
     }
 
-    /// Gives a site another tree (`MutableCallSite.setTarget`). The receipt's list ends with that control: a
-    /// pass that learns the receipt sees it.
+    /// Gives a site another tree (`MutableCallSite.setTarget`). The receipt's list ends with that
+    /// control: a pass that learns the receipt sees it.
     ///
-    /// Refused with `NoSite`, with `WrongType` where the tree is of another type than the site, with `NoPoint`
-    /// where it names a point past the last, with `HistoryFull`, and then with `NoMemory`; nothing is recorded
-    /// and passes read what they read before. Where memory ran out half way, each later control is refused so.
+    /// Refused with `NoSite`, with `WrongType` where the tree is of another type than the site,
+    /// with `NoPoint` where it names a point past the last, with `HistoryFull`, and then with
+    /// `NoMemory`; nothing is recorded and passes read what they read before. Where memory ran out
+    /// half way, each later control is refused so.
     pub fn set_target<R: Wait>(
         &self,
         rt: &R,
@@ -63,29 +73,33 @@ impl<N: Name> Live<N> {
         tree: Declared,
     ) -> Result<Receipt<N>, Refusal>
         ensures receipt { IfOk result (IsReceipt N.definition (Targeted site tree)) }
-        ensures ends { IfOk result (λ r. (before : List Control) × (r.front ≡ before ++ Target record { site = site; tree = tree } ∷ [])) }
+        ensures ends { IfOk result (λ r. (before : List Control)
+            × (r.front ≡ before ++ Target record { site = site; tree = tree } ∷ [])) }
         ensures refused { IfErr result (IsRefusal N.definition (Targeted site tree)) }
     {
         self.office.lock(rt).target(rt, site, tree)
     }
 
-    /// Invalidates points (`SwitchPoint.invalidateAll`); they may be none, and may be invalid already. The
-    /// receipt's list ends with that control.
+    /// Invalidates points (`SwitchPoint.invalidateAll`); they may be none, and may be invalid
+    /// already. The receipt's list ends with that control.
     ///
-    /// Refused with `NoPoint` where a number is past the last point, with `HistoryFull`, and then with
-    /// `NoMemory`, as `set_target` is.
+    /// Refused with `NoPoint` where a number is past the last point, with `HistoryFull`, and then
+    /// with `NoMemory`, as `set_target` is.
     pub fn invalidate<R: Wait>(&self, rt: &R, points: Listing<u32>) -> Result<Receipt<N>, Refusal>
         ensures receipt { IfOk result (IsReceipt N.definition (Invalidated points)) }
-        ensures ends { IfOk result (λ r. (before : List Control) × (r.front ≡ before ++ Invalidate points ∷ [])) }
+        ensures ends { IfOk result (λ r. (before : List Control)
+            × (r.front ≡ before ++ Invalidate points ∷ [])) }
         ensures refused { IfErr result (IsRefusal N.definition (Invalidated points)) }
     {
         self.office.lock(rt).invalidate(rt, points)
     }
 
-    /// Takes a snapshot of the totals and of which points are valid, and answers its number, from 1.
+    /// Takes a snapshot of the totals and of which points are valid, and answers its number, from
+    /// 1.
     ///
-    /// Refused with `HistoryFull` also where there are 1,024 snapshots, with `GainTooLarge` where the gains of
-    /// its problem would add up to more than 2^62, and then with `NoMemory`; nothing changes.
+    /// Refused with `HistoryFull` also where there are 1,024 snapshots, with `GainTooLarge` where
+    /// the gains of its problem would add up to more than 2^62, and then with `NoMemory`; nothing
+    /// changes.
     pub fn snapshot<R: Wait>(&self, rt: &R) -> Result<Receipt<N>, Refusal>
         ensures receipt { IfOk result (IsReceipt N.definition Snapped) }
         ensures refused { IfErr result (IsRefusal N.definition Snapped) }
@@ -105,9 +119,9 @@ impl<N: Name> Live<N> {
 
     /// Publishes a plan for the problem of a snapshot, and answers the plan and its number, from 1.
     ///
-    /// Refused with `NoSnapshot`, with `PlanRefused` where the checker refuses the plan, with `HistoryFull` also
-    /// where there are 1,024 plans, and then with `NoMemory`; where the checker finds no memory, `NoMemory`
-    /// stands in place of the last two. Nothing changes.
+    /// Refused with `NoSnapshot`, with `PlanRefused` where the checker refuses the plan, with
+    /// `HistoryFull` also where there are 1,024 plans, and then with `NoMemory`; where the checker
+    /// finds no memory, `NoMemory` stands in place of the last two. Nothing changes.
     pub fn publish<R: Wait>(
         &self,
         rt: &R,
@@ -120,14 +134,15 @@ impl<N: Name> Live<N> {
         self.office.lock(rt).publish(snapshot, plan)
     }
 
-    /// Installs the newest plan, and answers what became of each site that it or the links of now concern. The
-    /// receipt's list ends with that control.
+    /// Installs the newest plan, and answers what became of each site that it or the links of now
+    /// concern. The receipt's list ends with that control.
     ///
-    /// Refused with `NoPlan`, with `OldPlan` where a newer plan was published, with `HistoryFull`, and then with
-    /// `NoMemory`, as `set_target` is.
+    /// Refused with `NoPlan`, with `OldPlan` where a newer plan was published, with `HistoryFull`,
+    /// and then with `NoMemory`, as `set_target` is.
     pub fn install<R: Wait>(&self, rt: &R, plan: usize) -> Result<Receipt<N>, Refusal>
         ensures receipt { IfOk result (IsReceipt N.definition (Installed plan)) }
-        ensures ends { IfOk result (λ r. (before : List Control) × (changes : List Relinked) × (r.front ≡ before ++ Install changes ∷ [])) }
+        ensures ends { IfOk result (λ r. (before : List Control) × (changes : List Relinked)
+            × (r.front ≡ before ++ Install changes ∷ [])) }
         ensures refused { IfErr result (IsRefusal N.definition (Installed plan)) }
     {
         self.office.lock(rt).install(rt, plan)
@@ -135,10 +150,13 @@ impl<N: Name> Live<N> {
 
     /// Adds the hits that a pass has not flushed to the totals. The pass learns the receipt.
     ///
-    /// Refused with `NotHeld` where the totals do not hold the pass's ledger, with `HistoryFull`, with
-    /// `TotalTooLarge` where some total would pass its limit, and then with `NoMemory`; nothing changes.
+    /// Refused with `NotHeld` where the totals do not hold the pass's ledger, with `HistoryFull`,
+    /// with `TotalTooLarge` where some total would pass its limit, and then with `NoMemory`;
+    /// nothing changes.
     pub fn flush<R: Wait>(&self, rt: &R, pass: &mut Pass<N>) -> Result<Receipt<N>, FlushFault>
-        ensures receipt { IfOk result (IsReceipt N.definition (Flushed pass.old.ledger.worker (hits_in pass.old.ledger.unflushed))) }
+        ensures receipt { IfOk result
+            (IsReceipt N.definition (Flushed pass.old.ledger.worker
+            (hits_in pass.old.ledger.unflushed))) }
         ensures ledger { OnOk result (pass.new.ledger ≡ settled pass.old.ledger) }
         ensures seen { OnOk result (IsPrefix pass.old.seen pass.new.seen) }
         ensures learnt { IfOk result (λ r. IsPrefix r.front pass.new.seen) }
@@ -150,11 +168,11 @@ impl<N: Name> Live<N> {
         Ok(receipt)
     }
 
-    /// Takes the lock apart once all passes are back, in any order, and waits for the last readers to leave.
-    /// For each link, what the passes made is the total and what they have not flushed.
+    /// Takes the lock apart once all passes are back, in any order, and waits for the last readers
+    /// to leave. For each link, what the passes made is the total and what they have not flushed.
     ///
-    /// Refused with `MissingPass` where a worker's pass is not there, is there twice, or has a ledger that the
-    /// totals do not hold, and then with `NoMemory`; all is handed back as it was.
+    /// Refused with `MissingPass` where a worker's pass is not there, is there twice, or has a
+    /// ledger that the totals do not hold, and then with `NoMemory`; all is handed back as it was.
     pub fn settle<R: Wait>(
         self,
         rt: &R,

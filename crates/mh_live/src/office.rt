@@ -19,13 +19,14 @@ use mh_core::{Book, PendingChange, Refusal, Reply, SharedPlan};
 use mh_ledger::Ledger;
 use mh_site::Listing;
 use mh_tree::Declared;
+use std::fmt;
 use std::marker::Model;
 use std::mem::ManuallyDrop;
 use std::sync::Wait;
 
-/// A book with the writer of the published world. What changes the world is published in one step, and the
-/// book takes it after that. End it by `close`: a drop leaks the published world, since it may not wait for
-/// readers.
+/// A book with the writer of the published world. What changes the world is published in one step,
+/// and the book takes it after that. End it by `close`: a drop leaks the published world, since it
+/// may not wait for readers.
 pub struct Office<N: Name> {
     book: Book,
     head: Head<N>,
@@ -43,9 +44,20 @@ impl<N: Name> Model for Office<N> {
 
     ghost coded = { coded_office };
 
-    ghost view = { λ o. record { book = o.book; published = o.writer.desk.shown.value.past.log; closed = o.closed } };
+    ghost view = { λ o. record {
+      book = o.book;
+      published = o.writer.desk.shown.value.past.log;
+      closed = o.closed;
+    } };
 
     ghost invariant = { λ o. InStep N.book N.definition o.writer.desk.shown.value (drop o.writer.behind o.writer.log.items) o.front o.book o.closed };
+}
+
+/// Its book.
+impl<N: Name> fmt::Debug for Office<N> {
+    fn fmt<W: fmt::Write>(&self, f: &mut fmt::Formatter<W>) -> fmt::Result {
+        write!(f, "Office({:?})", self.book)
+    }
 }
 
 impl<N: Name> Drop for Office<N> {
@@ -76,7 +88,8 @@ impl<N: Name> Office<N> {
     ) -> Office<N>
         requires book { (book.records ≡ []) × (book.definition ≡ N.definition) }
         requires front { front ≡ [] }
-        requires writer { Stands N.book N.definition writer.desk.shown.value × (writer.desk.shown.value.past.log ≡ []) × (drop writer.behind writer.log.items ≡ []) }
+        requires writer { Stands N.book N.definition writer.desk.shown.value
+            × (writer.desk.shown.value.past.log ≡ []) × (drop writer.behind writer.log.items ≡ []) }
         ensures value { (result.book ≡ book) × (result.published ≡ []) × (result.closed ≡ false) }
     {
         Office {
@@ -113,15 +126,21 @@ impl<N: Name> Office<N> {
         self.closed
     }
 
-    /// Adds the hits that a ledger has not flushed to the totals. It changes no world, and publishes nothing.
+    /// Adds the hits that a ledger has not flushed to the totals. It changes no world, and
+    /// publishes nothing.
     ///
-    /// Refused with `NotHeld` where the totals do not hold the ledger, and then as by the book; nothing changes.
+    /// Refused with `NotHeld` where the totals do not hold the ledger, and then as by the book;
+    /// nothing changes.
     pub fn flush(&mut self, ledger: &mut Ledger) -> Result<Receipt<N>, FlushFault>
         ensures office { IsOffice N.definition self.old }
         ensures held { OnOk result (Holds self.old.book.totals ledger.old) }
-        ensures accepted { IfOk result (λ r. Accepts self.old (Flushed ledger.old.worker (hits_in ledger.old.unflushed)) r self.new) }
+        ensures accepted { IfOk result
+            (λ r. Accepts self.old (Flushed ledger.old.worker (hits_in ledger.old.unflushed)) r
+            self.new) }
         ensures ledger { OnOk result (ledger.new ≡ settled ledger.old) }
-        ensures others { OnOk result ((ledgers : List LedgerState) → AreHeld self.old.book.totals ledgers → AreHeld self.new.book.totals (slice_set ledgers ledger.old.worker ledger.new)) }
+        ensures others { OnOk result ((ledgers : List LedgerState)
+            → AreHeld self.old.book.totals ledgers
+            → AreHeld self.new.book.totals (slice_set ledgers ledger.old.worker ledger.new)) }
         ensures refused { IfErr result (IsLegalFault self.old.book ledger.old) }
         ensures kept { OnErr result ((self.new ≡ self.old) × (ledger.new ≡ ledger.old)) }
     {
@@ -136,7 +155,8 @@ impl<N: Name> Office<N> {
         }
     }
 
-    /// Takes a snapshot, and answers its number, from 1. It changes no world, and publishes nothing.
+    /// Takes a snapshot, and answers its number, from 1. It changes no world, and publishes
+    /// nothing.
     ///
     /// Refused as by the book; nothing changes.
     #[tactic(auto, using(crate::proofs::Answering::snapshots_taken))]
@@ -153,14 +173,15 @@ impl<N: Name> Office<N> {
         Ok(Receipt::new(Reply::Taken { snapshot }, self.front.copy()))
     }
 
-    /// Publishes a plan for the problem of a snapshot, and answers the plan and its number, from 1. It changes
-    /// no world, and passes read what they read before.
+    /// Publishes a plan for the problem of a snapshot, and answers the plan and its number, from 1.
+    /// It changes no world, and passes read what they read before.
     ///
     /// Refused as by the book; nothing changes.
     #[tactic(auto, using(crate::proofs::Answering::plans_published))]
     pub fn publish(&mut self, snapshot: usize, plan: SharedPlan) -> Result<Receipt<N>, Refusal>
         ensures office { IsOffice N.definition self.old }
-        ensures accepted { IfOk result (λ r. Accepts self.old (Published snapshot plan) r self.new) }
+        ensures accepted { IfOk result
+            (λ r. Accepts self.old (Published snapshot plan) r self.new) }
         ensures totals { self.new.book.totals ≡ self.old.book.totals }
         ensures refused { IfErr result (IsLegalRefusal self.old.book (Published snapshot plan)) }
         ensures kept { OnErr result (self.new ≡ self.old) }
@@ -176,8 +197,8 @@ impl<N: Name> Office<N> {
 
     /// Retargets a site (`MutableCallSite.setTarget`), by one publication.
     ///
-    /// Refused as by the book, and with `NoMemory` where no test fails and the office is closed, or what passes
-    /// read cannot be changed. Records and what passes read stay as they are.
+    /// Refused as by the book, and with `NoMemory` where no test fails and the office is closed, or
+    /// what passes read cannot be changed. Records and what passes read stay as they are.
     pub fn target<R: Wait>(
         &mut self,
         rt: &R,
@@ -200,8 +221,8 @@ impl<N: Name> Office<N> {
 
     /// Invalidates points (`SwitchPoint.invalidateAll`), by one publication.
     ///
-    /// Refused as by the book, and with `NoMemory` where no test fails and the office is closed, or what passes
-    /// read cannot be changed. Records and what passes read stay as they are.
+    /// Refused as by the book, and with `NoMemory` where no test fails and the office is closed, or
+    /// what passes read cannot be changed. Records and what passes read stay as they are.
     pub fn invalidate<R: Wait>(
         &mut self,
         rt: &R,
@@ -223,8 +244,8 @@ impl<N: Name> Office<N> {
 
     /// Installs the newest plan, by one publication, and answers what became of the sites.
     ///
-    /// Refused as by the book, and with `NoMemory` where no test fails and the office is closed, or what passes
-    /// read cannot be changed. Records and what passes read stay as they are.
+    /// Refused as by the book, and with `NoMemory` where no test fails and the office is closed, or
+    /// what passes read cannot be changed. Records and what passes read stay as they are.
     pub fn install<R: Wait>(&mut self, rt: &R, plan: usize) -> Result<Receipt<N>, Refusal>
         ensures office { IsOffice N.definition self.old }
         ensures accepted { IfOk result (λ r. Accepts self.old (Installed plan) r self.new) }
@@ -240,8 +261,8 @@ impl<N: Name> Office<N> {
         self.accept(rt, change, Reply::Installed(report))
     }
 
-    // Publishes a prepared control, and then commits it. What is refused after the control is pending closes
-    // the office.
+    // Publishes a prepared control, and then commits it. What is refused after the control is
+    // pending closes the office.
     fn accept<R: Wait>(
         &mut self,
         rt: &R,
@@ -250,11 +271,13 @@ impl<N: Name> Office<N> {
     ) -> Result<Receipt<N>, Refusal>
         requires ready { IsReady self.old.book change }
         requires calls { change.calls ≡ 0 }
-        requires reply { reply ≡ reply_to self.old.book.definition self.old.book.records change.entry }
+        requires reply { reply ≡ reply_to self.old.book.definition self.old.book.records
+            change.entry }
         ensures accepted { IfOk result (λ r. Accepts self.old change.entry r self.new) }
         ensures open { OnOk result (self.old.closed ≡ false) }
         ensures totals { self.new.book.totals ≡ self.old.book.totals }
-        ensures refused { IfErr result (λ told. (told ≡ Refusal.NoMemory) × (self.new.book ≡ self.old.book) × (self.new.published ≡ self.old.published)) }
+        ensures refused { IfErr result (λ told. (told ≡ Refusal.NoMemory)
+            × (self.new.book ≡ self.old.book) × (self.new.published ≡ self.old.published)) }
         ensures closed { IfErr result (λ told. MayClose self.old told self.new) }
     {
         // Read for what a book keeps.
@@ -301,7 +324,8 @@ impl<N: Name> Office<N> {
 
 // What is told of a plan of which no further owner could be made.
 fn refusal_of_plan(book: &Book, snapshot: usize) -> Refusal
-    ensures value { ((result ≡ Refusal.NoSnapshot) × (IsTaken book.now.records snapshot → ⊥)) ⊎ ((result ≡ Refusal.NoMemory) × IsTaken book.now.records snapshot) }
+    ensures value { ((result ≡ Refusal.NoSnapshot) × (IsTaken book.now.records snapshot → ⊥))
+        ⊎ ((result ≡ Refusal.NoMemory) × IsTaken book.now.records snapshot) }
 {
     match book.problem(snapshot) {
         Ok(_) => Refusal::NoMemory,

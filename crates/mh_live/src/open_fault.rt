@@ -3,6 +3,7 @@
 ghost use Rattle.std.specs.Prelude.{◌≡◌};
 ghost use Rattle.mh_live.specs.Faults.{open_fault_number};
 
+use mh_base::NoMemory;
 use std::alloc::{AllocError, AllocFailed};
 use thiserror::Error;
 
@@ -41,20 +42,8 @@ impl<T: Drop> From<AllocFailed<T>> for OpenFault {
     }
 }
 
-impl From<mh_core::NoMemory> for OpenFault {
-    fn from(_refused: mh_core::NoMemory) -> OpenFault {
-        OpenFault::NoMemory
-    }
-}
-
-impl From<mh_site::NoMemory> for OpenFault {
-    fn from(_refused: mh_site::NoMemory) -> OpenFault {
-        OpenFault::NoMemory
-    }
-}
-
-impl From<mh_eval::NoMemory> for OpenFault {
-    fn from(_refused: mh_eval::NoMemory) -> OpenFault {
+impl From<NoMemory> for OpenFault {
+    fn from(_refused: NoMemory) -> OpenFault {
         OpenFault::NoMemory
     }
 }

@@ -1,7 +1,6 @@
 //! What an office and its passes are made of.
 
 ghost use Rattle.std.specs.Prelude.{◌≡◌, ◌+◌, ◌<◌, ◌≤◌, [], length, map, drop, IfOk};
-ghost use Rattle.std.specs.Arc.{arc_value};
 ghost use Rattle.std.specs.List.{All};
 ghost use Rattle.mh_ledger.specs.Ledgers.{AreHeld};
 ghost use Rattle.mh_site.specs.Lawful.{IsDefinition};
@@ -24,13 +23,14 @@ use mh_eval::Stack;
 use mh_ledger::Ledger;
 use mh_site::{Definition, World};
 use std::alloc::{AllocError, Global};
+use std::fmt;
 use std::marker::Model;
-use std::sync::Arc;
 
 /// The most workers of an opening.
 pub const MOST_WORKERS: u32 = 64;
 
-/// What an office and its passes are made of. It makes a list of controls, which still has to get its name.
+/// What an office and its passes are made of. It makes a list of controls, which still has to get
+/// its name.
 #[derive(Drop)]
 pub struct Opening {
     list: Unnamed,
@@ -38,14 +38,13 @@ pub struct Opening {
     ledgers: Vec<Ledger>,
     first: World,
     second: World,
-    definition: Arc<Definition>,
+    definition: Definition,
     workers: u32,
     alloc: Global,
 }
 
 impl Model for Opening {
     ghost use Rattle.std.specs.Prelude.{◌≡◌, ◌<◌, ◌≤◌};
-    ghost use Rattle.std.specs.Arc.{arc_value};
     ghost use Rattle.mh_live.specs.Codes.{coded_opening};
     ghost use Rattle.mh_live.specs.Openings.{OpeningState, IsOpening};
 
@@ -53,14 +52,32 @@ impl Model for Opening {
 
     ghost coded = { coded_opening };
 
-    ghost view = { λ o. record { name = o.list.past.book; definition = o.book.definition; workers = o.workers; limits = o.book.limits } };
+    ghost view = { λ o. record {
+      name = o.list.past.book;
+      definition = o.book.definition;
+      workers = o.workers;
+      limits = o.book.limits;
+    } };
 
-    ghost invariant = { λ o. IsOpening record { name = o.list.past.book; definition = o.book.definition; workers = o.workers; limits = o.book.limits } o.book o.ledgers.items o.first o.second (arc_value o.definition) };
+    ghost invariant = { λ o. IsOpening record {
+      name = o.list.past.book;
+      definition = o.book.definition;
+      workers = o.workers;
+      limits = o.book.limits;
+    } o.book o.ledgers.items o.first o.second o.definition };
+}
+
+/// For how many workers it is, and the definition.
+impl fmt::Debug for Opening {
+    fn fmt<W: fmt::Write>(&self, f: &mut fmt::Formatter<W>) -> fmt::Result {
+        let (workers, definition) = (self.workers, &self.definition);
+        write!(f, "Opening({workers} workers, {definition:?})")
+    }
 }
 
 impl Opening {
-    /// What the office of a definition and the passes of so many workers, 1 to 64, are made of. Refused where
-    /// a growth was refused, or a further owner of a tree.
+    /// What the office of a definition and the passes of so many workers, 1 to 64, are made of.
+    /// Refused where a growth was refused, or a further owner of a tree.
     pub fn new(
         alloc: Global,
         definition: &Definition,
@@ -74,7 +91,7 @@ impl Opening {
     {
         // Read for what a definition keeps.
         let _sites = definition.sites();
-        let shared = Arc::new(alloc, definition.share(alloc)?)?;
+        let shared = definition.share()?;
         let first = World::open(alloc, definition)?;
         let second = World::open(alloc, definition)?;
         let (book, ledgers) = Book::open(alloc, definition, workers, limits)?;
@@ -90,14 +107,19 @@ impl Opening {
         })
     }
 
-    /// The office, and a pass for each worker, in order. N names this opening: its book, and its definition.
+    /// The office, and a pass for each worker, in order. N names this opening: its book, and its
+    /// definition.
     ///
-    /// Refused with `NoMemory`, and with `NoReader` where no reader of the published world can be made.
+    /// Refused with `NoMemory`, and with `NoReader` where no reader of the published world can be
+    /// made.
     pub fn open<N: Name>(self) -> Result<(Live<N>, Vec<Pass<N>>), OpenFault>
         requires name { self.name ≡ N.book }
         requires definition { self.definition ≡ N.definition }
-        ensures passes { IfOk result (λ t. t.1.items ≡ new_passes self.definition self.limits.ledger self.workers) }
-        ensures held { IfOk result (λ t. AreHeld (opened_book self.definition self.workers self.limits).totals (map (λ p. p.ledger) t.1.items)) }
+        ensures passes { IfOk result (λ t. t.1.items
+            ≡ new_passes self.definition self.limits.ledger self.workers) }
+        ensures held { IfOk result (λ t. AreHeld
+            (opened_book self.definition self.workers self.limits).totals
+            (map (λ p. p.ledger) t.1.items)) }
     {
         let Opening {
             list,
@@ -133,7 +155,8 @@ fn desk<N: Name>(
     requires lawful { IsDefinition N.definition }
     requires front { front.now ≡ [] }
     requires workers { (0 < workers) × (workers ≤ most_workers) }
-    ensures writer { IfOk result (λ w. Stands N.book N.definition w.desk.shown.value × (w.desk.shown.value.past.log ≡ []) × (drop w.behind w.log.items ≡ [])) }
+    ensures writer { IfOk result (λ w. Stands N.book N.definition w.desk.shown.value
+        × (w.desk.shown.value.past.log ≡ []) × (drop w.behind w.log.items ≡ [])) }
 {
     let past = front.past();
     let first = Published {
@@ -153,10 +176,10 @@ fn seats<N: Name>(
     writer: &WorldWriter<N>,
     front: &Front<N>,
     ledgers: Vec<Ledger>,
-    definition: &Arc<Definition>,
+    definition: &Definition,
 ) -> Result<Vec<Pass<N>>, OpenFault>
     requires front { front.now ≡ [] }
-    requires definition { arc_value definition.now ≡ N.definition }
+    requires definition { definition.now ≡ N.definition }
     requires ledgers { All (λ l. length l.unflushed ≡ length (links N.definition)) ledgers.items }
     ensures passes { IfOk result (λ v. v.items ≡ map new_pass ledgers.items) }
 {
@@ -166,7 +189,7 @@ fn seats<N: Name>(
             return Err(OpenFault::NoReader);
         };
         let stack = Stack::new(alloc)?;
-        let definition = Arc::try_clone(definition)?;
+        let definition = definition.share()?;
         passes.push(Pass::new(reader, front.copy(), ledger, stack, definition))?;
     }
     Ok(passes)

@@ -1,14 +1,13 @@
 //! What one worker calls through, without a lock.
 
 ghost use Rattle.std.specs.Prelude.{◌≡◌, ◌+◌, ◌<◌, ◌≤◌, ◌⊎◌, ℕ, [], length, true, false, IfOk, IfErr, IfSome, IfNone, IsOk, OnOk, OnErr};
-ghost use Rattle.std.specs.Arc.{arc_value};
 ghost use mathlib.Core.List.{IsPrefix};
 ghost use Rattle.mh_type.specs.Fits.{Fits};
 ghost use Rattle.mh_tree.specs.Meaning.{mean, steps};
 ghost use Rattle.mh_ledger.specs.Ledgers.{at, made, with_hit};
 ghost use Rattle.mh_site.specs.Defined.{site_at};
 ghost use Rattle.mh_site.specs.Links.{links};
-ghost use Rattle.mh_site.specs.Worlds.{state_at};
+ghost use Rattle.mh_site.specs.Worlds.{state_at, environment};
 ghost use Rattle.mh_core.specs.Hits.{hits};
 ghost use Rattle.mh_live.specs.Calls.{MayCall, AnswersBy, Counts, RefusesCall, IsUntried, TakesNoMemory};
 ghost use Rattle.mh_live.specs.Rules.{Stands, world_after};
@@ -24,25 +23,24 @@ use mh_eval::{NoMemory, Stack, fits, run};
 use mh_ledger::Ledger;
 use mh_site::Definition;
 use mh_type::{Outcome, Value};
+use std::fmt;
 use std::marker::Model;
-use std::sync::Arc;
 
 /// What one worker calls through. A call takes no lock and waits for no other thread.
 ///
-/// A pass that is inside a call holds up the next change of the world, and what waits behind it; a pass
-/// between calls holds up nobody.
+/// A pass that is inside a call holds up the next change of the world, and what waits behind it; a
+/// pass between calls holds up nobody.
 #[derive(Drop)]
 pub struct Pass<N: Name> {
     reader: WorldReader<N>,
     front: Front<N>,
     pub(crate) ledger: Ledger,
     stack: Stack,
-    definition: Arc<Definition>,
+    definition: Definition,
 }
 
 impl<N: Name> Model for Pass<N> {
     ghost use Rattle.std.specs.Prelude.{◌≡◌, length};
-    ghost use Rattle.std.specs.Arc.{arc_value};
     ghost use Rattle.mh_site.specs.Links.{links};
     ghost use Rattle.mh_live.specs.Codes.{coded_pass};
     ghost use Rattle.mh_live.specs.Passes.{PassState};
@@ -53,11 +51,19 @@ impl<N: Name> Model for Pass<N> {
 
     ghost view = { λ p. record { seen = p.front; ledger = p.ledger } };
 
-    ghost invariant = { λ p. (arc_value p.definition ≡ N.definition) × (length p.ledger.unflushed ≡ length (links N.definition)) };
+    ghost invariant = { λ p. (p.definition ≡ N.definition) × (length p.ledger.unflushed ≡ length (links N.definition)) };
+}
+
+/// Its worker, and the controls that it has seen.
+impl<N: Name> fmt::Debug for Pass<N> {
+    fn fmt<W: fmt::Write>(&self, f: &mut fmt::Formatter<W>) -> fmt::Result {
+        let (worker, front) = (self.worker(), &self.front);
+        write!(f, "Pass(worker {worker}, {front:?})")
+    }
 }
 
 /// What a call gave.
-#[derive(Drop)]
+#[derive(Debug, Drop)]
 pub struct Answer {
     /// A value, or a throw.
     pub outcome: Outcome,
@@ -87,9 +93,14 @@ fn evaluate<N: Name>(request: Request<'_>, entered: &Published) -> Result<(Outco
     requires stands { Stands N.book N.definition entered.now }
     requires inside { request.site < length N.definition.sites }
     requires fits { Fits (site_at N.definition request.site).method_type request.arguments.now }
-    ensures outcome { IfOk result (λ r. let w = world_after N.definition entered.now.past.log in r.0 ≡ mean w.valid (state_at w request.entry.site).base.tree request.entry.arguments.now) }
-    ensures steps { IfOk result (λ r. let w = world_after N.definition entered.now.past.log in r.1 ≡ steps w.valid (state_at w request.entry.site).linked.tree request.entry.arguments.now) }
-    ensures memory { TakesNoMemory N.definition entered.now.past.log request.entry.site request.entry.arguments.now → IsOk result }
+    ensures outcome { IfOk result (λ r. let w = world_after N.definition entered.now.past.log in
+        r.0 ≡ mean (environment w) (state_at w request.entry.site).base.tree
+        request.entry.arguments.now) }
+    ensures steps { IfOk result (λ r. let w = world_after N.definition entered.now.past.log in
+        r.1 ≡ steps (environment w) (state_at w request.entry.site).linked.tree
+        request.entry.arguments.now) }
+    ensures memory { TakesNoMemory N.definition entered.now.past.log request.entry.site
+        request.entry.arguments.now → IsOk result }
 {
     let Request {
         stack,
@@ -102,17 +113,25 @@ fn evaluate<N: Name>(request: Request<'_>, entered: &Published) -> Result<(Outco
     run(stack, world.valid(), world.prepared(site), arguments)
 }
 
-// Enters once, evaluates by the one world that is found there, and leaves. None where the world could not be
-// entered.
+// Enters once, evaluates by the one world that is found there, and leaves. None where the world
+// could not be entered.
 fn visit<N: Name>(
     reader: WorldReader<N>,
     request: Request<'_>,
 ) -> (WorldReader<N>, Option<Visited<N>>)
     requires inside { request.site < length N.definition.sites }
     requires fits { Fits (site_at N.definition request.site).method_type request.arguments.now }
-    ensures outcome { IfSome result.1 (λ v. IfOk v.given (λ r. let w = world_after N.definition v.front in r.0 ≡ mean w.valid (state_at w request.entry.site).base.tree request.entry.arguments.now)) }
-    ensures steps { IfSome result.1 (λ v. IfOk v.given (λ r. let w = world_after N.definition v.front in r.1 ≡ steps w.valid (state_at w request.entry.site).linked.tree request.entry.arguments.now)) }
-    ensures memory { IfSome result.1 (λ v. TakesNoMemory N.definition v.front request.entry.site request.entry.arguments.now → IsOk v.given) }
+    ensures outcome { IfSome result.1
+        (λ v. IfOk v.given (λ r. let w = world_after N.definition v.front in
+        r.0 ≡ mean (environment w) (state_at w request.entry.site).base.tree
+        request.entry.arguments.now)) }
+    ensures steps { IfSome result.1
+        (λ v. IfOk v.given (λ r. let w = world_after N.definition v.front in
+        r.1 ≡ steps (environment w) (state_at w request.entry.site).linked.tree
+        request.entry.arguments.now)) }
+    ensures memory { IfSome result.1
+        (λ v. TakesNoMemory N.definition v.front request.entry.site request.entry.arguments.now
+        → IsOk v.given) }
 {
     match reader.enter_as::<Sees<N>>() {
         Ok(reading) => {
@@ -134,9 +153,13 @@ fn test_call(
 ) -> Result<Option<usize>, CallFault>
     requires links { length ledger.now.unflushed ≡ length (links definition.now) }
     ensures passes { OnOk result (MayCall definition.now ledger.now site arguments.now) }
-    ensures hit { IfOk result (λ found. IfSome found (λ j. (hits definition.now site arguments.now j ≡ true) × (j < length ledger.now.unflushed) × ((i : ℕ) → hits definition.now site arguments.now i ≡ true → i ≡ j))) }
-    ensures none { IfOk result (λ found. IfNone found ((j : ℕ) → hits definition.now site arguments.now j ≡ false)) }
-    ensures refused { IfErr result (λ told. RefusesCall definition.now ledger.now site arguments.now told × IsUntried told) }
+    ensures hit { IfOk result (λ found. IfSome found (λ j. (hits definition.now site arguments.now j
+        ≡ true) × (j < length ledger.now.unflushed)
+        × ((i : ℕ) → hits definition.now site arguments.now i ≡ true → i ≡ j))) }
+    ensures none { IfOk result (λ found. IfNone found ((j : ℕ)
+        → hits definition.now site arguments.now j ≡ false)) }
+    ensures refused { IfErr result
+        (λ told. RefusesCall definition.now ledger.now site arguments.now told × IsUntried told) }
 {
     if site >= definition.sites().len() {
         return Err(CallFault::NoSite);
@@ -157,7 +180,8 @@ fn test_call(
 
 // Counts the hit of a call that passed its tests.
 fn count_hit(ledger: &mut Ledger, hit: Option<usize>)
-    requires room { IfSome hit (λ j. (j < length ledger.old.unflushed) × (at ledger.old.unflushed j < ledger.old.limit)) }
+    requires room { IfSome hit (λ j. (j < length ledger.old.unflushed)
+        × (at ledger.old.unflushed j < ledger.old.limit)) }
     ensures hit { IfSome hit (λ j. ledger.new ≡ with_hit ledger.old j) }
     ensures none { IfNone hit (ledger.new ≡ ledger.old) }
 {
@@ -174,9 +198,9 @@ impl<N: Name> Pass<N> {
         front: Front<N>,
         ledger: Ledger,
         stack: Stack,
-        definition: Arc<Definition>,
+        definition: Definition,
     ) -> Pass<N>
-        requires definition { arc_value definition ≡ N.definition }
+        requires definition { definition ≡ N.definition }
         requires links { length ledger.unflushed ≡ length (links N.definition) }
         ensures value { result ≡ record { seen = front; ledger = ledger } }
     {
@@ -236,24 +260,28 @@ impl<N: Name> Pass<N> {
 
     /// Calls a site (`MutableCallSite.dynamicInvoker`), without a lock and with no wait.
     ///
-    /// It is answered by one world, the one after a single list of controls that begins with all that this
-    /// pass has seen or learnt: the outcome is that of the site's base tree, and the steps are those of its
-    /// linked tree. Where the argument at the site's key place is the key of one of its links, the ledger
-    /// counts a hit of that link.
+    /// It is answered by one world, the one after a single list of controls that begins with all
+    /// that this pass has seen or learnt: the outcome is that of the site's base tree, and the
+    /// steps are those of its linked tree. Where the argument at the site's key place is the key of
+    /// one of its links, the ledger counts a hit of that link.
     ///
     /// Refused with `NoSite`, with `WrongType` where the arguments do not fit the site's type, with
-    /// `LedgerFull`, with `NotEntered` where the office is gone, and then with
-    /// `NoMemory`, which is not told where no node that is entered has String in its type; no hit is
-    /// counted. At the last two the pass may have seen more controls than before.
+    /// `LedgerFull`, with `NotEntered` where the office is gone, and then with `NoMemory`, which is
+    /// not told where no node that is entered has String in its type; no hit is counted. At the
+    /// last two the pass may have seen more controls than before.
     pub fn call(&mut self, site: usize, arguments: &[Value]) -> Result<Answer, CallFault>
         ensures passes { OnOk result (MayCall N.definition self.old.ledger site arguments.now) }
-        ensures answer { IfOk result (λ answer. AnswersBy N.definition self.new.seen site arguments.now answer) }
+        ensures answer { IfOk result (λ answer. AnswersBy N.definition self.new.seen site
+            arguments.now answer) }
         ensures seen { IsPrefix self.old.seen self.new.seen }
-        ensures counted { OnOk result (Counts N.definition site arguments.now self.old.ledger self.new.ledger) }
-        ensures refused { IfErr result (λ told. RefusesCall N.definition self.old.ledger site arguments.now told) }
+        ensures counted { OnOk result
+            (Counts N.definition site arguments.now self.old.ledger self.new.ledger) }
+        ensures refused { IfErr result
+            (λ told. RefusesCall N.definition self.old.ledger site arguments.now told) }
         ensures kept { OnErr result (self.new.ledger ≡ self.old.ledger) }
         ensures untried { IfErr result (λ told. IsUntried told → self.new ≡ self.old) }
-        ensures memory { IfErr result (λ told. told ≡ CallFault.NoMemory → TakesNoMemory N.definition self.new.seen site arguments.now → ⊥) }
+        ensures memory { IfErr result (λ told. told ≡ CallFault.NoMemory
+            → TakesNoMemory N.definition self.new.seen site arguments.now → ⊥) }
     {
         let hit = test_call(&self.definition, &self.ledger, site, arguments)?;
         let (outcome, steps) = self.enter(site, arguments)?;
@@ -269,12 +297,16 @@ impl<N: Name> Pass<N> {
     fn enter(&mut self, site: usize, arguments: &[Value]) -> Result<(Outcome, u64), CallFault>
         requires inside { site < length N.definition.sites }
         requires fits { Fits (site_at N.definition site).method_type arguments.now }
-        ensures outcome { IfOk result (λ r. let w = world_after N.definition self.new.seen in r.0 ≡ mean w.valid (state_at w site).base.tree arguments.now) }
-        ensures steps { IfOk result (λ r. let w = world_after N.definition self.new.seen in r.1 ≡ steps w.valid (state_at w site).linked.tree arguments.now) }
+        ensures outcome { IfOk result (λ r. let w = world_after N.definition self.new.seen in
+            r.0 ≡ mean (environment w) (state_at w site).base.tree arguments.now) }
+        ensures steps { IfOk result (λ r. let w = world_after N.definition self.new.seen in
+            r.1 ≡ steps (environment w) (state_at w site).linked.tree arguments.now) }
         ensures seen { IsPrefix self.old.seen self.new.seen }
         ensures ledger { self.new.ledger ≡ self.old.ledger }
-        ensures told { IfErr result (λ told. (told ≡ CallFault.NotEntered) ⊎ (told ≡ CallFault.NoMemory)) }
-        ensures memory { IfErr result (λ told. told ≡ CallFault.NoMemory → TakesNoMemory N.definition self.new.seen site arguments.now → ⊥) }
+        ensures told { IfErr result (λ told. (told ≡ CallFault.NotEntered)
+            ⊎ (told ≡ CallFault.NoMemory)) }
+        ensures memory { IfErr result (λ told. told ≡ CallFault.NoMemory
+            → TakesNoMemory N.definition self.new.seen site arguments.now → ⊥) }
     {
         let request = Request {
             stack: &mut self.stack,
@@ -296,8 +328,8 @@ impl<N: Name> Pass<N> {
         }
     }
 
-    /// From now on it answers by no list that is shorter than the receipt's, and so sees what the receipt
-    /// is of.
+    /// From now on it answers by no list that is shorter than the receipt's, and so sees what the
+    /// receipt is of.
     pub fn learn(&mut self, receipt: &Receipt<N>)
         ensures one { (self.new.seen ≡ self.old.seen) ⊎ (self.new.seen ≡ receipt.now.front) }
         ensures seen { IsPrefix self.old.seen self.new.seen }

@@ -30,10 +30,13 @@ fn publish<N: Name, R: Wait>(
     writer: WorldWriter<N>,
     rt: &R,
 ) -> (WorldWriter<N>, Result<(), AllocError>)
-    requires pending { CanShow N.book N.definition writer.desk.shown.value (drop writer.behind writer.log.items) }
+    requires pending { CanShow N.book N.definition writer.desk.shown.value
+        (drop writer.behind writer.log.items) }
     ensures shown { MatchResult result.1
-        (λ _. (result.0.desk.shown.value ≡ fold stepped writer.desk.shown.value (drop writer.behind writer.log.items)) × (drop result.0.behind result.0.log.items ≡ []))
-        (λ _. result.0.desk.shown.value ≡ writer.desk.shown.value) }
+        (λ _. (result.0.desk.shown.value
+        ≡ fold stepped writer.desk.shown.value (drop writer.behind writer.log.items))
+        × (drop result.0.behind result.0.log.items ≡ [])) (λ _. result.0.desk.shown.value
+        ≡ writer.desk.shown.value) }
 {
     writer.publish_as::<Sees<N>, R>(rt)
 }
@@ -41,7 +44,10 @@ fn publish<N: Name, R: Wait>(
 // Makes a step pending, and says whether there was memory for it.
 fn append<N: Name>(writer: &mut WorldWriter<N>, step: Step) -> bool
     ensures desk { writer.new.desk ≡ writer.old.desk }
-    ensures pending { MatchBool result (drop writer.new.behind writer.new.log.items ≡ drop writer.old.behind writer.old.log.items ++ step ∷ []) (drop writer.new.behind writer.new.log.items ≡ drop writer.old.behind writer.old.log.items) }
+    ensures pending { MatchBool result (drop writer.new.behind writer.new.log.items
+        ≡ drop writer.old.behind writer.old.log.items ++ step ∷ [])
+        (drop writer.new.behind writer.new.log.items
+        ≡ drop writer.old.behind writer.old.log.items) }
 {
     match writer.append(step) {
         Ok(()) => true,
@@ -62,10 +68,13 @@ pub(crate) fn show<N: Name, R: Wait>(
     requires still { drop writer.old.behind writer.old.log.items ≡ [] }
     requires few { length front.now < most_controls }
     requires standing { AreStanding N.definition (after writer.old.desk.shown.value.world control) }
-    ensures list { IfOk result (λ f. (f ≡ front.now ++ control ∷ []) × (writer.new.desk.shown.value.past.log ≡ f)) }
+    ensures list { IfOk result (λ f. (f ≡ front.now ++ control ∷ [])
+        × (writer.new.desk.shown.value.past.log ≡ f)) }
     ensures stands { Stands N.book N.definition writer.new.desk.shown.value }
     ensures still { OnOk result (drop writer.new.behind writer.new.log.items ≡ []) }
-    ensures halted { IfErr result (λ halt. (writer.new.desk.shown.value ≡ writer.old.desk.shown.value) × (halt ≡ Halt.Before → drop writer.new.behind writer.new.log.items ≡ [])) }
+    ensures halted { IfErr result (λ halt. (writer.new.desk.shown.value
+        ≡ writer.old.desk.shown.value)
+        × (halt ≡ Halt.Before → drop writer.new.behind writer.new.log.items ≡ [])) }
 {
     let intent = front.intend(&control);
     if !append(writer, Step::Change(control)) {

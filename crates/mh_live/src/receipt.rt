@@ -4,6 +4,7 @@ ghost use Rattle.std.specs.Prelude.{◌≡◌};
 
 use crate::front::{Front, Name};
 use mh_core::Reply;
+use std::fmt;
 use std::marker::Model;
 
 /// The reply to an event that was accepted, and the list of controls up to it. Contracts see both.
@@ -22,6 +23,13 @@ impl<N: Name> Model for Receipt<N> {
     ghost coded = { coded_receipt };
 
     ghost view = { λ r. record { reply = r.reply; front = r.front } };
+}
+
+/// What was answered, and the list of controls up to it.
+impl<N: Name> fmt::Debug for Receipt<N> {
+    fn fmt<W: fmt::Write>(&self, f: &mut fmt::Formatter<W>) -> fmt::Result {
+        write!(f, "Receipt({:?}, {:?})", self.reply, self.front)
+    }
 }
 
 impl<N: Name> Receipt<N> {

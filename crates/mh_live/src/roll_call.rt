@@ -21,9 +21,11 @@ pub(crate) fn unflushed_hits<N: Name>(
 ) -> Result<Vec<u128>, SettleFault>
     ensures totals { IsTotals office.now.book.totals }
     ensures back { OnOk result (AreBack office.now.book.totals passes.now) }
-    ensures value { IfOk result (λ v. v.items ≡ map (unflushed_by passes.now) (range_with_len 0 (length office.now.book.totals.total))) }
+    ensures value { IfOk result (λ v. v.items
+        ≡ map (unflushed_by passes.now) (range_with_len 0 (length office.now.book.totals.total))) }
     ensures within { IfOk result (λ v. All (λ n. n ≤ most_hits_of_all) v.items) }
-    ensures missing { (result ≡ Err SettleFault.MissingPass) ↔ (AreBack office.now.book.totals passes.now → ⊥) }
+    ensures missing { (result ≡ Err SettleFault.MissingPass)
+        ↔ (AreBack office.now.book.totals passes.now → ⊥) }
 {
     let totals = office.book().totals();
     // Read for what totals keep.
@@ -69,7 +71,8 @@ fn are_back<N: Name>(totals: &Totals, passes: &[Pass<N>]) -> bool
 
 // Whether each worker has one pass.
 fn has_each_once<N: Name>(workers: usize, passes: &[Pass<N>]) -> bool
-    ensures decides { IsTrue result ↔ ((w : ℕ) → w < workers → count_by (λ p. p.ledger.worker == w) passes.now ≡ 1) }
+    ensures decides { IsTrue result
+        ↔ ((w : ℕ) → w < workers → count_by (λ p. p.ledger.worker == w) passes.now ≡ 1) }
 {
     for worker in 0..workers {
         if passes_of(worker, passes) != 1 {

@@ -7,8 +7,9 @@ use left_right::reader::Reader;
 use left_right::writer::Writer;
 use std::marker::PhantomData;
 
-/// Each published world is the replay of a beginning of the list that N names, its trees are of their sites'
-/// types and mean what the base trees mean, and no reader enters a list shorter than one that it has seen.
+/// Each published world is the replay of a beginning of the list that N names, its trees are of
+/// their sites' types and mean what the base trees mean, and no reader enters a list shorter than
+/// one that it has seen.
 pub struct Fronts<N: Name> {
     of: PhantomData<N>,
 }

@@ -5,7 +5,8 @@ ghost use Rattle.std.specs.List.{All};
 ghost use Rattle.mh_ledger.specs.Ledgers.{at};
 ghost use Rattle.mh_site.specs.Links.{links};
 ghost use Rattle.mh_core.specs.Books.{IsBook};
-ghost use Rattle.mh_live.specs.Limits.{most_hits, most_hits_of_all};
+ghost use Rattle.mh_ledger.specs.Limits.{greatest_limit};
+ghost use Rattle.mh_live.specs.Limits.{most_hits_of_all};
 ghost use Rattle.mh_live.specs.Offices.{list_of};
 ghost use Rattle.mh_live.specs.Settled.{IsSettled};
 
@@ -14,10 +15,11 @@ use crate::live::Live;
 use crate::pass::Pass;
 use crate::settle_fault::SettleFault;
 use mh_core::Book;
+use std::fmt;
 use std::marker::Model;
 
-/// What running threads leave once all their passes are back: the book, and for each link how often the
-/// passes hit it.
+/// What running threads leave once all their passes are back: the book, and for each link how often
+/// the passes hit it.
 #[derive(Drop)]
 pub struct Settled<N: Name> {
     book: Book,
@@ -35,14 +37,28 @@ impl<N: Name> Model for Settled<N> {
 
     ghost view = { λ s. record { book = s.book; unflushed = s.unflushed.items; front = s.front } };
 
-    ghost invariant = { λ s. IsSettled N.definition record { book = s.book; unflushed = s.unflushed.items; front = s.front } };
+    ghost invariant = { λ s. IsSettled N.definition record {
+      book = s.book;
+      unflushed = s.unflushed.items;
+      front = s.front;
+    } };
+}
+
+/// The list of controls of its office.
+impl<N: Name> fmt::Debug for Settled<N> {
+    fn fmt<W: fmt::Write>(&self, f: &mut fmt::Formatter<W>) -> fmt::Result {
+        write!(f, "Settled({:?})", self.front)
+    }
 }
 
 impl<N: Name> Settled<N> {
-    /// The book of an office with the list of its controls, and for each link the hits that were not flushed.
+    /// The book of an office with the list of its controls, and for each link the hits that were
+    /// not flushed.
     pub(crate) fn new(book: Book, unflushed: Vec<u128>, front: Front<N>) -> Settled<N>
-        requires settled { IsSettled N.definition record { book = book; unflushed = unflushed.items; front = front } }
-        ensures value { result ≡ record { book = book; unflushed = unflushed.items; front = front } }
+        requires settled { IsSettled N.definition record
+            { book = book; unflushed = unflushed.items; front = front } }
+        ensures value { result ≡ record
+            { book = book; unflushed = unflushed.items; front = front } }
     {
         Settled {
             book,
@@ -71,7 +87,7 @@ impl<N: Name> Settled<N> {
     pub fn total(&self, link: usize) -> u64
         requires inside { link < length (links N.definition) }
         ensures value { result ≡ at self.now.book.totals.total link }
-        ensures within { result ≤ most_hits }
+        ensures within { result ≤ greatest_limit }
     {
         let totals = self.book.totals();
         // Read for what totals keep.
@@ -112,4 +128,11 @@ pub struct Unsettled<N: Name> {
     pub passes: Vec<Pass<N>>,
     /// Why it was not settled.
     pub fault: SettleFault,
+}
+
+/// Why it was not settled.
+impl<N: Name> fmt::Debug for Unsettled<N> {
+    fn fmt<W: fmt::Write>(&self, f: &mut fmt::Formatter<W>) -> fmt::Result {
+        write!(f, "Unsettled({:?})", self.fault)
+    }
 }

@@ -5,12 +5,12 @@ ghost use Rattle.std.specs.List.Sorted.{IsStrictlyIncreasing};
 ghost use Rattle.mh_network.specs.Problems.{IsProblem, cost_of};
 ghost use Rattle.mh_network.specs.Parts.{ArePlaces, IsPartOf, part_problem, part_row as row_in_part};
 ghost use Rattle.mh_network.specs.Selection.{member};
+ghost use Rattle.mh_network.specs.Limits.{most_points};
 
 use crate::link_row::LinkRow;
-use crate::listing::Listing;
-use crate::memory::NoMemory;
 use crate::part::Part;
 use crate::problem::Problem;
+use mh_base::{Listing, NoMemory};
 use std::alloc::Global;
 
 impl Problem {
@@ -31,7 +31,7 @@ impl Problem {
 fn places(alloc: Global, count: usize, points: &[u32]) -> Result<Vec<u32>, NoMemory>
     requires inside { All (λ p. p < count) points.now }
     requires ascending { IsStrictlyIncreasing points.now }
-    requires few { length points.now ≤ 1024 }
+    requires few { length points.now ≤ most_points }
     ensures value { IfOk result (λ places. ArePlaces points.now count places.items) }
 {
     let mut places = vec![in alloc; 0; count]?;
@@ -49,7 +49,8 @@ fn part_rows(
 ) -> Result<Listing<LinkRow>, NoMemory>
     requires part { IsPartOf problem.now part.now }
     requires places { ArePlaces part.now.points (length problem.now.costs) places.now }
-    ensures value { IfOk result (λ rows. rows ≡ map (row_in_part problem.now part.now) part.now.links) }
+    ensures value { IfOk result (λ rows. rows ≡ map
+        (row_in_part problem.now part.now) part.now.links) }
 {
     let mut rows = Vec::new(alloc);
     for link in part.links.as_slice() {

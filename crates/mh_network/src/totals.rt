@@ -3,13 +3,14 @@
 ghost use Rattle.std.specs.Prelude.{◌≡◌, ◌≤◌, ◌^◌};
 ghost use Rattle.mh_network.specs.Problems.{sum_of_gains};
 ghost use Rattle.mh_network.specs.Selection.{value_of};
+ghost use Rattle.mh_network.specs.Limits.{greatest_sum};
 
 use crate::problem::Problem;
 
 /// What all links of a problem gain together, at most 2^62. O(links).
 pub fn all_gains(problem: &Problem) -> u64
     ensures value { result ≡ sum_of_gains problem.now }
-    ensures small { result ≤ 2 ^ 62 }
+    ensures small { result ≤ greatest_sum }
 {
     let mut sum: u64 = 0;
     for link in 0..problem.links() {
@@ -18,8 +19,8 @@ pub fn all_gains(problem: &Problem) -> u64
     sum
 }
 
-/// What the rows of a flow carry together, whatever rows they are: no number of them makes the sum wrap.
-/// A flow of a problem carries at most 2^62. O(rows).
+/// What the rows of a flow carry together, whatever rows they are: no number of them makes the sum
+/// wrap. A flow of a problem carries at most 2^62. O(rows).
 pub fn carried(flow: &[(u32, u32, u64)]) -> u128
     ensures value { result ≡ value_of flow.now }
 {

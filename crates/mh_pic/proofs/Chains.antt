@@ -21,6 +21,7 @@ use Rattle.mh_pic.specs.Chains.{PlainEntry, points, chain, IsFaithful, HaveKind}
 use Rattle.mh_pic.proofs.KeyTests.{key_test_mean}
 use Rattle.mh_pic.proofs.Kept.{specialised_typed}
 use Rattle.mh_pic.proofs.SpecialisedTrees.{specialised_mean}
+use Rattle.mh_tree.specs.Environment.{Environment}
 
 -- values that are the same are equal
 same_truths : (b c : Bool) → same_truth b c ≡ true → b ≡ c
@@ -37,18 +38,18 @@ same_equal (Text s) (Text t) h = ap Text ((bytes_eq-Decides s t).0 h)
 same_equal _ _ h = cc
 
 -- one more valid need
-one_more : (v : List Bool) (p : ℕ) (rest : List ℕ) → is_valid v p ≡ true → AreValid v rest → AreValid v (p ∷ rest)
+one_more : (v : Environment) (p : ℕ) (rest : List ℕ) → is_valid v p ≡ true → AreValid v rest → AreValid v (p ∷ rest)
 one_more v p rest here valid q h = by_test (p == q) refl h
   where
     by_test : (b : Bool) → (p == q) ≡ b → (b || is_needed rest q) ≡ true → is_valid v q ≡ true
     by_test true e g = rw (sym ((Decides-eqb p q).0 e)) here
     by_test false e g = valid q g
 
-none_needed : (v : List Bool) → AreValid v []
+none_needed : (v : Environment) → AreValid v []
 none_needed v p h = cc
 
 -- where one need is not valid the base runs
-pub points_mean : (v : List Bool) (ps : List ℕ) (x base : Tree) (a : List Value)
+pub points_mean : (v : Environment) (ps : List ℕ) (x base : Tree) (a : List Value)
     → (AreValid v ps → mean v x a ≡ mean v base a) → mean v (points ps x base) a ≡ mean v base a
 points_mean v [] x base a h = h (none_needed v)
 points_mean v (p ∷ rest) x base a h =
@@ -118,7 +119,7 @@ module _ (m : Signature) (q : ℕ) (inside : q < length m.parameters) (few : len
         chain_typed rest (λ k d below. kinds (suc k) d (omega arith)),
       )
 
-  module _ (v : List Bool) (a : List Value) (fits : Fits m a) where
+  module _ (v : Environment) (a : List Value) (fits : Fits m a) where
     many : length a ≡ length m.parameters
     many = sym (length-map a kind_of) ∙ ap (λ (ks : List Kind). length ks) fits
 

@@ -5,7 +5,7 @@ use Rattle.std.specs.Ordering.{int_eq}
 use Rattle.std.specs.Ordering as ordering
 use Rattle.std.specs.declared.cmp.Ordering.TheVariants.{Less, Equal, Greater}
 use Rattle.std.proofs.lemmas.Bool.Decides.{Decides-eqb}
-use Rattle.mh_type.proofs.SameKind.{kind_eq_decides, kinds_eq_decides}
+use Rattle.mh_type.proofs.PublicLaws.{kind_eq_decides, kinds_eq_decides}
 use Rattle.mh_type.specs.declared.kind.Kind.{Kind}
 use Rattle.mh_type.specs.declared.kind.Kind.TheVariants as kind
 use Rattle.mh_type.specs.declared.operation.Op.{Op}
@@ -20,6 +20,7 @@ use Rattle.mh_tree.specs.Meaning.{mean, argument, taken_out}
 use Rattle.mh_tree.specs.Tree.{Tree, operation, insert, discard}
 use Rattle.mh_type.specs.Values.{same_value, same_truth}
 use Rattle.mh_pic.specs.Keys.{equality, first_test, key_test, equality_kind, one_of_kind, first_key, key_in}
+use Rattle.mh_tree.specs.Environment.{Environment}
 
 by_answers : (b c : Bool) → (not b && not c) ≡ ordering.is_eq (cond b Less (cond c Greater Equal))
 by_answers true true = refl
@@ -34,7 +35,7 @@ truths : (b c : Bool) → truth_eq b c ≡ same_truth b c
 truths true c = refl
 truths false c = refl
 
-first_mean : (v : List Bool) (x key : Value) (rest : List Value) → kind_of x ≡ kind_of key → mean v (first_test key) (x ∷ rest) ≡ Value' (Boolean (same_value x key))
+first_mean : (v : Environment) (x key : Value) (rest : List Value) → kind_of x ≡ kind_of key → mean v (first_test key) (x ∷ rest) ≡ Value' (Boolean (same_value x key))
 first_mean v (Int m) (Int n) rest same = ap (λ b. Value' (Boolean b)) (numbers m n)
 first_mean v (Long m) (Long n) rest same = ap (λ b. Value' (Boolean b)) (numbers m n)
 first_mean v (Boolean b) (Boolean c) rest same = ap (λ b. Value' (Boolean b)) (truths b c)
@@ -59,7 +60,7 @@ left q a h =
     rw (same, next) (last_one q a h)
 
 -- a key test answers whether the argument at the key place is the key
-pub key_test_mean : (v : List Bool) (kinds : List Kind) (key : Value) (a : List Value)
+pub key_test_mean : (v : Environment) (kinds : List Kind) (key : Value) (a : List Value)
     → length kinds < length a → kind_of (argument a (length kinds)) ≡ kind_of key
     → mean v (key_test kinds key) (take (arity (key_test kinds key)) a) ≡ Value' (Boolean (same_value (argument a (length kinds)) key))
 key_test_mean v [] key [] inside same = absurd (omega arith)

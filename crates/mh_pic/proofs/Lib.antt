@@ -1,11 +1,12 @@
-pub mod StrippedFilters
-pub mod Bounds
-pub mod Chains
-pub mod KeyTests
-pub mod Kept
-pub mod Linking
-pub mod Passing
-pub mod Serving
-pub mod SpecialisedTrees
-pub mod StrippedTrees
+mod Bounds
+mod Chains
+mod Kept
+mod KeyTests
+mod Linking
+mod Passing
+pub mod PublicLaws
+mod Serving
+mod SpecialisedTrees
+mod StrippedFilters
+mod StrippedTrees
 mod Worked

@@ -1,7 +1,7 @@
 -- `specialised` does what its tree does, in at most as many steps, where all needs are valid and the argument at the key place
 -- is the key.
 use Rattle.std.proofs.Common.{◌≡◌, ℕ, ◌<◌, ◌≤◌, refl, ap, sym, ◌∙◌, List, take, length, arith, Bool, true, false, Option, Some, None, if◌then◌else◌}
-use Rattle.mh_type.proofs.SameKind.{kind_eq_decides}
+use Rattle.mh_type.proofs.PublicLaws.{kind_eq_decides}
 use Rattle.mh_type.specs.declared.kind.Kind.{Kind}
 use Rattle.mh_type.specs.declared.value.Value.{Value}
 use Rattle.mh_type.specs.declared.value.Value.TheVariants.{Boolean}
@@ -15,9 +15,10 @@ use Rattle.mh_pic.specs.Keys.{key_test, key_in, decided}
 use Rattle.mh_pic.specs.Specialised.{AreValid, is_needed, stripped, branch, specialised}
 use Rattle.mh_pic.proofs.KeyTests.{key_test_mean, key_found}
 use Rattle.mh_pic.proofs.StrippedTrees.{stripped_arity, stripped_mean, stripped_steps, mean_point, steps_point, after_less, choose_less}
+use Rattle.mh_tree.specs.Environment.{Environment}
 
 -- a known answer is what the test answers
-known_answer : (v : List Bool) (kinds : List Kind) (key : Value) (a : List Value)
+known_answer : (v : Environment) (kinds : List Kind) (key : Value) (a : List Value)
     → length kinds < length a → argument a (length kinds) ≡ key → (c : Tree) (b : Bool) → decided key (key_in kinds c) ≡ Some b
     → mean v c (take (arity c) a) ≡ Value' (Boolean b)
 known_answer v kinds key a inside is_key c b h = by_key (key_in kinds c) refl h
@@ -34,7 +35,7 @@ known_answer v kinds key a inside is_key c b h = by_key (key_in kinds c) refl h
     by_key (Some x) found g = by_kind x (kind_eq (kind_of x) (kind_of key)) (key_found kinds c x found) refl g
     by_key None found g = cc
 
-mean_branch : (v : List Bool) (o : Option Bool) (c x y c' x' y' : Tree) (a : List Value)
+mean_branch : (v : Environment) (o : Option Bool) (c x y c' x' y' : Tree) (a : List Value)
     → ((b : Bool) → o ≡ Some b → mean v c (take (arity c) a) ≡ Value' (Boolean b))
     → arity c' ≡ arity c → mean v c' (take (arity c) a) ≡ mean v c (take (arity c) a)
     → mean v x' a ≡ mean v x a → mean v y' a ≡ mean v y a
@@ -43,7 +44,7 @@ mean_branch v (Some true) c x y c' x' y' a answer same hc hx hy = rw (answer tru
 mean_branch v (Some false) c x y c' x' y' a answer same hc hx hy = rw (answer false refl) hy
 mean_branch v None c x y c' x' y' a answer same hc hx hy = rw same (λ i. hc i >>= (λ b. choose b (hx i) (hy i)))
 
-steps_branch : (v : List Bool) (o : Option Bool) (c x y c' x' y' : Tree) (a : List Value)
+steps_branch : (v : Environment) (o : Option Bool) (c x y c' x' y' : Tree) (a : List Value)
     → ((b : Bool) → o ≡ Some b → mean v c (take (arity c) a) ≡ Value' (Boolean b))
     → arity c' ≡ arity c → mean v c' (take (arity c) a) ≡ mean v c (take (arity c) a)
     → steps v c' (take (arity c) a) ≤ steps v c (take (arity c) a)
@@ -55,7 +56,7 @@ steps_branch v None c x y c' x' y' a answer same hc before hx hy =
     let rest = after_less _ _ (λ b. choose_steps b (steps v x' a) (steps v y' a)) (λ b. choose_steps b (steps v x a) (steps v y a)) hc (λ b. choose_less b _ _ _ _ hx hy) in
     rw same (omega (arith, before, rest))
 
-module _ (needs : List ℕ) (kinds : List Kind) (key : Value) (v : List Bool) (valid : AreValid v needs) (a : List Value)
+module _ (needs : List ℕ) (kinds : List Kind) (key : Value) (v : Environment) (valid : AreValid v needs) (a : List Value)
     (inside : length kinds < length a) (is_key : argument a (length kinds) ≡ key) where
   pub specialised_mean : (t : Tree) → mean v (specialised needs kinds key t) a ≡ mean v t a
   specialised_mean (guard c x y) =

@@ -10,6 +10,7 @@ use Rattle.mh_tree.specs.Arity.{arity}
 use Rattle.mh_tree.specs.Meaning.{◌>>=◌, mean, steps, filtered, filter_steps, with_arguments, with_value, after, after_filters, argument, put_in, taken_out, choose, choose_steps, is_valid}
 use Rattle.mh_tree.specs.Tree.{Tree, Filters, constant, identity, operation, insert, discard, permute, filter, filter_return, fold, guard, point, no_more, absent, present}
 use Rattle.mh_pic.specs.Specialised.{AreValid, is_needed, stripped, stripped_filters}
+use Rattle.mh_tree.specs.Environment.{Environment}
 
 -- a point that goes, and one that stays
 arity_point : (b : Bool) (p : ℕ) (x y : Tree) → arity (if b then x else point p x y) ≡ arity x
@@ -29,14 +30,14 @@ stripped_arity needs (fold t c) = rw (stripped_arity needs t) refl
 stripped_arity needs (guard c x y) = stripped_arity needs x
 stripped_arity needs (point p x y) = rw (arity_point (is_needed needs p) p (stripped needs x) (stripped needs y)) (stripped_arity needs x)
 
-pub mean_point : (v : List Bool) (b : Bool) (p : ℕ) (x y x' y' : Tree) (a : List Value)
+pub mean_point : (v : Environment) (b : Bool) (p : ℕ) (x y x' y' : Tree) (a : List Value)
     → (b ≡ true → is_valid v p ≡ true) → mean v x' a ≡ mean v x a → mean v y' a ≡ mean v y a
     → mean v (if b then x' else point p x' y') a ≡ mean v (point p x y) a
 mean_point v true p x y x' y' a valid hx hy = rw (valid refl) hx
 mean_point v false p x y x' y' a valid hx hy = λ i. if is_valid v p then hx i else hy i
 
 mutual
-  pub stripped_mean : (needs : List ℕ) (v : List Bool) → AreValid v needs → (t : Tree) (a : List Value) → mean v (stripped needs t) a ≡ mean v t a
+  pub stripped_mean : (needs : List ℕ) (v : Environment) → AreValid v needs → (t : Tree) (a : List Value) → mean v (stripped needs t) a ≡ mean v t a
   stripped_mean needs v valid (constant x) a = refl
   stripped_mean needs v valid (identity k) a = refl
   stripped_mean needs v valid (operation o) a = refl
@@ -54,7 +55,7 @@ mutual
   stripped_mean needs v valid (point p x y) a =
       mean_point v (is_needed needs p) p x y (stripped needs x) (stripped needs y) a (valid p) (stripped_mean needs v valid x a) (stripped_mean needs v valid y a)
 
-  pub stripped_filtered : (needs : List ℕ) (v : List Bool) → AreValid v needs → (fs : Filters) (p : ℕ) (a : List Value) → filtered v (stripped_filters needs fs) p a ≡ filtered v fs p a
+  pub stripped_filtered : (needs : List ℕ) (v : Environment) → AreValid v needs → (fs : Filters) (p : ℕ) (a : List Value) → filtered v (stripped_filters needs fs) p a ≡ filtered v fs p a
   stripped_filtered needs v valid no_more p a = refl
   stripped_filtered needs v valid (absent fs) p a = stripped_filtered needs v valid fs (p + 1) a
   stripped_filtered needs v valid (present f fs) p a =
@@ -86,14 +87,14 @@ if_less : (b : Bool) (x y x' y' : ℕ) → x ≤ x' → y ≤ y' → (if b then 
 if_less true x y x' y' hx hy = hx
 if_less false x y x' y' hx hy = hy
 
-pub steps_point : (v : List Bool) (b : Bool) (p : ℕ) (x y x' y' : Tree) (a : List Value)
+pub steps_point : (v : Environment) (b : Bool) (p : ℕ) (x y x' y' : Tree) (a : List Value)
     → (b ≡ true → is_valid v p ≡ true) → steps v x' a ≤ steps v x a → steps v y' a ≤ steps v y a
     → steps v (if b then x' else point p x' y') a ≤ steps v (point p x y) a
 steps_point v true p x y x' y' a valid hx hy = rw (valid refl) (omega (arith, hx))
 steps_point v false p x y x' y' a valid hx hy = omega (arith, if_less (is_valid v p) _ _ _ _ hx hy)
 
 mutual
-  pub stripped_steps : (needs : List ℕ) (v : List Bool) → AreValid v needs → (t : Tree) (a : List Value) → steps v (stripped needs t) a ≤ steps v t a
+  pub stripped_steps : (needs : List ℕ) (v : Environment) → AreValid v needs → (t : Tree) (a : List Value) → steps v (stripped needs t) a ≤ steps v t a
   stripped_steps needs v valid (constant x) a = omega arith
   stripped_steps needs v valid (identity k) a = omega arith
   stripped_steps needs v valid (operation o) a = omega arith
@@ -120,7 +121,7 @@ mutual
   stripped_steps needs v valid (point p x y) a =
       steps_point v (is_needed needs p) p x y (stripped needs x) (stripped needs y) a (valid p) (stripped_steps needs v valid x a) (stripped_steps needs v valid y a)
 
-  pub stripped_filter_steps : (needs : List ℕ) (v : List Bool) → AreValid v needs → (fs : Filters) (p : ℕ) (a : List Value) → filter_steps v (stripped_filters needs fs) p a ≤ filter_steps v fs p a
+  pub stripped_filter_steps : (needs : List ℕ) (v : Environment) → AreValid v needs → (fs : Filters) (p : ℕ) (a : List Value) → filter_steps v (stripped_filters needs fs) p a ≤ filter_steps v fs p a
   stripped_filter_steps needs v valid no_more p a = omega arith
   stripped_filter_steps needs v valid (absent fs) p a = stripped_filter_steps needs v valid fs (p + 1) a
   stripped_filter_steps needs v valid (present f fs) p a =

@@ -13,6 +13,7 @@ use Rattle.mh_tree.specs.Limits.{depth, size}
 use Rattle.mh_pic.specs.Keys.{key_test, key_in}
 use Rattle.mh_pic.specs.Specialised.{specialised}
 use Rattle.mh_pic.specs.Chains.{chain, PlainEntry}
+use Rattle.mh_tree.specs.Environment.{with_points}
 
 abbrev int : ℕ → Value
 int n = Int (pos n)
@@ -30,24 +31,24 @@ cache = chain [] base (link ∷ [])
 shape : cache ≡ guard (insert (operation Ieq) 1 (int 1 ∷ [])) (point 0 (discard (constant (int 100)) 0 (kind.Int ∷ [])) base) base
 shape = refl
 
-hit : mean (true ∷ true ∷ []) cache (int 1 ∷ []) ≡ outcome.Value (int 100)
+hit : mean (with_points (true ∷ true ∷ [])) cache (int 1 ∷ []) ≡ outcome.Value (int 100)
 hit = refl
 
-hit_steps : steps (true ∷ true ∷ []) cache (int 1 ∷ []) ≡ 6
+hit_steps : steps (with_points (true ∷ true ∷ [])) cache (int 1 ∷ []) ≡ 6
 hit_steps = refl
 
-miss : mean (true ∷ true ∷ []) cache (int 2 ∷ []) ≡ outcome.Value (int 3)
+miss : mean (with_points (true ∷ true ∷ [])) cache (int 2 ∷ []) ≡ outcome.Value (int 3)
 unfolding int_wrap
 miss = refl
 
-miss_steps : steps (true ∷ true ∷ []) cache (int 2 ∷ []) ≡ 9
+miss_steps : steps (with_points (true ∷ true ∷ [])) cache (int 2 ∷ []) ≡ 9
 miss_steps = refl
 
-invalid : mean (false ∷ true ∷ []) cache (int 1 ∷ []) ≡ outcome.Value (Int (negsuc 0))
+invalid : mean (with_points (false ∷ true ∷ [])) cache (int 1 ∷ []) ≡ outcome.Value (Int (negsuc 0))
 unfolding int_wrap
 invalid = refl
 
-invalid_steps : steps (false ∷ true ∷ []) cache (int 1 ∷ []) ≡ 6
+invalid_steps : steps (with_points (false ∷ true ∷ [])) cache (int 1 ∷ []) ≡ 6
 invalid_steps = refl
 
 limits : (size cache ≡ 24) × (depth cache ≡ 6)

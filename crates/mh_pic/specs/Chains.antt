@@ -1,6 +1,6 @@
 -- A site's inline cache as a tree (Hölzle, Chambers, Ungar 1991, polymorphic inline caches; `MethodHandles.guardWithTest` and
 -- `SwitchPoint.guardWithTest`, Java SE 17): specialised trees, each behind its key test and its points, and last the base tree.
-use Rattle.std.specs.Prelude.{◌≡◌, ℕ, ◌<◌, ◌≤◌, Bool, List, [], ◌∷◌, length}
+use Rattle.std.specs.Prelude.{◌≡◌, ℕ, ◌<◌, ◌≤◌, List, [], ◌∷◌, length}
 use Rattle.std.specs.List.{All}
 use Rattle.mh_type.specs.declared.kind.Kind.{Kind}
 use Rattle.mh_type.specs.declared.value.Value.{Value}
@@ -12,6 +12,8 @@ use Rattle.mh_tree.specs.Tree.{Tree, guard, point}
 use Rattle.mh_tree.specs.Typing.{IsTyped, kind_at}
 use Rattle.mh_pic.specs.Keys.{key_test}
 use Rattle.mh_pic.specs.Specialised.{specialised}
+use Rattle.mh_pic.specs.Limits.{most_needs, most_entries}
+use Rattle.mh_tree.specs.Environment.{Environment}
 
 -- a key, and the points that its tree needs, ascending
 pub record PlainEntry : Type 0 where
@@ -32,7 +34,7 @@ chain kinds base (e ∷ rest) =
 -- the tree has the other's type, and gives what the other gives, whichever points are valid
 pub record IsFaithful (tree base : Tree) (m : Signature) : Type 0 where
   pub typed : IsTyped tree m
-  pub same : (v : List Bool) (a : List Value) → Fits m a → mean v tree a ≡ mean v base a
+  pub same : (v : Environment) (a : List Value) → Fits m a → mean v tree a ≡ mean v base a
 
 -- the keys are of one kind
 abbrev pub HaveKind : Kind → List PlainEntry → Type 0
@@ -40,7 +42,7 @@ HaveKind k entries = All (λ (e : PlainEntry). kind_of e.key ≡ k) entries
 
 -- an entry has at most 8 needs
 abbrev pub HaveFewNeeds : List PlainEntry → Type 0
-HaveFewNeeds entries = All (λ (e : PlainEntry). length e.needs ≤ 8) entries
+HaveFewNeeds entries = All (λ (e : PlainEntry). length e.needs ≤ most_needs) entries
 
 -- each need is below n
 abbrev pub HaveNeedsBelow : ℕ → List PlainEntry → Type 0
@@ -49,6 +51,6 @@ HaveNeedsBelow n entries = All (λ (e : PlainEntry). All (λ p. p < n) e.needs) 
 -- entries that a base of type m may have for place q: at most 4, each with a key of the place's kind and at most 8 needs
 pub record MayChain (m : Signature) (q : ℕ) (entries : List PlainEntry) : Type 0 where
   pub inside : q < length m.parameters
-  pub few : length entries ≤ 4
+  pub few : length entries ≤ most_entries
   pub keys : HaveKind (kind_at m.parameters q) entries
   pub few_needs : HaveFewNeeds entries

@@ -15,13 +15,14 @@ use Rattle.mh_tree.specs.Meaning.{argument, is_valid, mean, steps}
 use Rattle.mh_tree.specs.Tree.{Tree, Filters, constant, identity, operation, insert, discard, permute, filter, filter_return, fold, guard, point, no_more, absent, present}
 use Rattle.mh_tree.specs.Typing.{IsTyped}
 use Rattle.mh_pic.specs.Keys.{key_in, decided}
+use Rattle.mh_tree.specs.Environment.{Environment}
 
 -- whether a point is among the needs
 abbrev pub is_needed : List ℕ → ℕ → Bool
 is_needed needs p = list_any (λ q. q == p) needs
 
 -- where v holds each need valid
-abbrev pub AreValid : List Bool → List ℕ → Type 0
+abbrev pub AreValid : Environment → List ℕ → Type 0
 AreValid v needs = (p : ℕ) → is_needed needs p ≡ true → is_valid v p ≡ true
 
 abbrev mutual
@@ -82,5 +83,5 @@ abbrev mutual
 pub record Serves (needs : List ℕ) (q : ℕ) (key : Value) (tree base : Tree) (m : Signature) : Type 0 where
   pub typed : IsTyped tree m
   pub unnamed : NamesNone needs tree
-  pub same : (v : List Bool) → AreValid v needs → (a : List Value) → Fits m a → argument a q ≡ key → mean v tree a ≡ mean v base a
-  pub quick : (v : List Bool) → AreValid v needs → (a : List Value) → Fits m a → argument a q ≡ key → steps v tree a ≤ steps v base a
+  pub same : (v : Environment) → AreValid v needs → (a : List Value) → Fits m a → argument a q ≡ key → mean v tree a ≡ mean v base a
+  pub quick : (v : Environment) → AreValid v needs → (a : List Value) → Fits m a → argument a q ≡ key → steps v tree a ≤ steps v base a

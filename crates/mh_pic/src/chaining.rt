@@ -9,11 +9,14 @@ ghost use Rattle.mh_tree.specs.Typing.{kind_at};
 ghost use Rattle.mh_pic.specs.Chains.{chain as chain_of, points as points_of, IsFaithful, MayChain};
 ghost use Rattle.mh_pic.specs.Keys.{key_test as key_test_of};
 ghost use Rattle.mh_pic.specs.Specialised.{specialised};
+ghost use Rattle.mh_type.specs.Limits.{most_parameters};
+ghost use Rattle.mh_pic.specs.Limits.{most_needs, deepest_chain, most_chain_nodes};
 
 use crate::entry::Entry;
-use crate::fault::{NoMemory, expect_made};
+use crate::fault::expect_made;
 use crate::key_tests::key_test;
 use crate::specialising::specialise;
+use mh_base::NoMemory;
 use mh_tree::{Declared, Handle};
 use std::alloc::Global;
 
@@ -23,15 +26,15 @@ use std::alloc::Global;
 /// *Type*: the base's.
 ///
 /// *Pseudo-code*: for the entries in order, `adapter(a..) = if a[key_place] == key { if valid[needs[0]]
-/// && .. { specialised(a..) } else { base(a..) } } else { the rest of the entries, and last base(a..) }`,
-/// where `specialised` is what `specialise` makes of the base.
+/// && .. { specialised(a..) } else { base(a..) } } else { the rest of the entries, and last
+/// base(a..) }`, where `specialised` is what `specialise` makes of the base.
 ///
 /// *Example*: over a base of type `(int)int` with point 0, the one entry of key 1 and need 0 makes
 /// `guard(ieq behind 1, point(0, the base for 1 without point 0, base), base)`.
 ///
-/// The handle gives what the base gives, whichever points are valid. It takes time linear in the size of
-/// the base, for each entry. `may_chain` tests what it asks for: there are at most 4 entries, each of at
-/// most 8 needs; the key place is a parameter, and each key is of its kind.
+/// The handle gives what the base gives, whichever points are valid. It takes time linear in the
+/// size of the base, for each entry. `may_chain` tests what it asks for: there are at most 4
+/// entries, each of at most 8 needs; the key place is a parameter, and each key is of its kind.
 pub fn chain(
     alloc: Global,
     base: &Declared,
@@ -39,7 +42,12 @@ pub fn chain(
     entries: &[Entry],
 ) -> Result<Handle, NoMemory>
     requires may { MayChain base.now.signature key_place entries.now }
-    ensures value { IfOk result (λ h. h ≡ record { tree = chain_of (take key_place base.now.signature.parameters) base.now.tree entries.now; signature = base.now.signature }) }
+    ensures value { IfOk result (λ h. h ≡ record {
+      tree = chain_of
+          (take key_place base.now.signature.parameters) base.now.tree entries.now;
+      signature
+          = base.now.signature;
+    }) }
     ensures faithful { IfOk result (λ h. IsFaithful h.tree base.now.tree base.now.signature) }
 {
     let base = base.handle();
@@ -58,7 +66,12 @@ fn chain_over(
 ) -> Result<Handle, NoMemory>
     requires declared { IsDeclared base.now }
     requires may { MayChain base.now.signature key_place entries.now }
-    ensures value { IfOk result (λ h. h ≡ record { tree = chain_of (take key_place base.now.signature.parameters) base.now.tree entries.now; signature = base.now.signature }) }
+    ensures value { IfOk result (λ h. h ≡ record {
+      tree = chain_of
+          (take key_place base.now.signature.parameters) base.now.tree entries.now;
+      signature
+          = base.now.signature;
+    }) }
 {
     let Some((entry, rest)) = entries.split_first() else {
         let cache = base.share().map_err(|_| NoMemory)?;
@@ -80,13 +93,15 @@ fn link(
     requires declared { IsDeclared base.now }
     requires inside { key_place < length base.now.signature.parameters }
     requires key { kind_of entry.now.key ≡ kind_at base.now.signature.parameters key_place }
-    requires few_needs { length entry.now.needs ≤ 8 }
+    requires few_needs { length entry.now.needs ≤ most_needs }
     requires same { others.now.signature ≡ base.now.signature }
-    requires shallow { depth others.now.tree ≤ 76 }
-    requires small { size others.now.tree ≤ 151600 }
+    requires shallow { depth others.now.tree ≤ deepest_chain }
+    requires small { size others.now.tree ≤ most_chain_nodes }
     ensures value { IfOk result (λ h. h ≡ record {
-      tree = guard_tree (key_test_of (take key_place base.now.signature.parameters) entry.now.key)
-          (points_of entry.now.needs (specialised entry.now.needs (take key_place base.now.signature.parameters) entry.now.key base.now.tree) base.now.tree)
+      tree = guard_tree
+          (key_test_of (take key_place base.now.signature.parameters) entry.now.key)
+          (points_of entry.now.needs (specialised entry.now.needs
+          (take key_place base.now.signature.parameters) entry.now.key base.now.tree) base.now.tree)
           others.now.tree;
       signature = base.now.signature;
     }) }
@@ -104,9 +119,13 @@ fn points(alloc: Global, needs: &[u32], target: &Handle, base: &Handle) -> Resul
     requires first { IsDeclared target.now }
     requires second { IsDeclared base.now }
     requires same { target.now.signature ≡ base.now.signature }
-    requires parameters { length base.now.signature.parameters ≤ 16 }
-    requires few { length needs.now ≤ 8 }
-    ensures value { IfOk result (λ h. h ≡ record { tree = points_of needs.now target.now.tree base.now.tree; signature = base.now.signature }) }
+    requires parameters { length base.now.signature.parameters ≤ most_parameters }
+    requires few { length needs.now ≤ most_needs }
+    ensures value { IfOk result (λ h. h ≡ record {
+      tree = points_of needs.now target.now.tree
+          base.now.tree;
+      signature = base.now.signature;
+    }) }
 {
     let Some((need, rest)) = needs.split_first() else {
         let same = target.share().map_err(|_| NoMemory)?;

@@ -15,7 +15,7 @@ pub const MOST_NEEDS: usize = 8;
 /// A case that an inline cache holds (Hölzle, Chambers and Ungar, Optimizing Dynamically-Typed
 /// Object-Oriented Languages With Polymorphic Inline Caches, 1991): a key, and the points that the
 /// tree for it needs.
-#[derive(Drop)]
+#[derive(Debug, Drop)]
 pub struct Entry {
     key: Value,
     needs: Vec<u32>,
@@ -53,8 +53,8 @@ impl Entry {
 }
 
 /// Whether `chain` may make a cache of these entries over a base of this type: the key place is a
-/// parameter, there are at most 4 entries, and each has a key of the kind of that parameter and at most
-/// 8 needs.
+/// parameter, there are at most 4 entries, and each has a key of the kind of that parameter and at
+/// most 8 needs.
 pub fn may_chain(base: &MethodType, key_place: usize, entries: &[Entry]) -> bool
     ensures same { IsTrue result ↔ MayChain base.now key_place entries.now }
 {

@@ -2,13 +2,8 @@
 
 ghost use Rattle.std.specs.Prelude.{◌≡◌, Ok, IfOk, IfErr};
 
+use mh_base::NoMemory;
 use mh_tree::TreeFault;
-use thiserror::Error;
-
-/// A growth was refused, or a further owner of a text or a tree.
-#[derive(Clone, Copy, Debug, PartialEq, Eq, Error)]
-#[error("1 NoMemory")]
-pub struct NoMemory;
 
 // What a constructor made whose tests all pass: it is refused memory alone.
 pub(crate) fn expect_made<T>(built: Result<T, TreeFault>) -> Result<T, NoMemory>

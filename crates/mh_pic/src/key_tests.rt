@@ -4,8 +4,10 @@ ghost use Rattle.std.specs.Prelude.{◌≡◌, ◌<◌, ◌++◌, ◌∷◌, [],
 ghost use Rattle.mh_type.specs.declared.kind.Kind.TheVariants as kinds;
 ghost use Rattle.mh_type.specs.Kinds.{kind_of};
 ghost use Rattle.mh_pic.specs.Keys.{equality as equality_of, first_test as first_test_of, key_test as key_test_of};
+ghost use Rattle.mh_type.specs.Limits.{most_parameters};
 
-use crate::fault::{NoMemory, expect_made};
+use crate::fault::expect_made;
+use mh_base::NoMemory;
 use mh_tree::Handle;
 use mh_type::{Kind, Op, Value};
 use std::alloc::Global;
@@ -31,7 +33,11 @@ fn share(value: &Value) -> Result<Value, NoMemory>
 
 // The test whether the first argument is the key.
 fn first_test(alloc: Global, key: &Value) -> Result<Handle, NoMemory>
-    ensures value { IfOk result (λ h. h ≡ record { tree = first_test_of key.now; signature = record { ret = kinds.Boolean; parameters = kind_of key.now ∷ [] } }) }
+    ensures value { IfOk result (λ h. h ≡ record {
+      tree = first_test_of key.now;
+      signature = record
+          { ret = kinds.Boolean; parameters = kind_of key.now ∷ [] };
+    }) }
 {
     let equality = expect_made(Handle::op(alloc, equality(key.kind())))?;
     let key = share(key)?;
@@ -41,8 +47,12 @@ fn first_test(alloc: Global, key: &Value) -> Result<Handle, NoMemory>
 
 /// The test whether the argument behind these kinds is the key.
 pub(crate) fn key_test(alloc: Global, before: &[Kind], key: &Value) -> Result<Handle, NoMemory>
-    requires few { length before.now < 16 }
-    ensures value { IfOk result (λ h. h ≡ record { tree = key_test_of before.now key.now; signature = record { ret = kinds.Boolean; parameters = before.now ++ kind_of key.now ∷ [] } }) }
+    requires few { length before.now < most_parameters }
+    ensures value { IfOk result (λ h. h ≡ record {
+      tree = key_test_of before.now key.now;
+      signature
+          = record { ret = kinds.Boolean; parameters = before.now ++ kind_of key.now ∷ [] };
+    }) }
 {
     let first = first_test(alloc, key)?;
     if before.is_empty() {

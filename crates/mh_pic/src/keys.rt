@@ -73,8 +73,8 @@ pub fn key_in<'a>(node: &'a Node, before: &[Kind]) -> Option<&'a Value>
     first_key(target)
 }
 
-/// What a key test of this key, if it is one of the other key's kind, answers where the argument is the
-/// other key.
+/// What a key test of this key, if it is one of the other key's kind, answers where the argument is
+/// the other key.
 pub fn decide_by_key(key: &Value, tested: Option<&Value>) -> Option<bool>
     ensures value { result ≡ decided key.now (option_copied tested.entry) }
 {

@@ -1,4 +1,5 @@
-//! Laws of the definitions: what specialised trees and chains do, for every tree. The functions compute nothing.
+//! Laws of the definitions: what specialised trees and chains do, for every tree. The functions
+//! compute nothing.
 
 ghost use Rattle.std.specs.Prelude.{◌≡◌, ◌<◌, ◌≤◌, ℕ, Bool, true, List, Some, length, take};
 ghost use Rattle.mh_type.specs.declared.kind.Kind.{Kind};
@@ -8,7 +9,7 @@ ghost use Rattle.mh_type.specs.declared.value.Value.TheVariants as value;
 ghost use Rattle.mh_type.specs.Kinds.{kind_of};
 ghost use Rattle.mh_type.specs.Signature.{Signature};
 ghost use Rattle.mh_tree.specs.Arity.{arity};
-ghost use Rattle.mh_tree.specs.Limits.{depth, size, point_bound};
+ghost use Rattle.mh_tree.specs.Limits.{depth, size, point_bound, greatest_declared_depth, most_declared_nodes};
 ghost use Rattle.mh_tree.specs.Meaning.{mean, steps, argument};
 ghost use Rattle.mh_tree.specs.Tree.{Tree};
 ghost use Rattle.mh_tree.specs.Typing.{IsTyped, kind_at};
@@ -16,43 +17,63 @@ ghost use Rattle.mh_type.specs.Values.{same_value};
 ghost use Rattle.mh_pic.specs.Keys.{key_test, key_in};
 ghost use Rattle.mh_pic.specs.Specialised.{AreValid, NamesNone, specialised};
 ghost use Rattle.mh_pic.specs.Chains.{PlainEntry, IsFaithful, HaveKind, HaveFewNeeds, HaveNeedsBelow, chain};
+ghost use Rattle.mh_type.specs.Limits.{most_parameters};
+ghost use Rattle.mh_pic.specs.Limits.{most_entries, deepest_chain, most_chain_nodes};
+ghost use Rattle.mh_tree.specs.Environment.{Environment};
 
-/// A key test answers whether the argument at the key place is its key, where it is of the key's kind;
-/// and `key_in` gives the key of each key test, and none of any other tree.
+/// A key test answers whether the argument at the key place is its key, where it is of the key's
+/// kind; and `key_in` gives the key of each key test, and none of any other tree.
 pub fn key_tests_ask_for_keys()
-    ensures answers { (v : List Bool) → (kinds : List Kind) → (key : Value) → (a : List Value) → length kinds < length a →
-        kind_of (argument a (length kinds)) ≡ kind_of key →
-        mean v (key_test kinds key) (take (arity (key_test kinds key)) a) ≡ outcome.Value (value.Boolean (same_value (argument a (length kinds)) key)) }
+    ensures answers { (v : Environment) → (kinds : List Kind) → (key : Value) → (a : List Value)
+        → length kinds < length a → kind_of (argument a (length kinds)) ≡ kind_of key
+        → mean v (key_test kinds key) (take (arity (key_test kinds key)) a) ≡ outcome.Value
+        (value.Boolean (same_value (argument a (length kinds)) key)) }
     ensures equal { (x : Value) → (y : Value) → same_value x y ≡ true → x ≡ y }
-    ensures shown { (kinds : List Kind) → (key : Value) → key_in kinds (key_test kinds key) ≡ Some key }
-    ensures alone { (kinds : List Kind) → (t : Tree) → (key : Value) → key_in kinds t ≡ Some key → t ≡ key_test kinds key }
+    ensures shown { (kinds : List Kind) → (key : Value)
+        → key_in kinds (key_test kinds key) ≡ Some key }
+    ensures alone { (kinds : List Kind) → (t : Tree) → (key : Value) → key_in kinds t ≡ Some key
+        → t ≡ key_test kinds key }
 {}
 
-/// A specialised tree has the type of its tree and names no need; it is no deeper, no larger, and names
-/// no other point. Where all needs are valid and the argument at the key place is the key, it gives what
-/// the tree gives, in at most as many steps.
+/// A specialised tree has the type of its tree and names no need; it is no deeper, no larger, and
+/// names no other point. Where all needs are valid and the argument at the key place is the key, it
+/// gives what the tree gives, in at most as many steps.
 pub fn specialised_trees_agree()
-    ensures same { (needs : List ℕ) → (kinds : List Kind) → (key : Value) → (v : List Bool) → AreValid v needs → (a : List Value) →
-        length kinds < length a → argument a (length kinds) ≡ key → (t : Tree) → mean v (specialised needs kinds key t) a ≡ mean v t a }
-    ensures quick { (needs : List ℕ) → (kinds : List Kind) → (key : Value) → (v : List Bool) → AreValid v needs → (a : List Value) →
-        length kinds < length a → argument a (length kinds) ≡ key → (t : Tree) → steps v (specialised needs kinds key t) a ≤ steps v t a }
-    ensures typed { (needs : List ℕ) → (kinds : List Kind) → (key : Value) → (t : Tree) → (m : Signature) → IsTyped t m → IsTyped (specialised needs kinds key t) m }
-    ensures unnamed { (needs : List ℕ) → (kinds : List Kind) → (key : Value) → (t : Tree) → NamesNone needs (specialised needs kinds key t) }
-    ensures shallow { (needs : List ℕ) → (kinds : List Kind) → (key : Value) → (t : Tree) → depth (specialised needs kinds key t) ≤ depth t }
-    ensures small { (needs : List ℕ) → (kinds : List Kind) → (key : Value) → (t : Tree) → size (specialised needs kinds key t) ≤ size t }
-    ensures bound { (needs : List ℕ) → (kinds : List Kind) → (key : Value) → (t : Tree) → point_bound (specialised needs kinds key t) ≤ point_bound t }
+    ensures same { (needs : List ℕ) → (kinds : List Kind) → (key : Value) → (v : Environment)
+        → AreValid v needs → (a : List Value) → length kinds < length a
+        → argument a (length kinds) ≡ key → (t : Tree)
+        → mean v (specialised needs kinds key t) a ≡ mean v t a }
+    ensures quick { (needs : List ℕ) → (kinds : List Kind) → (key : Value) → (v : Environment)
+        → AreValid v needs → (a : List Value) → length kinds < length a
+        → argument a (length kinds) ≡ key → (t : Tree)
+        → steps v (specialised needs kinds key t) a ≤ steps v t a }
+    ensures typed { (needs : List ℕ) → (kinds : List Kind) → (key : Value) → (t : Tree)
+        → (m : Signature) → IsTyped t m → IsTyped (specialised needs kinds key t) m }
+    ensures unnamed { (needs : List ℕ) → (kinds : List Kind) → (key : Value) → (t : Tree)
+        → NamesNone needs (specialised needs kinds key t) }
+    ensures shallow { (needs : List ℕ) → (kinds : List Kind) → (key : Value) → (t : Tree)
+        → depth (specialised needs kinds key t) ≤ depth t }
+    ensures small { (needs : List ℕ) → (kinds : List Kind) → (key : Value) → (t : Tree)
+        → size (specialised needs kinds key t) ≤ size t }
+    ensures bound { (needs : List ℕ) → (kinds : List Kind) → (key : Value) → (t : Tree)
+        → point_bound (specialised needs kinds key t) ≤ point_bound t }
 {}
 
-/// A chain has the type of its base, and gives what its base gives, whichever points are valid. It names
-/// points of its base and of its needs alone. With at most 4 entries of at most 8 needs, over a declared
-/// tree, it is at most 76 deep and has at most 151,600 nodes.
+/// A chain has the type of its base, and gives what its base gives, whichever points are valid. It
+/// names points of its base and of its needs alone. With at most 4 entries of at most 8 needs, over
+/// a declared tree, it is at most 76 deep and has at most 151,600 nodes.
 pub fn chains_are_faithful()
-    ensures faithful { (m : Signature) → (q : ℕ) → q < length m.parameters → length m.parameters ≤ 16 → (base : Tree) → IsTyped base m →
-        (entries : List PlainEntry) → HaveKind (kind_at m.parameters q) entries → IsFaithful (chain (take q m.parameters) base entries) base m }
-    ensures deep { (kinds : List Kind) → (base : Tree) → (entries : List PlainEntry) → HaveFewNeeds entries → length entries ≤ 4 → depth base ≤ 64 →
-        depth (chain kinds base entries) ≤ 76 }
-    ensures large { (kinds : List Kind) → (base : Tree) → (entries : List PlainEntry) → HaveFewNeeds entries → length entries ≤ 4 → size base ≤ 4096 →
-        size (chain kinds base entries) ≤ 151600 }
-    ensures bound { (kinds : List Kind) → (base : Tree) → (entries : List PlainEntry) → (n : ℕ) → HaveNeedsBelow n entries → point_bound base ≤ n →
-        point_bound (chain kinds base entries) ≤ n }
+    ensures faithful { (m : Signature) → (q : ℕ) → q < length m.parameters
+        → length m.parameters ≤ most_parameters → (base : Tree) → IsTyped base m
+        → (entries : List PlainEntry) → HaveKind (kind_at m.parameters q) entries
+        → IsFaithful (chain (take q m.parameters) base entries) base m }
+    ensures deep { (kinds : List Kind) → (base : Tree) → (entries : List PlainEntry)
+        → HaveFewNeeds entries → length entries ≤ most_entries
+        → depth base ≤ greatest_declared_depth → depth (chain kinds base entries) ≤ deepest_chain }
+    ensures large { (kinds : List Kind) → (base : Tree) → (entries : List PlainEntry)
+        → HaveFewNeeds entries → length entries ≤ most_entries → size base ≤ most_declared_nodes
+        → size (chain kinds base entries) ≤ most_chain_nodes }
+    ensures bound { (kinds : List Kind) → (base : Tree) → (entries : List PlainEntry) → (n : ℕ)
+        → HaveNeedsBelow n entries → point_bound base ≤ n
+        → point_bound (chain kinds base entries) ≤ n }
 {}

@@ -1,4 +1,11 @@
 //! Inline caches as trees: key tests, specialised trees and chains.
+//!
+//! ```
+//! let entries = [Entry::new(Value::Int(1), needs)];
+//! if may_chain(base.handle().method_type(), 0, &entries) {
+//!     let cache = chain(alloc, &base, 0, &entries)?;
+//! }
+//! ```
 #![tactic(auto)]
 
 mod chaining;
@@ -13,9 +20,9 @@ mod specialising;
 mod stripping;
 
 pub use chaining::chain;
-pub use entry::{Entry, may_chain};
-pub use fault::NoMemory;
+pub use entry::{Entry, MOST_ENTRIES, MOST_NEEDS, may_chain};
 pub use laws::{chains_are_faithful, key_tests_ask_for_keys, specialised_trees_agree};
+pub use mh_base::NoMemory;
 pub use prepared_chaining::prepared_chain;
 pub use specialising::specialise;
 pub use stripping::strip;

@@ -9,17 +9,20 @@ ghost use Rattle.mh_tree.specs.Typing.{kind_at};
 ghost use Rattle.mh_pic.specs.Chains.{chain as chain_of, points as points_of, MayChain};
 ghost use Rattle.mh_pic.specs.Keys.{key_test as key_test_of};
 ghost use Rattle.mh_pic.specs.Specialised.{specialised};
+ghost use Rattle.mh_type.specs.Limits.{most_parameters};
+ghost use Rattle.mh_pic.specs.Limits.{most_needs, deepest_chain, most_chain_nodes};
 
 use crate::entry::Entry;
-use crate::fault::{NoMemory, expect_made};
+use crate::fault::expect_made;
 use crate::key_tests::key_test;
 use crate::specialising::specialise;
+use mh_base::NoMemory;
 use mh_tree::{Handle, Prepared};
 use std::alloc::Global;
 
-/// The inline cache of `chain` with its code, in which the base's code stands once: only key tests and
-/// specialised trees are prepared. The base is within the limits of declared trees; the rest is as at
-/// `chain`.
+/// The inline cache of `chain` with its code, in which the base's code stands once: only key tests
+/// and specialised trees are prepared. The base is within the limits of declared trees; the rest is
+/// as at `chain`.
 pub fn prepared_chain(
     alloc: Global,
     base: &Prepared,
@@ -28,7 +31,12 @@ pub fn prepared_chain(
 ) -> Result<Prepared, NoMemory>
     requires declared { IsDeclared base.now }
     requires may { MayChain base.now.signature key_place entries.now }
-    ensures value { IfOk result (λ p. p ≡ record { tree = chain_of (take key_place base.now.signature.parameters) base.now.tree entries.now; signature = base.now.signature }) }
+    ensures value { IfOk result (λ p. p ≡ record {
+      tree = chain_of
+          (take key_place base.now.signature.parameters) base.now.tree entries.now;
+      signature
+          = base.now.signature;
+    }) }
 {
     let Some((entry, rest)) = entries.split_first() else {
         let cache = base.share().map_err(|_| NoMemory)?;
@@ -50,13 +58,15 @@ fn link(
     requires declared { IsDeclared base.now }
     requires inside { key_place < length base.now.signature.parameters }
     requires key { kind_of entry.now.key ≡ kind_at base.now.signature.parameters key_place }
-    requires few_needs { length entry.now.needs ≤ 8 }
+    requires few_needs { length entry.now.needs ≤ most_needs }
     requires same { others.now.signature ≡ base.now.signature }
-    requires shallow { depth others.now.tree ≤ 76 }
-    requires small { size others.now.tree ≤ 151600 }
+    requires shallow { depth others.now.tree ≤ deepest_chain }
+    requires small { size others.now.tree ≤ most_chain_nodes }
     ensures value { IfOk result (λ p. p ≡ record {
-      tree = guard_tree (key_test_of (take key_place base.now.signature.parameters) entry.now.key)
-          (points_of entry.now.needs (specialised entry.now.needs (take key_place base.now.signature.parameters) entry.now.key base.now.tree) base.now.tree)
+      tree = guard_tree
+          (key_test_of (take key_place base.now.signature.parameters) entry.now.key)
+          (points_of entry.now.needs (specialised entry.now.needs
+          (take key_place base.now.signature.parameters) entry.now.key base.now.tree) base.now.tree)
           others.now.tree;
       signature = base.now.signature;
     }) }
@@ -88,9 +98,13 @@ fn points(
     requires first { IsDeclared target.now }
     requires second { IsDeclared base.now }
     requires same { target.now.signature ≡ base.now.signature }
-    requires parameters { length base.now.signature.parameters ≤ 16 }
-    requires few { length needs.now ≤ 8 }
-    ensures value { IfOk result (λ p. p ≡ record { tree = points_of needs.now target.now.tree base.now.tree; signature = base.now.signature }) }
+    requires parameters { length base.now.signature.parameters ≤ most_parameters }
+    requires few { length needs.now ≤ most_needs }
+    ensures value { IfOk result (λ p. p ≡ record {
+      tree = points_of needs.now target.now.tree
+          base.now.tree;
+      signature = base.now.signature;
+    }) }
 {
     let Some((need, rest)) = needs.split_first() else {
         let same = target.share().map_err(|_| NoMemory)?;

@@ -13,7 +13,8 @@ use std::sync::Arc;
 
 // The part that was made, or a further owner of the old one.
 pub(crate) fn owner(made: Option<Arc<Node>>, old: &Arc<Node>) -> Result<Arc<Node>, TreeFault>
-    ensures value { IfOk result (λ a. tree_of (arc_value a) ≡ made_or made (tree_of (arc_value old.now))) }
+    ensures value { IfOk result (λ a. tree_of (arc_value a) ≡ made_or made
+        (tree_of (arc_value old.now))) }
     ensures refused { IfErr result (λ e. e ≡ TreeFault.NoMemory) }
 {
     match made {
@@ -38,7 +39,8 @@ pub(crate) fn insert(
     position: usize,
     values: &[Value],
 ) -> Result<Option<Arc<Node>>, TreeFault>
-    ensures value { IfOk result (λ o. (t : Tree) → made_or o (insert_tree t position values.now) ≡ insert_tree (made_or target t) position values.now) }
+    ensures value { IfOk result (λ o. (t : Tree) → made_or o (insert_tree t position values.now)
+        ≡ insert_tree (made_or target t) position values.now) }
     ensures refused { IfErr result (λ e. e ≡ TreeFault.NoMemory) }
 {
     let Some(target) = target else {
@@ -62,7 +64,8 @@ pub(crate) fn discard(
     position: usize,
     kinds: &[Kind],
 ) -> Result<Option<Arc<Node>>, TreeFault>
-    ensures value { IfOk result (λ o. (t : Tree) → made_or o (drop_tree t position kinds.now) ≡ drop_tree (made_or target t) position kinds.now) }
+    ensures value { IfOk result (λ o. (t : Tree) → made_or o (drop_tree t position kinds.now)
+        ≡ drop_tree (made_or target t) position kinds.now) }
     ensures refused { IfErr result (λ e. e ≡ TreeFault.NoMemory) }
 {
     let Some(target) = target else {
@@ -86,7 +89,9 @@ pub(crate) fn permute(
     new_type: &MethodType,
     reorder: &[usize],
 ) -> Result<Option<Arc<Node>>, TreeFault>
-    ensures value { IfOk result (λ o. (t : Tree) → made_or o (permute_tree t new_type.now reorder.now) ≡ permute_tree (made_or target t) new_type.now reorder.now) }
+    ensures value { IfOk result (λ o. (t : Tree) → made_or o
+        (permute_tree t new_type.now reorder.now) ≡ permute_tree
+        (made_or target t) new_type.now reorder.now) }
     ensures refused { IfErr result (λ e. e ≡ TreeFault.NoMemory) }
 {
     let Some(target) = target else {
@@ -112,7 +117,9 @@ pub(crate) fn filter(
     position: usize,
     filters: Vec<Option<Arc<Node>>>,
 ) -> Result<Option<Arc<Node>>, TreeFault>
-    ensures value { IfOk result (λ o. (t : Tree) → made_or o t ≡ filter_tree (made_or made (tree_of (arc_value target.now))) position (filters_of (filter_trees filters.items))) }
+    ensures value { IfOk result (λ o. (t : Tree) → made_or o t ≡ filter_tree
+        (made_or made (tree_of (arc_value target.now))) position
+        (filters_of (filter_trees filters.items))) }
     ensures refused { IfErr result (λ e. e ≡ TreeFault.NoMemory) }
 {
     let target = owner(made, target)?;
@@ -134,8 +141,10 @@ pub(crate) fn filter_return(
     other: Option<Arc<Node>>,
     filter: &Arc<Node>,
 ) -> Result<Option<Arc<Node>>, TreeFault>
-    ensures value { IfOk result (λ o. made_or o (filter_return_tree (tree_of (arc_value target.now)) (tree_of (arc_value filter.now))) ≡
-        filter_return_tree (made_or made (tree_of (arc_value target.now))) (made_or other (tree_of (arc_value filter.now)))) }
+    ensures value { IfOk result (λ o. made_or o (filter_return_tree (tree_of (arc_value target.now))
+        (tree_of (arc_value filter.now))) ≡ filter_return_tree
+        (made_or made (tree_of (arc_value target.now)))
+        (made_or other (tree_of (arc_value filter.now)))) }
     ensures refused { IfErr result (λ e. e ≡ TreeFault.NoMemory) }
 {
     match (made, other) {
@@ -156,8 +165,10 @@ pub(crate) fn fold(
     other: Option<Arc<Node>>,
     combiner: &Arc<Node>,
 ) -> Result<Option<Arc<Node>>, TreeFault>
-    ensures value { IfOk result (λ o. made_or o (fold_tree (tree_of (arc_value target.now)) (tree_of (arc_value combiner.now))) ≡
-        fold_tree (made_or made (tree_of (arc_value target.now))) (made_or other (tree_of (arc_value combiner.now)))) }
+    ensures value { IfOk result (λ o. made_or o (fold_tree (tree_of (arc_value target.now))
+        (tree_of (arc_value combiner.now))) ≡ fold_tree
+        (made_or made (tree_of (arc_value target.now)))
+        (made_or other (tree_of (arc_value combiner.now)))) }
     ensures refused { IfErr result (λ e. e ≡ TreeFault.NoMemory) }
 {
     match (made, other) {
@@ -179,8 +190,10 @@ pub(crate) fn point(
     other: Option<Arc<Node>>,
     fallback: &Arc<Node>,
 ) -> Result<Option<Arc<Node>>, TreeFault>
-    ensures value { IfOk result (λ o. made_or o (point_tree point (tree_of (arc_value target.now)) (tree_of (arc_value fallback.now))) ≡
-        point_tree point (made_or made (tree_of (arc_value target.now))) (made_or other (tree_of (arc_value fallback.now)))) }
+    ensures value { IfOk result (λ o. made_or o (point_tree point (tree_of (arc_value target.now))
+        (tree_of (arc_value fallback.now))) ≡ point_tree point
+        (made_or made (tree_of (arc_value target.now)))
+        (made_or other (tree_of (arc_value fallback.now)))) }
     ensures refused { IfErr result (λ e. e ≡ TreeFault.NoMemory) }
 {
     match (made, other) {
@@ -210,8 +223,11 @@ pub(crate) fn guard(
     other: Option<Arc<Node>>,
     fallback: &Arc<Node>,
 ) -> Result<Option<Arc<Node>>, TreeFault>
-    ensures value { IfOk result (λ o. made_or o (guard_tree (tree_of (arc_value test.now)) (tree_of (arc_value target.now)) (tree_of (arc_value fallback.now))) ≡
-        guard_tree (made_or asked (tree_of (arc_value test.now))) (made_or made (tree_of (arc_value target.now))) (made_or other (tree_of (arc_value fallback.now)))) }
+    ensures value { IfOk result (λ o. made_or o (guard_tree (tree_of (arc_value test.now))
+        (tree_of (arc_value target.now)) (tree_of (arc_value fallback.now))) ≡ guard_tree
+        (made_or asked (tree_of (arc_value test.now)))
+        (made_or made (tree_of (arc_value target.now)))
+        (made_or other (tree_of (arc_value fallback.now)))) }
     ensures refused { IfErr result (λ e. e ≡ TreeFault.NoMemory) }
 {
     match (asked, made, other) {

@@ -8,19 +8,20 @@ ghost use Rattle.mh_tree.specs.TreeOf.{tree_of};
 ghost use Rattle.mh_pic.specs.Specialised.{specialised, Serves};
 ghost use Rattle.mh_pic.specs.Outcomes.{made_or};
 
-use crate::fault::NoMemory;
 use crate::keys::{decide_by_key, key_in};
 use crate::rebuilding::{guard, owner, point};
 use crate::stripping::strip;
+use mh_base::NoMemory;
 use mh_tree::{Handle, Node, TreeFault};
 use mh_type::{Kind, Value};
 use std::alloc::Global;
 use std::sync::Arc;
 
 /// The tree of a site's handle for needs, which are points that are valid, and for a key, which the
-/// argument at the key place is. It has the handle's type and names no need. Where all needs are valid
-/// and the argument at the key place is the key, it gives what the handle gives, in at most as many steps.
-/// Parts that stay are shared. It takes time linear in the size, times the number of needs at each point.
+/// argument at the key place is. It has the handle's type and names no need. Where all needs are
+/// valid and the argument at the key place is the key, it gives what the handle gives, in at most
+/// as many steps. Parts that stay are shared. It takes time linear in the size, times the number of
+/// needs at each point.
 pub fn specialise(
     alloc: Global,
     handle: &Handle,
@@ -29,8 +30,14 @@ pub fn specialise(
     key: &Value,
 ) -> Result<Handle, NoMemory>
     requires inside { key_place < length handle.now.signature.parameters }
-    ensures value { IfOk result (λ h. h ≡ record { tree = specialised needs.now (take key_place handle.now.signature.parameters) key.now handle.now.tree; signature = handle.now.signature }) }
-    ensures serves { IfOk result (λ h. Serves needs.now key_place key.now h.tree handle.now.tree handle.now.signature) }
+    ensures value { IfOk result (λ h. h ≡ record {
+      tree = specialised needs.now
+          (take key_place handle.now.signature.parameters) key.now handle.now.tree;
+      signature
+          = handle.now.signature;
+    }) }
+    ensures serves { IfOk result (λ h. Serves needs.now key_place key.now h.tree handle.now.tree
+        handle.now.signature) }
 {
     let before = &handle.method_type().parameters()[..key_place];
     let made = specialise_node(alloc, handle.root(), needs, before, key);
@@ -42,7 +49,11 @@ pub fn specialise(
 // The tree that was made, as a handle of the old one's type; the old one where none was made.
 fn rebuild(alloc: Global, old: &Handle, made: Option<Arc<Node>>) -> Result<Handle, NoMemory>
     requires sound { IsSound (made_or made old.now.tree) old.now.signature }
-    ensures value { IfOk result (λ h. h ≡ record { tree = made_or made old.now.tree; signature = old.now.signature }) }
+    ensures value { IfOk result (λ h. h ≡ record {
+      tree = made_or made old.now.tree;
+      signature
+          = old.now.signature;
+    }) }
 {
     let handle = match made {
         Some(root) => Handle::from_root(alloc, root, old.method_type()),
@@ -51,8 +62,8 @@ fn rebuild(alloc: Global, old: &Handle, made: Option<Arc<Node>>) -> Result<Handl
     handle.map_err(|_| NoMemory)
 }
 
-// The tree for needs that are valid and a key that the argument behind these kinds is; none where it is
-// the same tree, so that a caller keeps the old one. What is made shares the parts that stay.
+// The tree for needs that are valid and a key that the argument behind these kinds is; none where
+// it is the same tree, so that a caller keeps the old one. What is made shares the parts that stay.
 #[cycle(specialises)]
 fn specialise_node(
     alloc: Global,
@@ -61,7 +72,8 @@ fn specialise_node(
     before: &[Kind],
     key: &Value,
 ) -> Result<Option<Arc<Node>>, TreeFault>
-    ensures value { IfOk result (λ o. made_or o (tree_of node.now) ≡ specialised needs.now before.now key.now (tree_of node.now)) }
+    ensures value { IfOk result (λ o. made_or o (tree_of node.now)
+        ≡ specialised needs.now before.now key.now (tree_of node.now)) }
     ensures refused { IfErr result (λ e. e ≡ TreeFault.NoMemory) }
 {
     match node {
@@ -105,8 +117,11 @@ fn specialise_guard(
     before: &[Kind],
     key: &Value,
 ) -> Result<Option<Arc<Node>>, TreeFault>
-    ensures value { IfOk result (λ o. made_or o (guard_tree (tree_of (arc_value test.now)) (tree_of (arc_value target.now)) (tree_of (arc_value fallback.now))) ≡
-        specialised needs.now before.now key.now (guard_tree (tree_of (arc_value test.now)) (tree_of (arc_value target.now)) (tree_of (arc_value fallback.now)))) }
+    ensures value { IfOk result (λ o. made_or o (guard_tree (tree_of (arc_value test.now))
+        (tree_of (arc_value target.now)) (tree_of (arc_value fallback.now)))
+        ≡ specialised needs.now before.now key.now
+        (guard_tree (tree_of (arc_value test.now)) (tree_of (arc_value target.now))
+        (tree_of (arc_value fallback.now)))) }
     ensures refused { IfErr result (λ e. e ≡ TreeFault.NoMemory) }
 {
     match decide_by_key(key, key_in(test, before)) {

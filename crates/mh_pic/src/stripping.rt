@@ -14,12 +14,13 @@ use mh_tree::{Node, TreeFault};
 use std::alloc::Global;
 use std::sync::Arc;
 
-/// The tree without the needed points, each of which gives way to its target; none where it is the same,
-/// so that a caller keeps the old part. What is made shares the parts that stay. It takes time linear in
-/// the size, times the number of needs at each point. Refused with `NoMemory` alone.
+/// The tree without the needed points, each of which gives way to its target; none where it is the
+/// same, so that a caller keeps the old part. What is made shares the parts that stay. It takes
+/// time linear in the size, times the number of needs at each point. Refused with `NoMemory` alone.
 #[cycle(strips)]
 pub fn strip(alloc: Global, node: &Node, needs: &[u32]) -> Result<Option<Arc<Node>>, TreeFault>
-    ensures value { IfOk result (λ o. made_or o (tree_of node.now) ≡ stripped needs.now (tree_of node.now)) }
+    ensures value { IfOk result (λ o. made_or o (tree_of node.now) ≡ stripped needs.now
+        (tree_of node.now)) }
     ensures refused { IfErr result (λ e. e ≡ TreeFault.NoMemory) }
 {
     match node {
@@ -164,7 +165,8 @@ fn strip_filters(
     filters: &[Option<Arc<Node>>],
     needs: &[u32],
 ) -> Result<Vec<Option<Arc<Node>>>, TreeFault>
-    ensures value { IfOk result (λ v. filters_of (filter_trees v.items) ≡ stripped_filters needs.now (filters_of (filter_trees filters.now))) }
+    ensures value { IfOk result (λ v. filters_of (filter_trees v.items) ≡ stripped_filters needs.now
+        (filters_of (filter_trees filters.now))) }
     ensures refused { IfErr result (λ e. e ≡ TreeFault.NoMemory) }
 {
     let mut stripped = Vec::new(alloc);

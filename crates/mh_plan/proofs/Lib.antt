@@ -1,9 +1,9 @@
-pub mod Members
-pub mod Concat
-pub mod Order
-pub mod Listed
-pub mod Amounts
-pub mod Best
-pub mod Union
-pub mod Shared
-pub mod Whole
+mod Members
+mod Concat
+mod Order
+mod Listed
+mod Amounts
+mod Best
+mod Union
+mod Shared
+mod Whole

@@ -5,7 +5,7 @@ use Rattle.std.specs.List.{slice_index_or}
 use Rattle.std.proofs.Math.Nat.{mod-add-div, mod-lt}
 use Rattle.std.proofs.lemmas.Bool.{cases_lt, true≢false}
 use Rattle.std.proofs.lemmas.List.{get_or-append_right, get_or_append_left}
-use Rattle.mh_network.specs.declared.memory.NoMemory.{NoMemory}
+use Rattle.mh_base.specs.declared.memory.NoMemory.{NoMemory}
 use Rattle.mh_network.specs.declared.part.Part.{Part}
 use Rattle.mh_network.specs.Problems.{ProblemData}
 use Rattle.mh_network.specs.Parts.{part_at, part_problem}

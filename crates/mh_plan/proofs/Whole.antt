@@ -4,7 +4,7 @@ use Rattle.std.specs.Prelude.{◌==◌, All, AllPairs, cond, pos, ◌-ℤ◌, �
 use Rattle.std.specs.List.Sorted.{IsNonDecreasingBy, IsPermutation, IsStrictlyIncreasing}
 use Rattle.std.proofs.Math.Path.{fun_ext}
 use Rattle.std.proofs.lemmas.List.Sorted.{All-permutation, sum_by-IsPermutation}
-use Rattle.mh_cert.specs.Plans.{Matches}
+use Rattle.mh_cert.specs.Plans.{AreRows, IsUnion, Matches}
 use Rattle.mh_network.specs.declared.part.Part.{Part}
 use Rattle.mh_network.specs.Problems.{ProblemData, IsProblem, link_at, gain_of, cost_of, needs_point, sum_of_gains}
 use Rattle.mh_network.specs.Alone.{StandAlone}
@@ -51,17 +51,11 @@ module _ (P : ProblemData) (problem : IsProblem P) (parts : List Part) (are : Ar
         let carried : value_of rows ≡ value_of (all_rows P parts are alone run solved) = sum_by-IsPermutation (λ (r : Row). r.2) _ rows moved in
         let worth_here : worth P (member links) ≡ pos (sum_of_gains P) -ℤ pos (value_of rows) =
         ap (worth P) (fun_ext same) ∙ (worth_chosen P parts are alone run solved ∙ ap (λ (v : ℕ). pos (sum_of_gains P) -ℤ pos v) (sym carried)) in
-        record {
-          eligible = all_members (λ j. (link_at P j).eligible ≡ true) links (λ j e. least.best.eligible j e);
-          links = rising;
-          points = record { ascending = up; same = needed };
-          rows = record {
-            needed = rows_needed;
-            positive = All-permutation (λ (r : Row). 0 < r.2) _ rows moved (all_positive P parts are alone run solved);
-            ordered = rows_ordered sorted;
-          };
-          gains = rows_gains;
-          costs = rows_costs;
-          worth = balance ∙ sym worth_here;
-          balance = balance;
-        }
+        let are_rows : AreRows P rows = record {
+          needed = rows_needed;
+          positive = All-permutation (λ (r : Row). 0 < r.2) _ rows moved (all_positive P parts are alone run solved);
+          ordered = rows_ordered sorted;
+        } in
+        let is_union : IsUnion P links points = record { ascending = up; same = needed } in
+        let eligible = all_members (λ j. (link_at P j).eligible ≡ true) links (λ j e. least.best.eligible j e) in
+        (eligible, (rising, (is_union, (are_rows, (rows_gains, (rows_costs, (balance ∙ sym worth_here, (balance, tt))))))))

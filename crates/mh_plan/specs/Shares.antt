@@ -1,7 +1,7 @@
 -- The runs of parts, shared out among workers.
 use Rattle.std.specs.Prelude.{ℕ, ◌+◌, ◌*◌, ◌/◌, ◌%◌, ◌≡◌, ◌<◌, List, [], Result, Ok, Err, length}
 use Rattle.std.specs.List.{slice_index_or}
-use Rattle.mh_network.specs.declared.memory.NoMemory.{NoMemory}
+use Rattle.mh_base.specs.declared.memory.NoMemory.{NoMemory}
 use Rattle.mh_network.specs.declared.part.Part.{Part}
 use Rattle.mh_network.specs.Problems.{ProblemData}
 use Rattle.mh_network.specs.Parts.{part_at, part_problem}

@@ -1,7 +1,7 @@
 //! What is told of the work as it goes on.
 
-/// Is told when the planning of a part begins and ends, by the worker that plans it. Parts are counted
-/// from 0, in the order of `Problem::parts`.
+/// Is told when the planning of a part begins and ends, by the worker that plans it. Parts are
+/// counted from 0, in the order of `Problem::parts`.
 pub trait Gate: Sync {
     /// The planning of a part begins.
     fn enter(&self, part: usize);

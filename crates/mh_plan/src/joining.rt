@@ -7,7 +7,8 @@ ghost use Rattle.mh_plan.specs.Joined.{joined, links_of, rows_of, row_key, whole
 ghost use Rattle.mh_plan.specs.Shares.{AreShared, run_at};
 
 use crate::runs::Runs;
-use mh_network::{NoMemory, Part};
+use mh_base::NoMemory;
+use mh_network::Part;
 use std::alloc::Global;
 
 /// A link, a point and an amount.
@@ -16,8 +17,10 @@ pub(crate) type Row = (u32, u32, u64);
 /// The links that the source reaches, part after part.
 pub(crate) fn join_links(alloc: Global, parts: &[Part], runs: &Runs) -> Result<Vec<u32>, NoMemory>
     requires shared { AreShared parts.now runs.now }
-    requires inside { (i : _) → i < length parts.now → All (λ k. k < length (part_at parts.now i).links) (run_at runs.now i).reached }
-    ensures value { IfOk result (λ links. links.items ≡ joined (links_of parts.now (run_at runs.now)) (length parts.now)) }
+    requires inside { (i : _) → i < length parts.now
+        → All (λ k. k < length (part_at parts.now i).links) (run_at runs.now i).reached }
+    ensures value { IfOk result (λ links. links.items ≡ joined
+        (links_of parts.now (run_at runs.now)) (length parts.now)) }
 {
     let mut links = Vec::new(alloc);
     for part in 0..parts.len() {
@@ -29,7 +32,8 @@ pub(crate) fn join_links(alloc: Global, parts: &[Part], runs: &Runs) -> Result<V
 
 fn push_links(links: &mut Vec<u32>, part: &Part, reached: &[u32]) -> Result<(), NoMemory>
     requires inside { All (λ k. k < length part.now.links) reached.now }
-    ensures value { OnOk result (links.new.items ≡ links.old.items ++ map (whole_link part.now) reached.now) }
+    ensures value { OnOk result (links.new.items ≡ links.old.items ++ map
+        (whole_link part.now) reached.now) }
 {
     let numbers = part.links.as_slice();
     for link in reached {
@@ -41,9 +45,12 @@ fn push_links(links: &mut Vec<u32>, part: &Part, reached: &[u32]) -> Result<(), 
 /// The rows of the flows, by link and then point.
 pub(crate) fn join_rows(alloc: Global, parts: &[Part], runs: &Runs) -> Result<Vec<Row>, NoMemory>
     requires shared { AreShared parts.now runs.now }
-    requires links { (i : _) → i < length parts.now → All (λ r. r.0 < length (part_at parts.now i).links) (run_at runs.now i).rows }
-    requires points { (i : _) → i < length parts.now → All (λ r. r.1 < length (part_at parts.now i).points) (run_at runs.now i).rows }
-    ensures same { IfOk result (λ rows. IsPermutation (joined (rows_of parts.now (run_at runs.now)) (length parts.now)) rows.items) }
+    requires links { (i : _) → i < length parts.now
+        → All (λ r. r.0 < length (part_at parts.now i).links) (run_at runs.now i).rows }
+    requires points { (i : _) → i < length parts.now
+        → All (λ r. r.1 < length (part_at parts.now i).points) (run_at runs.now i).rows }
+    ensures same { IfOk result (λ rows. IsPermutation
+        (joined (rows_of parts.now (run_at runs.now)) (length parts.now)) rows.items) }
     ensures sorted { IfOk result (λ rows. IsNonDecreasingBy row_key rows.items) }
 {
     let mut rows = Vec::new(alloc);
@@ -58,7 +65,8 @@ pub(crate) fn join_rows(alloc: Global, parts: &[Part], runs: &Runs) -> Result<Ve
 fn push_rows(rows: &mut Vec<Row>, part: &Part, flow: &[Row]) -> Result<(), NoMemory>
     requires links { All (λ r. r.0 < length part.now.links) flow.now }
     requires points { All (λ r. r.1 < length part.now.points) flow.now }
-    ensures value { OnOk result (rows.new.items ≡ rows.old.items ++ map (whole_row part.now) flow.now) }
+    ensures value { OnOk result (rows.new.items ≡ rows.old.items ++ map
+        (whole_row part.now) flow.now) }
 {
     let links = part.links.as_slice();
     let points = part.points.as_slice();

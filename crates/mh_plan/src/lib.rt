@@ -1,5 +1,10 @@
-//! The planner: the least best links of a problem, with a flow that shows them to be best, part by part
-//! and on any number of workers.
+//! The planner: the least best links of a problem, with a flow that shows them to be best, part by
+//! part and on any number of workers.
+//!
+//! ```
+//! let plan = plan(rt, alloc, &problem, 2, &OpenGate)?;
+//! println!(rt; "{plan}")?;
+//! ```
 #![tactic(auto)]
 
 mod gate;
@@ -10,5 +15,5 @@ mod runs;
 mod worker;
 
 pub use gate::{Gate, OpenGate};
-pub use mh_network::NoMemory;
+pub use mh_base::NoMemory;
 pub use planner::{plan, plan_counted};

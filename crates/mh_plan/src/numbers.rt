@@ -5,20 +5,22 @@ ghost use Rattle.std.specs.List.{list_any};
 ghost use Rattle.std.specs.List.Sorted.{IsStrictlyIncreasing};
 ghost use Rattle.mh_network.specs.Problems.{IsProblem, needs_point};
 ghost use Rattle.mh_network.specs.Selection.{member};
+ghost use Rattle.mh_network.specs.Limits.{most_links};
 
-use mh_network::{NoMemory, Problem};
+use mh_base::NoMemory;
+use mh_network::Problem;
 use std::alloc::Global;
 
 /// These numbers in ascending order, each once. O(bound + numbers).
 pub(crate) fn ascending(alloc: Global, bound: usize, numbers: &[u32]) -> Result<Vec<u32>, NoMemory>
     requires inside { All (λ j. j < bound) numbers.now }
-    requires small { bound ≤ 4096 }
+    requires small { bound ≤ most_links }
     ensures ascending { IfOk result (λ listed. IsStrictlyIncreasing listed.items) }
     ensures same { IfOk result (λ listed. (j : ℕ) → member listed.items j ≡ member numbers.now j) }
 {
     let mut marks = vec![in alloc; false; bound]?;
     mark(&mut marks, numbers);
-    let listed = marked(alloc, &marks)?;
+    let listed = list_marked(alloc, &marks)?;
     Ok(listed)
 }
 
@@ -26,7 +28,8 @@ pub(crate) fn ascending(alloc: Global, bound: usize, numbers: &[u32]) -> Result<
 fn mark(marks: &mut Vec<bool>, numbers: &[u32])
     requires inside { All (λ j. j < length marks.old.items) numbers.now }
     ensures count { length marks.new.items ≡ length marks.old.items }
-    ensures marked { (j : ℕ) → slice_index_or marks.new.items j false ≡ (slice_index_or marks.old.items j false || member numbers.now j) }
+    ensures marked { (j : ℕ) → slice_index_or marks.new.items j false
+        ≡ (slice_index_or marks.old.items j false || member numbers.now j) }
 {
     for number in numbers {
         marks[*number as usize] = true;
@@ -34,10 +37,11 @@ fn mark(marks: &mut Vec<bool>, numbers: &[u32])
 }
 
 /// The numbers that are marked.
-fn marked(alloc: Global, marks: &[bool]) -> Result<Vec<u32>, NoMemory>
-    requires small { length marks.now ≤ 4096 }
+fn list_marked(alloc: Global, marks: &[bool]) -> Result<Vec<u32>, NoMemory>
+    requires small { length marks.now ≤ most_links }
     ensures ascending { IfOk result (λ listed. IsStrictlyIncreasing listed.items) }
-    ensures same { IfOk result (λ listed. (j : ℕ) → member listed.items j ≡ slice_index_or marks.now j false) }
+    ensures same { IfOk result (λ listed. (j : ℕ) → member listed.items j
+        ≡ slice_index_or marks.now j false) }
 {
     let mut listed = Vec::new(alloc);
     for number in 0..marks.len() {
@@ -57,7 +61,8 @@ pub(crate) fn needs_of(
     requires inside { All (λ j. j < length problem.now.links) links.now }
     requires problem { IsProblem problem.now }
     ensures inside { IfOk result (λ points. All (λ p. p < length problem.now.costs) points.items) }
-    ensures value { IfOk result (λ points. (p : ℕ) → member points.items p ≡ list_any (λ j. needs_point problem.now j p) links.now) }
+    ensures value { IfOk result (λ points. (p : ℕ)
+        → member points.items p ≡ list_any (λ j. needs_point problem.now j p) links.now) }
 {
     let mut points = Vec::new(alloc);
     for link in links {

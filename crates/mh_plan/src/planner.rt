@@ -8,15 +8,17 @@ ghost use Rattle.mh_network.specs.Selection.{IsLeast, member, value_of};
 ghost use Rattle.mh_plan.specs.Phases.{ArePhases};
 ghost use Rattle.mh_plan.specs.Shares.{AreShared, run_at};
 ghost use Rattle.mh_plan.specs.Solved.{AreSolved};
+ghost use Rattle.mh_plan.specs.Limits.{most_workers};
+ghost use Rattle.mh_network.specs.Limits.{greatest_sum};
 
 use crate::gate::Gate;
 use crate::joining::{join_links, join_rows};
 use crate::numbers::{ascending, needs_of};
 use crate::runs::{Runs, solve_parts};
+use mh_base::{Listing, NoMemory};
 use mh_cert::Plan;
 use mh_network::{
-    Listing, NoMemory, Part, Problem, all_gains, amounts_are_within_gains, carried, lists_add_up,
-    parts_join,
+    Part, Problem, all_gains, amounts_are_within_gains, carried, lists_add_up, parts_join,
 };
 use std::alloc::Global;
 use std::thread::Threads;
@@ -35,7 +37,7 @@ pub fn plan<R: Threads + Sync, G: Gate>(
     gate: &G,
 ) -> Result<Plan, NoMemory>
     requires some { 0 < workers }
-    requires few { workers ≤ 64 }
+    requires few { workers ≤ most_workers }
     ensures matching { IfOk result (λ plan. Matches problem.now plan) }
     ensures least { IfOk result (λ plan. IsLeast problem.now (member plan.links)) }
 {
@@ -55,7 +57,7 @@ pub fn plan_counted<R: Threads + Sync, G: Gate>(
     gate: &G,
 ) -> Result<(Plan, Vec<u64>), NoMemory>
     requires some { 0 < workers }
-    requires few { workers ≤ 64 }
+    requires few { workers ≤ most_workers }
     ensures matching { IfOk result (λ answer. Matches problem.now answer.0) }
     ensures least { IfOk result (λ answer. IsLeast problem.now (member answer.0.links)) }
     ensures phases { IfOk result (λ answer. ArePhases problem.now answer.1.items) }
@@ -100,7 +102,7 @@ fn join_plan(
 
 /// What a flow leaves of all gains.
 fn left_of_gains(problem: &Problem, flow: &[(u32, u32, u64)]) -> i64
-    requires small { value_of flow.now ≤ 2 ^ 62 }
+    requires small { value_of flow.now ≤ greatest_sum }
     ensures value { result ≡ pos (sum_of_gains problem.now) -ℤ pos (value_of flow.now) }
 {
     all_gains(problem) as i64 - carried(flow) as i64

@@ -8,8 +8,9 @@ ghost use Rattle.mh_plan.specs.Solved.{AreSolved};
 
 use crate::gate::Gate;
 use crate::worker::plan_share;
+use mh_base::{Listing, NoMemory};
 use mh_flow::FlowRun;
-use mh_network::{Listing, NoMemory, Part, Problem};
+use mh_network::{Part, Problem};
 use std::alloc::Global;
 use std::thread;
 use std::thread::Threads;
@@ -24,8 +25,8 @@ pub(crate) struct Runs {
     workers: usize,
 }
 
-/// Plans all parts, worker k of `workers` the parts k, k + workers and so on, each in a thread of its
-/// own where one can be started.
+/// Plans all parts, worker k of `workers` the parts k, k + workers and so on, each in a thread of
+/// its own where one can be started.
 pub(crate) fn solve_parts<R: Threads + Sync, G: Gate>(
     rt: &R,
     alloc: Global,
@@ -42,8 +43,10 @@ pub(crate) fn solve_parts<R: Threads + Sync, G: Gate>(
     ensures solved { IfOk result (λ runs. AreSolved problem.now parts.now (run_at runs)) }
 {
     let share = |worker: usize| -> Share
-        requires { (worker < workers) × IsProblem problem.now × AreParts problem.now parts.now × (length parts.now + workers < 2 ^ 64) }
-        ensures { IfOk result (λ runs. IsShare problem.entry.now parts.entry.now workers worker runs) }
+        requires { (worker < workers) × IsProblem problem.now × AreParts problem.now parts.now
+            × (length parts.now + workers < 2 ^ 64) }
+        ensures { IfOk result (λ runs. IsShare problem.entry.now parts.entry.now workers worker
+            runs) }
     { plan_share(alloc, problem, parts, worker, workers, gate) };
     let shares = thread::map_indices(rt, alloc, workers, &share)?;
     if !are_ok(&shares) {

@@ -7,8 +7,9 @@ ghost use Rattle.mh_plan.specs.Shares.{IsShare};
 ghost use Rattle.mh_plan.specs.Solved.{IsSolved};
 
 use crate::gate::Gate;
+use mh_base::{Listing, NoMemory};
 use mh_flow::{FlowRun, max_flow};
-use mh_network::{Listing, NoMemory, Part, Problem, parts_join};
+use mh_network::{Part, Problem, parts_join};
 use std::alloc::Global;
 
 /// Plans the parts `worker`, `worker + workers`, `worker + 2 * workers` and so on.

@@ -1,15 +1,15 @@
 -- What the tests of a definition leave.
-use Rattle.std.proofs.Common.{◌≡◌, ◌≤◌, ◌<◌, ◌^◌, ℕ, Bool, true, false, not, ◌&&◌, List, [], ◌∷◌, ◌++◌, length, map, refl, ◌∙◌, Option, Some, None, leb, nat_lt, arith, slice_index_or}
+use Rattle.std.proofs.Common.{◌≡◌, ◌≤◌, ◌<◌, ◌^◌, ℕ, Bool, true, false, not, ◌&&◌, List, [], ◌∷◌, ◌++◌, length, map, refl, ◌∙◌, subst, sym, ap, Option, Some, None, leb, nat_lt, arith, slice_index_or}
 use Rattle.std.specs.List.{All, list_all, list_any}
 use Rattle.std.proofs.lemmas.Bool.{leb-true}
 use Rattle.std.proofs.lemmas.Bool.Decides.{nat_tests}
-use Rattle.std.proofs.lemmas.List.{length-map}
+use Rattle.std.proofs.lemmas.List.{length-map, append-nil, append_assoc}
 use Rattle.std.proofs.lemmas.List.Elements.{All-nil, All-cons, All-map}
 use Rattle.mh_type.specs.declared.kind.Kind.{Kind}
 use Rattle.mh_type.specs.declared.value.Value.{Value}
 use Rattle.mh_type.specs.Kinds.{kind_of, kind_eq}
 use Rattle.mh_type.specs.Signature.{signature_eq}
-use Rattle.mh_type.proofs.SameKind.{signature_eq_decides, kind_eq_decides}
+use Rattle.mh_type.proofs.PublicLaws.{signature_eq_decides, kind_eq_decides}
 use Rattle.mh_tree.specs.Limits.{point_bound}
 use Rattle.mh_tree.specs.Typing.{kind_at}
 use Rattle.mh_site.specs.declared.point.Point.{Point}
@@ -20,8 +20,9 @@ use Rattle.mh_site.specs.declared.fault.DefinitionFault.TheVariants as fault
 use Rattle.mh_site.specs.Ascending.{ascending}
 use Rattle.mh_site.specs.Names.{is_name}
 use Rattle.mh_site.specs.Definitions.{all_differ, check, first_of_both, point_fault, points_fault, site_fault, sites_fault, definition_fault, names_point, names_site, needs_few, weighs_little, has_no, has_place, fits_place, same_key, needs_known, needs_differ, link_in_order, site_in_order}
-use Rattle.mh_site.specs.Lawful.{HasKey, IsLink, IsSite, IsPoint, IsDefinition}
-use Rattle.mh_site.proofs.Tests.{left_true, right_true, passes, later_passes, first_none, second_none, each_passes}
+use Rattle.mh_site.specs.Lawful.{HasKey, IsLink, IsSite, IsPoint, AreDistinct, IsDefinition}
+use Rattle.mh_site.proofs.Naming.{distinct_with}
+use Rattle.mh_site.proofs.Tests.{left_true, right_true, not_true, passes, later_passes, first_none, second_none, each_passes}
 use Rattle.mh_site.proofs.Sorting.{ascending-length, ascending-all, ascending-strictly}
 
 -- ---- points
@@ -38,6 +39,23 @@ lawful_points earlier [] h = All-nil IsPoint
 lawful_points earlier (p ∷ ps) h =
     All-cons IsPoint p ps (lawful_point earlier p (first_none (point_fault earlier p) (points_fault (earlier ++ p ∷ []) ps) h))
     (lawful_points (earlier ++ p ∷ []) ps (second_none (point_fault earlier p) (points_fault (earlier ++ p ∷ []) ps) h))
+
+abbrev point_names : List Point → List (List ℕ)
+point_names ps = map (λ p. p.name) ps
+
+new_point : (earlier : List Point) (p : Point) → point_fault earlier p ≡ None → list_any (names_point p.name) earlier ≡ false
+new_point earlier p h =
+    let last = check (leb p.cost (2 ^ 40)) fault.CostTooLarge None in
+    let twice = check (not (list_any (names_point p.name) earlier)) fault.NameTwice last in
+    not_true (list_any (names_point p.name) earlier)
+    (passes (not (list_any (names_point p.name) earlier)) fault.NameTwice last (later_passes (is_name p.name) fault.BadName twice h))
+
+distinct_points : (earlier ps : List Point) → AreDistinct (point_names earlier) → points_fault earlier ps ≡ None → AreDistinct (point_names (earlier ++ ps))
+distinct_points earlier [] apart h = subst (λ (ps : List Point). AreDistinct (point_names ps)) (sym (append-nil earlier)) apart
+distinct_points earlier (p ∷ ps) apart h =
+    let new = new_point earlier p (first_none (point_fault earlier p) (points_fault (earlier ++ p ∷ []) ps) h) in
+    subst (λ (qs : List Point). AreDistinct (point_names qs)) (append_assoc earlier (p ∷ []) ps)
+    (distinct_points (earlier ++ p ∷ []) ps (distinct_with (λ q. q.name) earlier p apart new) (second_none (point_fault earlier p) (points_fault (earlier ++ p ∷ []) ps) h))
 
 -- ---- keys
 record Place (key : Option ℕ) (kinds : List Kind) (v : Value) : Type 0 where
@@ -102,6 +120,7 @@ module _ (n : ℕ) (earlier : List Site) (s : Site) where
     pub few_links : leb (length s.links) 4 ≡ true
     pub few_needs : list_all needs_few s.links ≡ true
     pub named : is_name s.name ≡ true
+    pub new : not (list_any (names_site s.name) earlier) ≡ true
     pub light : list_all weighs_little s.links ≡ true
     pub place : has_place s ≡ true
     pub fits : list_all (fits_place s) s.links ≡ true
@@ -126,6 +145,7 @@ module _ (n : ℕ) (earlier : List Site) (s : Site) where
         few_links = passes (leb (length s.links) 4) fault.TooManyLinks t5 h;
         few_needs = passes (list_all needs_few s.links) fault.TooManyNeeds t6 h5;
         named = passes (is_name s.name) fault.BadName t7 h6;
+        new = passes (not (list_any (names_site s.name) earlier)) fault.NameTwice t9 h7;
         light = passes (list_all weighs_little s.links) fault.WeightTooLarge t10 h9;
         place = passes (has_place s) fault.BadKeyPlace t11 h10;
         fits = passes (list_all (fits_place s) s.links) fault.KeyMismatch t12 h11;
@@ -179,6 +199,25 @@ lawful_sites n earlier (s ∷ ss) h =
     All-cons (IsSite n) (site_in_order s) (map site_in_order ss) (lawful_site n earlier s (first_none (site_fault n earlier s) (sites_fault n (earlier ++ s ∷ []) ss) h))
     (lawful_sites n (earlier ++ s ∷ []) ss (second_none (site_fault n earlier s) (sites_fault n (earlier ++ s ∷ []) ss) h))
 
+abbrev site_names : List Site → List (List ℕ)
+site_names ss = map (λ s. s.name) ss
+
+distinct_sites : (n : ℕ) (earlier ss : List Site) → AreDistinct (site_names earlier) → sites_fault n earlier ss ≡ None → AreDistinct (site_names (earlier ++ ss))
+distinct_sites n earlier [] apart h = subst (λ (ss : List Site). AreDistinct (site_names ss)) (sym (append-nil earlier)) apart
+distinct_sites n earlier (s ∷ ss) apart h =
+    let first = tested n earlier s (first_none (site_fault n earlier s) (sites_fault n (earlier ++ s ∷ []) ss) h) in
+    subst (λ (xs : List Site). AreDistinct (site_names xs)) (append_assoc earlier (s ∷ []) ss)
+    (distinct_sites n (earlier ++ s ∷ []) ss (distinct_with (λ x. x.name) earlier s apart (not_true (list_any (names_site s.name) earlier) first.new))
+    (second_none (site_fault n earlier s) (sites_fault n (earlier ++ s ∷ []) ss) h))
+
+-- needs in order change no name
+names_kept : (ss : List Site) → site_names (map site_in_order ss) ≡ site_names ss
+names_kept [] = refl
+names_kept (s ∷ ss) = ap (λ ns. s.name ∷ ns) (names_kept ss)
+
+none_distinct : AreDistinct []
+none_distinct i j d lt within = absurd (omega arith)
+
 -- parts without fault, with their needs in ascending order, keep what each definition keeps
 pub lawful : (ps : List Point) (ss : List Site) → definition_fault ps ss ≡ None → IsDefinition record { points = ps; sites = map site_in_order ss }
 lawful ps ss h =
@@ -191,6 +230,8 @@ lawful ps ss h =
     record {
       few_points = leb-true _ _ (passes (leb (length ps) 1024) fault.TooManyPoints few_sites h);
       few_sites = omega arith;
+      point_names = distinct_points [] ps none_distinct (first_none (points_fault [] ps) (sites_fault (length ps) [] ss) h3);
+      site_names = subst AreDistinct (sym (names_kept ss)) (distinct_sites (length ps) [] ss none_distinct (second_none (points_fault [] ps) (sites_fault (length ps) [] ss) h3));
       points = lawful_points [] ps (first_none (points_fault [] ps) (sites_fault (length ps) [] ss) h3);
       sites = lawful_sites (length ps) [] ss (second_none (points_fault [] ps) (sites_fault (length ps) [] ss) h3);
     }

@@ -1,7 +1,9 @@
-pub mod Tests
-pub mod Sorting
-pub mod Mapped
-pub mod Lawful
-pub mod Tables
-pub mod LookBack
-pub mod Numbers
+mod Lawful
+mod LookBack
+mod Mapped
+mod Naming
+mod Numbers
+pub mod PublicLaws
+mod Sorting
+mod Tables
+mod Tests

@@ -76,17 +76,17 @@ relinks_read (c ∷ changes) sites s t l k n h e =
     (relink_read sites c s (c.site == s) refl h
     ∙ (ap (λ x. cond (c.site == s) (relinked c.linked c.kept x) x) e ∙ relink_spread (c.site == s) c.linked c.kept t l k n))
 
-pub read : (d : DefinitionData) (newest : List Control) (s : ℕ) → s < length d.sites → state_at (world d newest) s ≡ site_after d newest s
-read d [] s h = get_or-map opening d.sites s no_site no_state h
-read d (Target r ∷ older) s h =
+pub site_read : (d : DefinitionData) (newest : List Control) (s : ℕ) → s < length d.sites → state_at (world d newest) s ≡ site_after d newest s
+site_read d [] s h = get_or-map opening d.sites s no_site no_state h
+site_read d (Target r ∷ older) s h =
     ap (λ w. state_at w s) (one_more d (Target r) older)
     ∙ (target_read (world d older) r.site s r.tree (r.site == s) refl (omega (arith, world_sites d older))
-    ∙ (ap (λ x. cond (r.site == s) (retargeted r.tree x) x) (read d older s h)
+    ∙ (ap (λ x. cond (r.site == s) (retargeted r.tree x) x) (site_read d older s h)
     ∙ retarget_spread (r.site == s) r.tree (base d older s) (linked d older s) (kept older s) (version older s)))
-read d (Invalidate points ∷ older) s h = ap (λ w. state_at w s) (one_more d (Invalidate points) older) ∙ read d older s h
-read d (Install changes ∷ older) s h =
+site_read d (Invalidate points ∷ older) s h = ap (λ w. state_at w s) (one_more d (Invalidate points) older) ∙ site_read d older s h
+site_read d (Install changes ∷ older) s h =
     ap (λ w. state_at w s) (one_more d (Install changes) older)
-    ∙ relinks_read changes (world d older).sites s (base d older s) (linked d older s) (kept older s) (version older s) (omega (arith, world_sites d older)) (read d older s h)
+    ∙ relinks_read changes (world d older).sites s (base d older s) (linked d older s) (kept older s) (version older s) (omega (arith, world_sites d older)) (site_read d older s h)
 
 -- ---- the front
 after_front : (w : WorldState) (c : Control) → (after w c).front ≡ w.front + 1

@@ -1,5 +1,5 @@
 -- Which points and sites make a definition, and what else is told.
-use Rattle.std.specs.Prelude.{ℕ, ◌^◌, ◌==◌, Bool, true, false, not, ◌&&◌, List, [], ◌∷◌, ◌++◌, length, map, nat_le, nat_lt, Option, Some, None, Result, Ok, Err}
+use Rattle.std.specs.Prelude.{ℕ, ◌==◌, Bool, true, false, not, ◌&&◌, List, [], ◌∷◌, ◌++◌, length, map, nat_le, nat_lt, Option, Some, None, Result, Ok, Err}
 use Rattle.std.specs.List.{list_any, list_all}
 use Rattle.std.specs.Str.{bytes_eq}
 use Rattle.mh_type.specs.Kinds.{kind_of, kind_eq}
@@ -15,6 +15,7 @@ use Rattle.mh_site.specs.Defined.{DefinitionData}
 use Rattle.mh_site.specs.Ascending.{ascending}
 use Rattle.mh_site.specs.Names.{is_name}
 use Rattle.mh_type.specs.Values.{same_value}
+use Rattle.mh_site.specs.Limits.{most_points, most_sites, most_links, most_needs, greatest_cost, greatest_weight}
 
 abbrev pub fault_number : DefinitionFault → ℕ
 fault_number NoMemory = 1
@@ -59,7 +60,7 @@ abbrev pub point_fault : List Point → Point → Option DefinitionFault
 point_fault earlier p =
     check (is_name p.name) BadName
     (check (not (list_any (names_point p.name) earlier)) NameTwice
-    (check (nat_le p.cost (2 ^ 40)) CostTooLarge None))
+    (check (nat_le p.cost greatest_cost) CostTooLarge None))
 
 abbrev pub points_fault : List Point → List Point → Option DefinitionFault
 points_fault earlier [] = None
@@ -67,10 +68,10 @@ points_fault earlier (p ∷ ps) = first_of_both (point_fault earlier p) (points_
 
 -- at most eight needs
 abbrev pub needs_few : Link → Bool
-needs_few l = nat_le (length l.needs) 8
+needs_few l = nat_le (length l.needs) most_needs
 
 abbrev pub weighs_little : Link → Bool
-weighs_little l = nat_le l.weight (2 ^ 20)
+weighs_little l = nat_le l.weight greatest_weight
 
 -- whether there is no link
 abbrev pub has_no : List Link → Bool
@@ -98,7 +99,7 @@ needs_differ l = all_differ (λ p q. p == q) l.needs
 -- of a site behind earlier ones, beside so many points
 abbrev pub site_fault : ℕ → List Site → Site → Option DefinitionFault
 site_fault points earlier s =
-    check (nat_le (length s.links) 4) TooManyLinks
+    check (nat_le (length s.links) most_links) TooManyLinks
     (check (list_all needs_few s.links) TooManyNeeds
     (check (is_name s.name) BadName
     (check (not (list_any (names_site s.name) earlier)) NameTwice
@@ -117,8 +118,8 @@ sites_fault points earlier (s ∷ ss) = first_of_both (site_fault points earlier
 -- The first test that fails: the two numbers, the points in order, the sites in order.
 abbrev pub definition_fault : List Point → List Site → Option DefinitionFault
 definition_fault points sites =
-    check (nat_le (length points) 1024) TooManyPoints
-    (check (nat_le (length sites) 1024) TooManySites
+    check (nat_le (length points) most_points) TooManyPoints
+    (check (nat_le (length sites) most_sites) TooManySites
     (first_of_both (points_fault [] points) (sites_fault (length points) [] sites)))
 
 -- a link and a site with their needs in ascending order, and all else as it was

@@ -1,6 +1,6 @@
 -- What each definition keeps.
-use Rattle.std.specs.Prelude.{◌≡◌, ◌≤◌, ◌<◌, ◌^◌, ℕ, true, length, Some}
-use Rattle.std.specs.List.{All}
+use Rattle.std.specs.Prelude.{◌≡◌, ◌≢◌, ◌≤◌, ◌<◌, ℕ, true, List, length, map, Some}
+use Rattle.std.specs.List.{All, AllPairs}
 use Rattle.std.specs.List.Sorted.{IsStrictlyIncreasing}
 use Rattle.mh_type.specs.Kinds.{kind_of}
 use Rattle.mh_tree.specs.Limits.{point_bound}
@@ -11,6 +11,7 @@ use Rattle.mh_site.specs.declared.site.Site.{Site}
 use Rattle.mh_site.specs.Defined.{DefinitionData}
 use Rattle.mh_site.specs.Definitions.{all_differ, same_key}
 use Rattle.mh_site.specs.Names.{is_name}
+use Rattle.mh_site.specs.Limits.{most_points, most_sites, most_links, most_needs, greatest_cost, greatest_weight}
 
 -- the key place is a parameter, and the key is of its kind
 pub record HasKey (s : Site) (l : Link) : Type 0 where
@@ -21,8 +22,8 @@ pub record HasKey (s : Site) (l : Link) : Type 0 where
 
 -- of a link at a site, beside so many points
 pub record IsLink (points : ℕ) (s : Site) (l : Link) : Type 0 where
-  pub few : length l.needs ≤ 8
-  pub light : l.weight ≤ 2 ^ 20
+  pub few : length l.needs ≤ most_needs
+  pub light : l.weight ≤ greatest_weight
   pub known : All (λ p. p < points) l.needs
   pub ascending : IsStrictlyIncreasing l.needs
   pub key : HasKey s l
@@ -30,7 +31,7 @@ pub record IsLink (points : ℕ) (s : Site) (l : Link) : Type 0 where
 -- of a site beside so many points
 pub record IsSite (points : ℕ) (s : Site) : Type 0 where
   pub name : is_name s.name ≡ true
-  pub few : length s.links ≤ 4
+  pub few : length s.links ≤ most_links
   pub place : (q : ℕ) → s.key ≡ Some q → q < length s.method_type.parameters
   pub links : All (IsLink points s) s.links
   pub keys : all_differ same_key s.links ≡ true
@@ -39,10 +40,16 @@ pub record IsSite (points : ℕ) (s : Site) : Type 0 where
 
 pub record IsPoint (p : Point) : Type 0 where
   pub name : is_name p.name ≡ true
-  pub cheap : p.cost ≤ 2 ^ 40
+  pub cheap : p.cost ≤ greatest_cost
+
+-- no two names are the same
+abbrev pub AreDistinct : List (List ℕ) → Type 0
+AreDistinct names = AllPairs (λ n m. n ≢ m) names
 
 pub record IsDefinition (d : DefinitionData) : Type 0 where
-  pub few_points : length d.points ≤ 1024
-  pub few_sites : length d.sites ≤ 1024
+  pub few_points : length d.points ≤ most_points
+  pub few_sites : length d.sites ≤ most_sites
+  pub point_names : AreDistinct (map (λ p. p.name) d.points)
+  pub site_names : AreDistinct (map (λ s. s.name) d.sites)
   pub points : All IsPoint d.points
   pub sites : All (IsSite (length d.points)) d.sites

@@ -3,7 +3,9 @@ pub mod Ascending
 pub mod Definitions
 pub mod Defined
 pub mod Lawful
+pub mod Limits
 pub mod Links
+pub mod Kept
 pub mod Controls
 pub mod Worlds
 pub mod SiteStates

@@ -9,6 +9,7 @@ use Rattle.mh_site.specs.declared.control.Control.{Control}
 use Rattle.mh_site.specs.declared.control.Control.TheVariants.{Target, Invalidate, Install}
 use Rattle.mh_site.specs.Controls.{Relinked}
 use Rattle.mh_site.specs.Defined.{DefinitionData, no_tree}
+use Rattle.mh_tree.specs.Environment.{Environment, with_points}
 
 -- a site's base tree and linked tree, the links that the linked tree holds, and how often the site was retargeted
 pub record SiteState : Type 0 where
@@ -33,6 +34,10 @@ no_state = record { base = no_tree; linked = no_tree; kept = []; version = 0 }
 
 abbrev pub state_at : WorldState → ℕ → SiteState
 state_at w s = slice_index_or w.sites s no_state
+
+-- what trees mean in the world
+abbrev pub environment : WorldState → Environment
+environment w = with_points w.valid
 
 -- a site before any control
 abbrev pub opening : Site → SiteState

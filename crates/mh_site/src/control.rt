@@ -2,17 +2,18 @@
 
 ghost use Rattle.std.specs.Prelude.{◌≡◌, IfOk};
 
-use crate::fault::NoMemory;
 use arrayvec::ArrayVec;
+use mh_base::{Listing, NoMemory};
 use mh_tree::{Declared, Handle, Prepared};
 use std::marker::Model;
 
-/// The links that the linked tree of a site holds, by number: at most four, since a site has no more, and in place, so
-/// that a world has the room for them from its opening.
+/// The links that the linked tree of a site holds, by number: at most four, since a site has no
+/// more, and in place, so that a world has the room for them from its opening.
 pub type KeptLinks = ArrayVec<usize, 4>;
 
-/// A site's new tree, and the linked tree with its code, so that a world can take both without memory.
-#[derive(Drop)]
+/// A site's new tree, and the linked tree with its code, so that a world can take both without
+/// memory.
+#[derive(Debug, Drop)]
 pub struct Retargeting {
     pub(crate) site: usize,
     pub(crate) base: Declared,
@@ -33,12 +34,12 @@ impl Model for Retargeting {
 }
 
 impl Retargeting {
-    /// The tree for the site, by its number, in time linear in its size: its code is made here. Refused
-    /// where a growth was refused, or a further owner of the tree.
+    /// The tree for the site, by its number, in time linear in its size: its code is made here.
+    /// Refused where a growth was refused, or a further owner of the tree.
     pub fn new(site: usize, base: Declared) -> Result<Retargeting, NoMemory>
         ensures value { IfOk result (λ r. r ≡ record { site = site; tree = base }) }
     {
-        let linked = prepared(base.handle())?;
+        let linked = prepare(base.handle())?;
         Ok(Retargeting { site, base, linked })
     }
 
@@ -49,67 +50,27 @@ impl Retargeting {
         Ok(Retargeting {
             site: self.site,
             base: self.base.share().map_err(|_| NoMemory)?,
-            linked: shared(&self.linked)?,
+            linked: share_tree(&self.linked)?,
         })
     }
 }
 
 // A tree with its code.
-pub(crate) fn prepared(handle: &Handle) -> Result<Prepared, NoMemory>
+pub(crate) fn prepare(handle: &Handle) -> Result<Prepared, NoMemory>
     ensures value { IfOk result (λ p. p ≡ handle.now) }
 {
     Prepared::new(handle).map_err(|_| NoMemory)
 }
 
 // Another owner of a tree and of its code.
-fn shared(tree: &Prepared) -> Result<Prepared, NoMemory>
+fn share_tree(tree: &Prepared) -> Result<Prepared, NoMemory>
     ensures value { IfOk result (λ p. p ≡ tree.now) }
 {
     tree.share().map_err(|_| NoMemory)
 }
 
-/// Points that become invalid together, by their numbers (`SwitchPoint.invalidateAll`, Java SE 17).
-/// A point may stand twice, and may be invalid already.
-#[derive(Drop)]
-pub struct Points {
-    points: Vec<u32>,
-}
-
-impl Model for Points {
-    ghost use Rattle.std.specs.Prelude.{List, ℕ};
-
-    ghost Value = { List ℕ };
-
-    ghost view = { λ p. p.points.items };
-}
-
-impl Points {
-    /// The points, with no copy.
-    pub fn new(points: Vec<u32>) -> Points
-        ensures value { result ≡ points.items }
-    {
-        Points { points }
-    }
-
-    /// The numbers.
-    pub fn as_slice(&self) -> &[u32]
-        ensures value { result.now ≡ self.now }
-    {
-        self.points.as_slice()
-    }
-
-    // The same numbers.
-    fn copied(&self) -> Result<Points, NoMemory>
-        ensures value { IfOk result (λ p. p ≡ self.now) }
-    {
-        let alloc = *self.points.allocator();
-        let points = self.points.to_vec(alloc).map_err(|_| NoMemory)?;
-        Ok(Points { points })
-    }
-}
-
 /// A site's new linked tree, with its code, and the links that it holds, by number.
-#[derive(Drop)]
+#[derive(Debug, Drop)]
 pub struct Relinking {
     pub(crate) site: usize,
     pub(crate) linked: Prepared,
@@ -160,13 +121,13 @@ impl Relinking {
         ensures value { IfOk result (λ r. r ≡ self.now) }
     {
         let kept = KeptLinks::try_from(self.kept.as_slice()).map_err(|_| NoMemory)?;
-        let linked = shared(&self.linked)?;
+        let linked = share_tree(&self.linked)?;
         Ok(Relinking::new(self.site, linked, kept))
     }
 }
 
 /// New linked trees of several sites, which change together.
-#[derive(Drop)]
+#[derive(Debug, Drop)]
 pub struct Installation {
     pub(crate) changes: Vec<Relinking>,
 }
@@ -211,26 +172,27 @@ impl Installation {
 }
 
 /// What changes a world, with all the memory that the change takes.
-#[derive(Drop)]
+#[derive(Debug, Drop)]
 pub enum Control {
-    /// Gives a site another tree (`MutableCallSite.setTarget`, Java SE 17), and puts its linked tree
-    /// back to it. A site past the last is left out.
+    /// Gives a site another tree (`MutableCallSite.setTarget`, Java SE 17), and puts its linked
+    /// tree back to it. A site past the last is left out.
     Target(Retargeting),
-    /// Invalidates points for good. A point past the last is left out.
-    Invalidate(Points),
+    /// Invalidates these points together and for good (`SwitchPoint.invalidateAll`, Java SE 17). A
+    /// point may stand twice, and may be invalid already. A point past the last is left out.
+    Invalidate(Listing<u32>),
     /// Links sites to other trees over their bases, in order. A site past the last is left out.
     Install(Installation),
 }
 
 impl Control {
-    /// The same change on trees with another owner. Refused where a growth was refused, or a further owner
-    /// of a tree. O(points), or O(sites that are linked).
+    /// The same change on trees with another owner. Refused where a growth was refused, or a
+    /// further owner of a tree. O(points), or O(sites that are linked).
     pub fn share(&self) -> Result<Control, NoMemory>
         ensures value { IfOk result (λ c. c ≡ self.now) }
     {
         Ok(match self {
             Control::Target(retargeting) => Control::Target(retargeting.share()?),
-            Control::Invalidate(points) => Control::Invalidate(points.copied()?),
+            Control::Invalidate(points) => Control::Invalidate(points.copy()?),
             Control::Install(installation) => Control::Install(installation.share()?),
         })
     }

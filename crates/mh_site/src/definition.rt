@@ -1,25 +1,27 @@
 //! Points and sites that fit together.
 
 ghost use Rattle.std.specs.Prelude.{◌≡◌, ◌<◌, ◌≤◌, ◌+◌, ◌⊎◌, ℕ, Ok, Err, Some, None, length, IfOk, IfErr, MatchResult};
+ghost use Rattle.std.specs.Arc.{arc_value};
 ghost use Rattle.mh_site.specs.Defined.{point_at, site_at, link_of};
 ghost use Rattle.mh_site.specs.Definitions.{definition_made, definition_fault};
 ghost use Rattle.mh_site.specs.Lawful.{IsDefinition};
 ghost use Rattle.mh_site.specs.Links.{links, link_at, first_link as first_link_of, site_of as site_of_link};
 
-use crate::copies::{copy_points, copy_sites};
-use crate::fault::{DefinitionFault, NoMemory};
+use crate::fault::DefinitionFault;
 use crate::link::Link;
-use crate::listing::Listing;
 use crate::numbering::{Numbering, number_links};
 use crate::order::order_sites;
 use crate::point::Point;
-use crate::point_tests::test_points;
+use crate::point_rules::test_points;
 use crate::site::Site;
-use crate::site_tests::test_sites;
+use crate::site_rules::test_sites;
+use mh_base::{Listing, NoMemory};
 use mh_tree::Declared;
 use mh_type::{MethodType, Value};
 use std::alloc::Global;
+use std::fmt;
 use std::marker::Model;
+use std::sync::Arc;
 
 /// The most points of a definition.
 pub const MOST_POINTS: usize = 1024;
@@ -27,13 +29,20 @@ pub const MOST_POINTS: usize = 1024;
 /// The most sites of a definition.
 pub const MOST_SITES: usize = 1024;
 
-/// Points and sites that fit together: within limits, well named, each target of its site's type,
-/// each link with a key of its own of the key place's kind, and with ascending needs.
+// What all owners of a definition share.
 #[derive(Drop)]
-pub struct Definition {
+pub(crate) struct Parts {
     points: Listing<Point>,
     sites: Listing<Site>,
     numbering: Numbering,
+}
+
+/// Points and sites that fit together: within limits, well named, each target of its site's type,
+/// each link with a key of its own of the key place's kind, and with ascending needs. A clone of it
+/// is `share`, which copies nothing.
+#[derive(Drop)]
+pub struct Definition {
+    parts: Arc<Parts>,
 }
 
 impl Model for Definition {
@@ -43,51 +52,56 @@ impl Model for Definition {
 
     ghost coded = { coded_definition };
 
-    ghost use Rattle.mh_site.specs.Links.{IsNumbered};
+    ghost use Rattle.mh_site.specs.Kept.{kept_definition, IsKept};
 
-    ghost view = { λ d. record { points = d.points; sites = d.sites } };
+    ghost view = { kept_definition };
 
-    ghost invariant = { λ d. IsNumbered record { points = d.points; sites = d.sites } d.numbering.firsts.items d.numbering.homes.items };
+    ghost invariant = { IsKept };
+}
+
+/// How many points and sites it has.
+impl fmt::Debug for Definition {
+    fn fmt<W: fmt::Write>(&self, f: &mut fmt::Formatter<W>) -> fmt::Result {
+        let (points, sites) = (self.points().len(), self.sites().len());
+        write!(f, "Definition({points} points, {sites} sites)")
+    }
 }
 
 impl Definition {
-    /// The definition of these parts, with the needs of each link in ascending order. What is refused is
-    /// dropped.
+    /// The definition of these parts, with the needs of each link in ascending order. What is
+    /// refused is dropped.
     ///
-    /// Refused with the first test that fails, as `DefinitionFault` tells them, and then with `NoMemory`.
+    /// Refused with the first test that fails, as `DefinitionFault` tells them, and then with
+    /// `NoMemory`.
     pub fn new(
         alloc: Global,
         points: Listing<Point>,
         sites: Listing<Site>,
     ) -> Result<Definition, DefinitionFault>
         ensures value { IfOk result (λ d. definition_made points sites ≡ Ok d) }
-        ensures refused { IfErr result (λ e. (definition_made points sites ≡ Err e) ⊎ ((definition_fault points sites ≡ None) × (e ≡ DefinitionFault.NoMemory))) }
+        ensures refused { IfErr result (λ e. (definition_made points sites ≡ Err e)
+            ⊎ ((definition_fault points sites ≡ None) × (e ≡ DefinitionFault.NoMemory))) }
     {
         test(points.as_slice(), sites.as_slice())?;
         let mut sites = sites.into_vec();
         order_sites(&mut sites);
         let numbering = number_links(alloc, &sites)?;
         let sites = Listing::from_vec(sites);
-        Ok(Definition {
+        let parts = Parts {
             points,
             sites,
             numbering,
-        })
+        };
+        let parts = own(alloc, parts)?;
+        Ok(Definition { parts })
     }
 
-    /// The same definition, of which the trees and texts get another owner. Refused where a growth was
-    /// refused, or a further owner.
-    pub fn share(&self, alloc: Global) -> Result<Definition, NoMemory>
+    /// Another owner of the definition. Refused where no more owners can be counted.
+    pub fn share(&self) -> Result<Definition, NoMemory>
         ensures value { IfOk result (λ d. d ≡ self.now) }
     {
-        let points = copy_points(alloc, self.points.as_slice())?;
-        let sites = copy_sites(alloc, self.sites.as_slice())?;
-        let numbering = number_links(alloc, sites.as_slice())?;
-        Ok(Definition {
-            points,
-            sites,
-            numbering,
-        })
+        let parts = Arc::try_clone(&self.parts).map_err(|_| NoMemory)?;
+        Ok(Definition { parts })
     }
 
     /// The points, by number.
@@ -95,7 +109,7 @@ impl Definition {
         ensures value { result.now ≡ self.now.points }
         ensures lawful { IsDefinition self.now }
     {
-        self.points.as_slice()
+        self.parts.points.as_slice()
     }
 
     /// The sites, by number.
@@ -103,7 +117,7 @@ impl Definition {
         ensures value { result.now ≡ self.now.sites }
         ensures lawful { IsDefinition self.now }
     {
-        self.sites.as_slice()
+        self.parts.sites.as_slice()
     }
 
     /// The name of a point.
@@ -164,7 +178,8 @@ impl Definition {
 
     /// The key of a link.
     pub fn when(&self, site: usize, link: usize) -> &Value
-        requires inside { (site < length self.now.sites) × (link < length (site_at self.now site).links) }
+        requires inside { (site < length self.now.sites)
+            × (link < length (site_at self.now site).links) }
         ensures value { result.now ≡ (link_of self.now site link).when }
     {
         &self.links(site)[link].when
@@ -172,7 +187,8 @@ impl Definition {
 
     /// What one hit of a link gains, 0 to 2^20.
     pub fn weight(&self, site: usize, link: usize) -> u64
-        requires inside { (site < length self.now.sites) × (link < length (site_at self.now site).links) }
+        requires inside { (site < length self.now.sites)
+            × (link < length (site_at self.now site).links) }
         ensures value { result ≡ (link_of self.now site link).weight }
     {
         self.links(site)[link].weight
@@ -180,7 +196,8 @@ impl Definition {
 
     /// The points that a link needs, ascending, at most 8.
     pub fn needs(&self, site: usize, link: usize) -> &[u32]
-        requires inside { (site < length self.now.sites) × (link < length (site_at self.now site).links) }
+        requires inside { (site < length self.now.sites)
+            × (link < length (site_at self.now site).links) }
         ensures value { result.now ≡ (link_of self.now site link).needs }
     {
         self.links(site)[link].needs.as_slice()
@@ -188,24 +205,25 @@ impl Definition {
 }
 
 impl Definition {
-    /// The number of links of all sites. Links are numbered from 0, site by site, and at a site in its
-    /// order.
+    /// The number of links of all sites. Links are numbered from 0, site by site, and at a site in
+    /// its order.
     pub fn link_count(&self) -> usize
         ensures count { result ≡ length (links self.now) }
         ensures lawful { IsDefinition self.now }
     {
-        self.numbering.homes.len()
+        self.parts.numbering.homes.len()
     }
 
-    /// The number of a site's first link: its links have the numbers from this one on. At a site without
-    /// links it is that of the next link. O(1).
+    /// The number of a site's first link: its links have the numbers from this one on. At a site
+    /// without links it is that of the next link. O(1).
     pub fn first_link(&self, site: usize) -> usize
         requires inside { site < length self.now.sites }
         ensures value { result ≡ first_link_of self.now site }
-        ensures links { (k : ℕ) → k < length (site_at self.now site).links → link_at self.now (result + k) ≡ (site, link_of self.now site k) }
+        ensures links { (k : ℕ) → k < length (site_at self.now site).links
+            → link_at self.now (result + k) ≡ (site, link_of self.now site k) }
         ensures within { result + length (site_at self.now site).links ≤ length (links self.now) }
     {
-        self.numbering.firsts[site]
+        self.parts.numbering.firsts[site]
     }
 
     /// The number of a link's site. O(1).
@@ -213,15 +231,24 @@ impl Definition {
         requires inside { link < length (links self.now) }
         ensures value { result ≡ site_of_link self.now link }
         ensures known { result < length self.now.sites }
-        ensures within { (first_link_of self.now result ≤ link) × (link < first_link_of self.now result + length (site_at self.now result).links) }
+        ensures within { (first_link_of self.now result ≤ link)
+            × (link < first_link_of self.now result + length (site_at self.now result).links) }
     {
-        self.numbering.homes[link]
+        self.parts.numbering.homes[link]
     }
+}
+
+// The first owner of parts.
+fn own(alloc: Global, parts: Parts) -> Result<Arc<Parts>, NoMemory>
+    ensures value { IfOk result (λ owner. arc_value owner ≡ parts) }
+{
+    Arc::new(alloc, parts).map_err(|_| NoMemory)
 }
 
 // All tests, in order.
 fn test(points: &[Point], sites: &[Site]) -> Result<(), DefinitionFault>
-    ensures value { MatchResult result (λ _. definition_fault points.now sites.now ≡ None) (λ e. definition_fault points.now sites.now ≡ Some e) }
+    ensures value { MatchResult result (λ _. definition_fault points.now sites.now ≡ None)
+        (λ e. definition_fault points.now sites.now ≡ Some e) }
 {
     if points.len() > MOST_POINTS {
         return Err(DefinitionFault::TooManyPoints);

@@ -3,12 +3,8 @@
 ghost use Rattle.std.specs.Prelude.{◌≡◌};
 ghost use Rattle.mh_site.specs.Definitions.{fault_number};
 
+use mh_base::NoMemory;
 use thiserror::Error;
-
-/// A growth was refused, or a further owner of a tree.
-#[derive(Clone, Copy, Debug, PartialEq, Eq, Error)]
-#[error("1 NoMemory")]
-pub struct NoMemory;
 
 /// Why points and sites make no definition. The tests 2 and 3 come first, then the points in order,
 /// then the sites in order; within a point or a site the tests stand in the order of their numbers,
@@ -30,8 +26,8 @@ pub enum DefinitionFault {
     /// More than 8 needs at a link.
     #[error("5 TooManyNeeds")]
     TooManyNeeds,
-    /// A name that is empty, past 64 bytes, or of other bytes than letters, digits, `_`, `.`, `-`, of
-    /// which the first is a letter or `_`.
+    /// A name that is empty, past 64 bytes, or of other bytes than letters, digits, `_`, `.`, `-`,
+    /// of which the first is a letter or `_`.
     #[error("6 BadName")]
     BadName,
     /// A point with the name of an earlier point, or a site with that of an earlier site.

@@ -1,30 +1,37 @@
-//! What is declared, points with their costs and sites with their links, and the world that controls
-//! change: which points are valid, and the trees of each site.
+//! What is declared, points with their costs and sites with their links, and the world that
+//! controls change: which points are valid, and the trees of each site.
+//!
+//! ```
+//! let site = Site { name, method_type, key: Some(0), target, links };
+//! let definition = Definition::new(alloc, points, Listing::from_vec(vec![in alloc; site]?))?;
+//! let mut world = World::open(alloc, &definition)?;
+//! world.try_absorb(&Control::Invalidate(numbers))?;
+//! ```
 #![tactic(auto)]
 
 mod control;
-mod copies;
 mod definition;
 mod fault;
 mod laws;
 mod link;
-mod listing;
 mod name;
 mod numbering;
 mod order;
 mod point;
-mod point_tests;
+mod point_rules;
 mod site;
-mod site_tests;
+mod site_rules;
 mod world;
 
-pub use control::{Control, Installation, KeptLinks, Points, Relinking, Retargeting};
-pub use definition::Definition;
-pub use fault::{DefinitionFault, NoMemory};
+pub use control::{Control, Installation, KeptLinks, Relinking, Retargeting};
+pub use definition::{Definition, MOST_POINTS, MOST_SITES};
+pub use fault::DefinitionFault;
 pub use laws::worlds_look_back;
 pub use link::Link;
-pub use listing::Listing;
-pub use name::Name;
+pub use mh_base::{Listing, NoMemory};
+pub use name::{LONGEST_NAME, Name};
 pub use point::Point;
+pub use point_rules::GREATEST_COST;
 pub use site::Site;
+pub use site_rules::{GREATEST_WEIGHT, MOST_LINKS, MOST_NEEDS};
 pub use world::World;

@@ -1,17 +1,18 @@
 //! Links of a site.
 
-use crate::listing::Listing;
+use mh_base::Listing;
 use mh_type::Value;
 
 /// A case that the inline cache of a site may hold (Hölzle, Chambers and Ungar, Optimizing
 /// Dynamically-Typed Object-Oriented Languages With Polymorphic Inline Caches, 1991): the calls
 /// whose argument at the key place is `when`.
-#[derive(Drop)]
+#[derive(Debug, Drop)]
 pub struct Link {
     /// The key, of the kind of the key place. The keys of a site differ.
     pub when: Value,
     /// What one hit gains: 0 to 2^20 in a definition.
     pub weight: u64,
-    /// The numbers of the points that have to be valid while the link is kept: at most 8, each once.
+    /// The numbers of the points that have to be valid while the link is kept: at most 8, each
+    /// once.
     pub needs: Listing<u32>,
 }

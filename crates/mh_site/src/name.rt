@@ -11,7 +11,7 @@ use std::marker::Model;
 pub const LONGEST_NAME: usize = 64;
 
 /// A text that owns its bytes. Whether it is a lawful name, the definition tests.
-#[derive(Drop)]
+#[derive(Debug, Drop)]
 pub struct Name {
     text: String,
 }
@@ -41,8 +41,8 @@ impl Name {
         self.text.as_str()
     }
 
-    /// Whether this is a lawful name: 1 to 64 bytes, first a letter or `_`, then letters, digits, `_`, `.` and
-    /// `-`, all ASCII.
+    /// Whether this is a lawful name: 1 to 64 bytes, first a letter or `_`, then letters, digits,
+    /// `_`, `.` and `-`, all ASCII.
     pub fn is_lawful(&self) -> bool
         ensures value { result ≡ is_lawful self.now }
     {

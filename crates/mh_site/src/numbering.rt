@@ -3,12 +3,12 @@
 ghost use Rattle.std.specs.Prelude.{◌≡◌, ◌++◌, ◌∷◌, [], replicate, IfOk, OnOk};
 ghost use Rattle.mh_site.specs.Links.{AreNumbers};
 
-use crate::fault::NoMemory;
 use crate::site::Site;
+use mh_base::NoMemory;
 use std::alloc::Global;
 
 // For each site the number of its first link, and for each link the number of its site.
-#[derive(Drop)]
+#[derive(Debug, Drop)]
 pub(crate) struct Numbering {
     pub(crate) firsts: Vec<usize>,
     pub(crate) homes: Vec<usize>,

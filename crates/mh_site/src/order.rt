@@ -5,8 +5,8 @@ ghost use Rattle.mh_site.specs.Ascending.{ascending};
 ghost use Rattle.mh_site.specs.Definitions.{link_in_order, site_in_order};
 
 use crate::link::Link;
-use crate::listing::Listing;
 use crate::site::Site;
+use mh_base::Listing;
 
 // The needs of each link of each site in ascending order. It takes no memory.
 pub(crate) fn order_sites(sites: &mut Vec<Site>)

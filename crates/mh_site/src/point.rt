@@ -3,7 +3,7 @@
 use crate::name::Name;
 
 /// A switch point (`java.lang.invoke.SwitchPoint`, Java SE 17), and what it costs to keep it alive.
-#[derive(Drop)]
+#[derive(Debug, Drop)]
 pub struct Point {
     /// 1 to 64 bytes in a definition, and of no other point.
     pub name: Name,

@@ -1,14 +1,14 @@
 //! Call sites.
 
 use crate::link::Link;
-use crate::listing::Listing;
 use crate::name::Name;
+use mh_base::Listing;
 use mh_tree::Declared;
 use mh_type::MethodType;
 
-/// A mutable call site (`java.lang.invoke.MutableCallSite`, Java SE 17): its type, and the tree that
-/// it runs when its world is opened.
-#[derive(Drop)]
+/// A mutable call site (`java.lang.invoke.MutableCallSite`, Java SE 17): its type, and the tree
+/// that it runs when its world is opened.
+#[derive(Debug, Drop)]
 pub struct Site {
     /// 1 to 64 bytes in a definition, and of no other site.
     pub name: Name,

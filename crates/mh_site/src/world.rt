@@ -6,16 +6,16 @@ ghost use Rattle.mh_site.specs.Worlds.{WorldState, opened, opening, after, repla
 ghost use Rattle.mh_site.specs.SiteStates.{site_state};
 ghost use Rattle.mh_site.specs.declared.control.Control.{Control};
 
-use crate::control::{Control, Installation, KeptLinks, Points, Relinking, Retargeting, prepared};
+use crate::control::{Control, Installation, KeptLinks, Relinking, Retargeting, prepare};
 use crate::definition::Definition;
-use crate::fault::NoMemory;
 use crate::site::Site;
+use mh_base::{Listing, NoMemory};
 use mh_tree::{Declared, Handle, Prepared};
 use std::alloc::Global;
 use std::marker::Model;
 
 // A site's trees, the links that its linked tree holds, and how often it was retargeted.
-#[derive(Drop)]
+#[derive(Debug, Drop)]
 pub(crate) struct SiteWorld {
     base: Declared,
     linked: Prepared,
@@ -23,11 +23,12 @@ pub(crate) struct SiteWorld {
     version: u64,
 }
 
-/// Which points are valid, and the trees of each site: what a list of controls made of a definition.
+/// Which points are valid, and the trees of each site: what a list of controls made of a
+/// definition.
 ///
 /// A contract sees a world as its tables. They are the replay of the controls absorbed so far, and,
 /// as the law `worlds_look_back` says, what looking back through these controls finds.
-#[derive(Drop)]
+#[derive(Debug, Drop)]
 pub struct World {
     valid: Vec<bool>,
     sites: Vec<SiteWorld>,
@@ -44,14 +45,23 @@ impl Model for World {
 
     ghost use Rattle.mh_site.specs.SiteStates.{site_state};
 
-    ghost view = { λ w. record { valid = w.valid.items; sites = map site_state w.sites.items; front = w.front } };
+    ghost view = { λ w. record {
+      valid = w.valid.items;
+      sites = map site_state w.sites.items;
+      front = w.front;
+    } };
 
-    ghost invariant = { λ w. IsWorld record { valid = w.valid.items; sites = map site_state w.sites.items; front = w.front } };
+    ghost invariant = { λ w. IsWorld record {
+      valid = w.valid.items;
+      sites = map site_state w.sites.items;
+      front = w.front;
+    } };
 }
 
 impl World {
     /// The world of a definition before any control: all points are valid, and each site runs its
-    /// target, whose code is made here. Refused where a growth was refused, or a further owner of a tree.
+    /// target, whose code is made here. Refused where a growth was refused, or a further owner of a
+    /// tree.
     pub fn open(alloc: Global, definition: &Definition) -> Result<World, NoMemory>
         ensures value { IfOk result (λ w. w ≡ opened definition.now) }
         ensures replays { IfOk result (λ w. w ≡ replay (opened definition.now) []) }
@@ -124,7 +134,8 @@ impl World {
     pub fn absorb(&mut self, control: Control)
         requires room { self.old.front + 1 < 2 ^ 64 }
         ensures step { self.new ≡ after self.old control }
-        ensures replays { (w : WorldState) → (controls : List Control) → self.old ≡ replay w controls → self.new ≡ replay w (controls ++ control ∷ []) }
+        ensures replays { (w : WorldState) → (controls : List Control)
+            → self.old ≡ replay w controls → self.new ≡ replay w (controls ++ control ∷ []) }
     {
         self.front += 1;
         match control {
@@ -134,14 +145,15 @@ impl World {
         }
     }
 
-    /// Takes a control in, on trees of which it makes another owner first: what `absorb` does, of a control
-    /// that goes on to another world.
+    /// Takes a control in, on trees of which it makes another owner first: what `absorb` does, of a
+    /// control that goes on to another world.
     ///
-    /// Refused where a growth was refused, or a further owner of a tree, or where 2^64 - 1 controls were
-    /// absorbed, and then nothing changes.
+    /// Refused where a growth was refused, or a further owner of a tree, or where 2^64 - 1 controls
+    /// were absorbed, and then nothing changes.
     pub fn try_absorb(&mut self, control: &Control) -> Result<(), NoMemory>
         ensures step { OnOk result (self.new ≡ after self.old control.now) }
-        ensures replays { OnOk result ((w : WorldState) → (controls : List Control) → self.old ≡ replay w controls → self.new ≡ replay w (controls ++ control.now ∷ [])) }
+        ensures replays { OnOk result ((w : WorldState) → (controls : List Control)
+            → self.old ≡ replay w controls → self.new ≡ replay w (controls ++ control.now ∷ [])) }
         ensures refused { OnErr result (self.new ≡ self.old) }
     {
         if self.front == u64::MAX {
@@ -170,7 +182,7 @@ fn open_site(site: &Site) -> Result<SiteWorld, NoMemory>
 {
     Ok(SiteWorld {
         base: site.target.share().map_err(|_| NoMemory)?,
-        linked: prepared(site.target.handle())?,
+        linked: prepare(site.target.handle())?,
         kept: KeptLinks::new(),
         version: 0,
     })
@@ -179,8 +191,10 @@ fn open_site(site: &Site) -> Result<SiteWorld, NoMemory>
 // Another base and linked tree of a site.
 fn retarget(sites: &mut Vec<SiteWorld>, retargeting: Retargeting)
     requires room { All (λ x. x.version + 1 < 2 ^ 64) sites.old.items }
-    ensures value { map site_state sites.new.items ≡ slice_set (map site_state sites.old.items) retargeting.site
-        (retargeted retargeting.tree (slice_index_or (map site_state sites.old.items) retargeting.site no_state)) }
+    ensures value { map site_state sites.new.items ≡ slice_set
+        (map site_state sites.old.items) retargeting.site
+        (retargeted retargeting.tree (slice_index_or
+        (map site_state sites.old.items) retargeting.site no_state)) }
 {
     let Retargeting { site, base, linked } = retargeting;
     if site < sites.len() {
@@ -194,7 +208,8 @@ fn retarget(sites: &mut Vec<SiteWorld>, retargeting: Retargeting)
 
 // Other linked trees of sites, in order.
 fn relink_all(sites: &mut Vec<SiteWorld>, installation: Installation)
-    ensures value { map site_state sites.new.items ≡ fold relink_site (map site_state sites.old.items) installation }
+    ensures value { map site_state sites.new.items ≡ fold relink_site
+        (map site_state sites.old.items) installation }
 {
     let Installation { changes } = installation;
     for change in changes {
@@ -204,7 +219,8 @@ fn relink_all(sites: &mut Vec<SiteWorld>, installation: Installation)
 
 // Another linked tree of a site, over the same base.
 fn relink(sites: &mut Vec<SiteWorld>, change: Relinking)
-    ensures value { map site_state sites.new.items ≡ relink_site (map site_state sites.old.items) change }
+    ensures value { map site_state sites.new.items ≡ relink_site
+        (map site_state sites.old.items) change }
 {
     let Relinking { site, linked, kept } = change;
     if site < sites.len() {
@@ -215,7 +231,7 @@ fn relink(sites: &mut Vec<SiteWorld>, change: Relinking)
 }
 
 // These points are no longer valid.
-fn clear(valid: &mut Vec<bool>, points: &Points)
+fn clear(valid: &mut Vec<bool>, points: &Listing<u32>)
     ensures value { valid.new.items ≡ fold clear_point valid.old.items points.now }
 {
     for point in points.as_slice() {

@@ -1,4 +1,4 @@
-pub mod Hits
-pub mod WorkerSums
-pub mod Settling
-pub mod Sending
+mod Hits
+mod WorkerSums
+mod Settling
+mod Sending

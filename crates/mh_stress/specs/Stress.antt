@@ -16,7 +16,8 @@ use Rattle.mh_text.specs.Output.{EndsReading, IsUnread, outside, script_of_input
 use Rattle.mh_text.specs.Planning.{IsCutShort}
 use Rattle.mh_text.specs.declared.fault.Fault.{Fault}
 use Rattle.mh_text.specs.declared.fault.TextFault.{TextFault}
-use Rattle.mh_text.specs.declared.fault.TextFault.TheVariants.{NoMemory, NoReader}
+use Rattle.mh_text.specs.declared.fault.TextFault.TheVariants.{NoReader}
+use Rattle.mh_text.specs.Gives.{no_memory}
 use Rattle.mh_text.specs.declared.json.script.Script.{Script}
 use Rattle.mh_stress.specs.Divisions.{calls_in}
 use Rattle.mh_stress.specs.Rounds.{times_hit}
@@ -34,7 +35,7 @@ most_unflushed = 2 ^ 90
 
 -- what an office is not opened for, as a cause of a fault
 abbrev pub cause_of : OpenFault → TextFault
-cause_of opening.NoMemory = NoMemory
+cause_of opening.NoMemory = no_memory
 cause_of opening.NoReader = NoReader
 
 -- from 1 to 64 workers, where they are said, and from 1 to 1,000,000 rounds

@@ -1,4 +1,5 @@
-//! Scripts on running threads: each worker makes its calls, again and again, beside the changes of the world.
+//! Scripts on running threads: each worker makes its calls, again and again, beside the changes of
+//! the world.
 //!
 //! ```
 //! let options = StressOptions { workers: Some(4), rounds: 1000 };
@@ -13,5 +14,5 @@ mod stress;
 mod sums;
 mod threads;
 
-pub use mh_text::{Fault, TextFault, Watched};
+pub use mh_text::{Fault, InputFault, TextFault, Watched};
 pub use stress::{MOST_ROUNDS, StressOptions, stress_bytes};

@@ -4,16 +4,17 @@ ghost use Rattle.std.specs.Io.KnownBytes.{Appends};
 ghost use Rattle.mh_text.specs.Bytes.{HasFailed};
 ghost use Rattle.mh_text.specs.Gives.{IsEndOf};
 ghost use Rattle.mh_text.specs.Output.{outside};
-ghost use Rattle.mh_text.specs.declared.fault.TextFault.TheVariants.{NoMemory, NoReader};
+ghost use Rattle.mh_text.specs.declared.fault.TextFault.TheVariants.{NoReader};
+ghost use Rattle.mh_text.specs.Gives.{no_memory};
 ghost use Rattle.mh_live.specs.Limits.{most_workers};
-ghost use Rattle.mh_stress.specs.Stress.{AreLawful, FailsStress, cause_of, IsSettlement, IsSettlementOf, IsStressed, workers_of};
+ghost use Rattle.mh_stress.specs.Stress.{AreLawful, FailsStress, cause_of, IsSettlement, IsSettlementOf, IsStressed, workers_of, most_rounds};
 ghost use Rattle.mh_stress.specs.Rounds.{AreFresh};
 
 use crate::division::{Division, divide};
 use crate::sums::{Sums, line, sums_of};
 use crate::threads::work_beside;
 use mh_live::{Live, MOST_WORKERS, Name, OpenFault, Opening, Pass};
-use mh_text::{Fault, Script, TextFault, Watched, read_script_from, write_lines};
+use mh_text::{Fault, InputFault, Script, TextFault, Watched, read_script_from, write_lines};
 use std::alloc::Global;
 use std::io::{Read, Write};
 use std::marker::Brand;
@@ -35,10 +36,10 @@ pub struct StressOptions {
 /// What an office is not opened for, as a fault outside the events.
 fn fault_of(cause: OpenFault) -> Fault
     ensures value { result ≡ outside (cause_of cause) }
-    ensures one { (result ≡ outside NoMemory) ⊎ (result ≡ outside NoReader) }
+    ensures one { (result ≡ outside no_memory) ⊎ (result ≡ outside NoReader) }
 {
     match cause {
-        OpenFault::NoMemory => Fault::from(TextFault::NoMemory),
+        OpenFault::NoMemory => Fault::from(InputFault::NoMemory),
         OpenFault::NoReader => Fault::from(TextFault::NoReader),
     }
 }
@@ -54,18 +55,19 @@ fn settle_rounds<N: Name + Send + Sync, T: Threads + Wait + Sync>(
 ) -> Result<Sums, Fault>
     requires fresh { AreFresh N.definition passes.items }
     requires workers { (0 < length passes.items) × (length passes.items ≤ most_workers) }
-    requires rounds { rounds ≤ 1000000 }
-    ensures settled { IfOk result (IsSettlement N.definition division.calls.items (length passes.items) rounds) }
-    ensures told { IfErr result (λ e. e ≡ outside NoMemory) }
+    requires rounds { rounds ≤ most_rounds }
+    ensures settled { IfOk result (IsSettlement N.definition division.calls.items
+        (length passes.items) rounds) }
+    ensures told { IfErr result (λ e. e ≡ outside no_memory) }
 {
     let workers = passes.len();
     let Some(passes) = work_beside(rt, alloc, &live, passes, division, rounds, workers) else {
-        return Err(Fault::from(TextFault::NoMemory));
+        return Err(Fault::from(InputFault::NoMemory));
     };
     match live.settle(rt, alloc, passes) {
         Ok(settled) => Ok(sums_of(&settled)),
         // No pass is missing that an opening made; so memory was.
-        Err(_) => Err(Fault::from(TextFault::NoMemory)),
+        Err(_) => Err(Fault::from(InputFault::NoMemory)),
     }
 }
 
@@ -80,9 +82,10 @@ fn run_threads<N: Name + Send + Sync, T: Threads + Wait + Sync>(
     requires name { opening.name ≡ N.book }
     requires definition { opening.definition ≡ N.definition }
     requires workers { (0 < opening.workers) × (opening.workers ≤ most_workers) }
-    requires rounds { rounds ≤ 1000000 }
-    ensures settled { IfOk result (IsSettlement opening.definition division.calls.items opening.workers rounds) }
-    ensures told { IfErr result (λ e. (e ≡ outside NoMemory) ⊎ (e ≡ outside NoReader)) }
+    requires rounds { rounds ≤ most_rounds }
+    ensures settled { IfOk result (IsSettlement opening.definition division.calls.items
+        opening.workers rounds) }
+    ensures told { IfErr result (λ e. (e ≡ outside no_memory) ⊎ (e ≡ outside NoReader)) }
 {
     match opening.open::<N>() {
         Ok((live, passes)) => settle_rounds(rt, alloc, live, passes, division, rounds),
@@ -112,7 +115,7 @@ fn stress_script<T: Threads + Wait + Sync>(
 ) -> Result<Sums, Fault>
     requires options { AreLawful options }
     ensures settled { IfOk result (IsSettlementOf options script) }
-    ensures told { IfErr result (λ e. (e ≡ outside NoMemory) ⊎ (e ≡ outside NoReader)) }
+    ensures told { IfErr result (λ e. (e ≡ outside no_memory) ⊎ (e ≡ outside NoReader)) }
 {
     let Script {
         definition,
@@ -126,16 +129,18 @@ fn stress_script<T: Threads + Wait + Sync>(
     run_threads::<Brand, T>(rt, alloc, opening, division, options.rounds)
 }
 
-/// Stresses the script that the reader gives, and writes the line of its sums over all links: `settled made 9 totals 9
-/// unflushed 0`.
+/// Stresses the script that the reader gives, and writes the line of its sums over all links:
+/// `settled made 9 totals 9 unflushed 0`.
 ///
-/// Each worker, in a thread of its own where one can be started, makes the script's calls that name it, in their order,
-/// and flushes, and does so again, as many times as there are rounds. Meanwhile this thread makes the other events but
-/// flushes, once and in their order. A call, a flush or an event that is refused is passed over. The calls of a worker past
-/// the last are not made. Then all that was made is added up.
+/// Each worker, in a thread of its own where one can be started, makes the script's calls that name
+/// it, in their order, and flushes, and does so again, as many times as there are rounds. Meanwhile
+/// this thread makes the other events but flushes, once and in their order. A call, a flush or an
+/// event that is refused is passed over. The calls of a worker past the last are not made. Then all
+/// that was made is added up.
 ///
-/// The input is read to its end, or to the first byte past 1,048,576. A fault in it, of memory or of readers of the
-/// published world (`NoReader`) writes nothing. A failing write leaves a beginning of the line, and is told at 0.
+/// The input is read to its end, or to the first byte past 1,048,576. A fault in it, of memory or
+/// of readers of the published world (`NoReader`) writes nothing. A failing write leaves a
+/// beginning of the line, and is told at 0.
 pub fn stress_bytes<T: Threads + Wait + Sync, R: Read, W: Write>(
     rt: &T,
     alloc: Global,
@@ -144,11 +149,13 @@ pub fn stress_bytes<T: Threads + Wait + Sync, R: Read, W: Write>(
     writer: &mut Watched<W>,
 ) -> Result<(), Fault>
     requires options { AreLawful options }
-    ensures ok { OnOk result (IfSome (R.remaining reader.old.inner) (λ input. (text : List ℕ) × IsStressed options input text
+    ensures ok { OnOk result (IfSome (R.remaining reader.old.inner) (λ input. (text : List ℕ)
+        × IsStressed options input text
         × Appends (W.contents writer.old.inner) (W.contents writer.new.inner) text)) }
     ensures failed { IfErr result (FailsStress options (R.remaining reader.old.inner)
         (W.contents writer.old.inner) (W.contents writer.new.inner)
-        (HasFailed reader.old.failures reader.new.failures) (HasFailed writer.old.failures writer.new.failures)) }
+        (HasFailed reader.old.failures reader.new.failures)
+        (HasFailed writer.old.failures writer.new.failures)) }
     ensures told { IfErr result (λ e. IsEndOf (HasFailed reader.old.failures reader.new.failures)
         (HasFailed writer.old.failures writer.new.failures) e.kind) }
     ensures reads { OnOk result (reader.new.failures ≡ reader.old.failures) }

@@ -19,9 +19,11 @@ pub struct Sums {
 
 /// The sums over all links.
 pub(crate) fn sums_of<N: Name>(settled: &Settled<N>) -> Sums
-    requires small { (j : ℕ) → j < length (links N.definition) → at settled.now.unflushed j ≤ most_unflushed }
+    requires small { (j : ℕ) → j < length (links N.definition)
+        → at settled.now.unflushed j ≤ most_unflushed }
     ensures settled { IsSettled N.definition settled.now }
-    ensures value { result ≡ sums_over (length (links N.definition)) (at settled.now.book.totals.total) (at settled.now.unflushed) }
+    ensures value { result ≡ sums_over (length (links N.definition))
+        (at settled.now.book.totals.total) (at settled.now.unflushed) }
 {
     let mut totals = 0;
     let mut unflushed = 0;

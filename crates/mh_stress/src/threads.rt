@@ -12,8 +12,8 @@ use std::sync::Wait;
 use std::thread;
 use std::thread::Threads;
 
-/// Has each worker make its rounds, in a thread of its own where one can be started, and gives the passes back in
-/// their order.
+/// Has each worker make its rounds, in a thread of its own where one can be started, and gives the
+/// passes back in their order.
 fn work<N: Name + Send + Sync, T: Threads + Wait + Sync>(
     rt: &T,
     live: &Live<N>,
@@ -21,7 +21,8 @@ fn work<N: Name + Send + Sync, T: Threads + Wait + Sync>(
     calls: &[Call],
     rounds: u32,
 ) -> Result<Vec<Pass<N>>, AllocError>
-    ensures worked { IfOk result (λ after. HaveWorked N.definition calls.now rounds passes.items after.items) }
+    ensures worked { IfOk result (λ after. HaveWorked N.definition calls.now rounds passes.items
+        after.items) }
 {
     let share = |pass: Pass<N>| -> Pass<N>
         ensures { HasWorked N.definition calls.entry.now rounds pass result }
@@ -29,8 +30,8 @@ fn work<N: Name + Send + Sync, T: Threads + Wait + Sync>(
     thread::map_vec(rt, passes, &share)
 }
 
-/// Has the workers make their rounds, and makes the changes meanwhile. Where no thread can be started, the rounds are made
-/// after the changes. None where a growth was refused.
+/// Has the workers make their rounds, and makes the changes meanwhile. Where no thread can be
+/// started, the rounds are made after the changes. None where a growth was refused.
 pub(crate) fn work_beside<N: Name + Send + Sync, T: Threads + Wait + Sync>(
     rt: &T,
     alloc: Global,
@@ -42,7 +43,8 @@ pub(crate) fn work_beside<N: Name + Send + Sync, T: Threads + Wait + Sync>(
 ) -> Option<Vec<Pass<N>>>
     requires some { 0 < workers }
     requires few { workers ≤ most_workers }
-    ensures worked { IfSome result (λ after. HaveWorked N.definition division.calls.items rounds passes.items after.items) }
+    ensures worked { IfSome result
+        (λ after. HaveWorked N.definition division.calls.items rounds passes.items after.items) }
 {
     let Division { calls, changes } = division;
     let calls = calls.as_slice();

@@ -1,4 +1,5 @@
-//! Tests of texts, streams and the command: what no clause says, and each public call once with ample memory.
+//! Tests of texts, streams and the command: what no clause says, and each public call once with
+//! ample memory.
 #![tactic(auto)]
 
 #[cfg(test)]

@@ -11,9 +11,10 @@ use std::thread::Threads;
 
 /// Two links that gain 3 each, and need one point of cost 5.
 const PROBLEM: &str =
-    "{\"version\":1,\"costs\":[5],\"links\":[{\"gain\":3,\"needs\":[0]},{\"gain\":3,\"needs\":[0]}]}";
+    r#"{"version":1,"costs":[5],"links":[{"gain":3,"needs":[0]},{"gain":3,"needs":[0]}]}"#;
 
-/// Whether a plan of the problem is written as this line, and what is read of it as JSON is accepted.
+/// Whether a plan of the problem is written as this line, and what is read of it as JSON is
+/// accepted.
 fn lines_of_a_plan<T: Threads + Sync>(
     rt: &T,
     alloc: Global,
@@ -56,7 +57,7 @@ fn write_plan<T: Threads + Sync>(rt: &T, alloc: Global, input: &str) -> Result<V
 
 #[test]
 fn a_problem_is_planned_from_its_bytes(rt: HostRuntime) -> Result<(), Fail> {
-    let input = "{\"version\":1,\"costs\":[5],\"links\":[{\"gain\":5,\"needs\":[0]}]}";
+    let input = r#"{"version":1,"costs":[5],"links":[{"gain":5,"needs":[0]}]}"#;
     let lines = "links - points - value 0 flow 5\nphases 2 bound 4\n";
     let written = write_plan(&rt, rt.alloc(), input)?;
     assert!(rt; written.as_slice() == lines.as_bytes());

@@ -1,19 +1,19 @@
 //! Problems and plans as values.
 use mh_cert::Plan;
-use mh_text::{Fault, Problem, TextFault, read_plan, read_problem};
+use mh_text::{Fault, InputFault, Problem, TextFault, read_plan, read_problem};
 use std::alloc::Global;
 use std::test::Fail;
 
 /// Two links, of which one may not be chosen.
 const PROBLEM: &str =
-    "{\"version\":1,\"costs\":[5,6],\"links\":[{\"gain\":8,\"needs\":[0,1]},{\"gain\":9,\"eligible\":false,\"needs\":[]}]}";
+    r#"{"version":1,"costs":[5,6],"links":[{"gain":8,"needs":[0,1]},{"gain":9,"eligible":false,"needs":[]}]}"#;
 
 /// A choice of the first, with a flow.
-const PLAN: &str = "{\"links\":[0],\"points\":[0,1],\"value\":-3,\"flow\":[[0,1,6]]}";
+const PLAN: &str = r#"{"links":[0],"points":[0,1],"value":-3,"flow":[[0,1,6]]}"#;
 
 /// A missing part.
 const MISSING: Fault = Fault {
-    kind: TextFault::BadShape,
+    kind: TextFault::Input(InputFault::BadShape),
     at: 0,
 };
 
@@ -85,7 +85,7 @@ fn is_its_plan(plan: &Plan) -> bool {
 
 /// Whether a plan is read at its key, and why none is read where there is no key.
 fn read_at_a_key(alloc: Global) -> Result<(bool, Option<Fault>), Fail> {
-    let input = format!(in alloc; "{{\"plan\":{PLAN}}}")?;
+    let input = format!(in alloc; r#"{{"plan":{PLAN}}}"#)?;
     let missing = read_plan(alloc, input.as_bytes(), None).err();
     let plan = read_plan(alloc, input.as_bytes(), Some("plan"))?;
     Ok((is_its_plan(&plan), missing))

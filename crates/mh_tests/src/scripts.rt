@@ -1,7 +1,7 @@
 //! Scripts and definitions as values.
 use mh_core::{Event, Reply};
 use mh_site::{Definition, DefinitionFault, Listing, Name, Point, Site};
-use mh_text::{Fault, Script, Step, TextFault, read_script, render};
+use mh_text::{Fault, InputFault, Script, Step, TextFault, read_script, render};
 use mh_tree::{Declared, Handle};
 use mh_type::{Kind, MethodType, Op, Value};
 use std::alloc::Global;
@@ -9,7 +9,7 @@ use std::test::Fail;
 
 /// Two points, a shared tree, a site that uses it with a link, and limits.
 const SCRIPT: &str =
-    "{\"definition\":{\"version\":1,\"points\":[{\"name\":\"a\",\"cost\":5},{\"name\":\"b\",\"cost\":7}],\"shared\":[[\"g\",[\"op\",\"ineg\"]]],\"sites\":[{\"name\":\"f\",\"type\":\"(int)int\",\"key\":0,\"target\":[\"point\",\"b\",[\"ref\",\"g\"],[\"ref\",\"g\"]],\"links\":[{\"when\":3,\"weight\":4,\"needs\":[\"b\",\"a\"]}]}]},\"workers\":2,\"limits\":{\"ledger\":9},\"events\":[[\"call\",1,\"f\",[7]],[\"target\",\"h\",[\"ref\",\"g\"]],[\"invalidate\",[\"b\",\"c\"]],[\"plan\",7]]}";
+    r#"{"definition":{"version":1,"points":[{"name":"a","cost":5},{"name":"b","cost":7}],"shared":[["g",["op","ineg"]]],"sites":[{"name":"f","type":"(int)int","key":0,"target":["point","b",["ref","g"],["ref","g"]],"links":[{"when":3,"weight":4,"needs":["b","a"]}]}]},"workers":2,"limits":{"ledger":9},"events":[["call",1,"f",[7]],["target","h",["ref","g"]],["invalidate",["b","c"]],["plan",7]]}"#;
 
 /// A script that is read.
 fn read(alloc: Global, input: &str) -> Result<Script, Fail> {
@@ -185,12 +185,12 @@ fn fault_of_spaces(alloc: Global, spaces: usize) -> Result<Option<Fault>, Fail> 
 #[test]
 fn a_fault_has_its_place(rt: HostRuntime) -> Result<(), Fail> {
     let none = Fault {
-        kind: TextFault::NotJson,
+        kind: TextFault::Input(InputFault::NotJson),
         at: 0,
     };
     assert_eq!(rt; refused(rt.alloc(), "{"), Some(none));
     let too_long = Fault {
-        kind: TextFault::TooLong,
+        kind: TextFault::Input(InputFault::TooLong),
         at: 0,
     };
     assert_eq!(rt; fault_of_spaces(rt.alloc(), 1_048_577)?, Some(too_long));

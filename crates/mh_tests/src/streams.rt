@@ -53,11 +53,12 @@ impl Write for SmallWriter<'_> {
 }
 
 const SCRIPT: &str =
-    "{\"definition\":{\"version\":1,\"points\":[],\"sites\":[{\"name\":\"f\",\"type\":\"(int)int\",\"target\":[\"op\",\"ineg\"]}]},\"workers\":1,\"events\":[[\"call\",0,\"f\",[7]],[\"invalidate\",[]],[\"call\",0,\"g\",[7]]]}";
+    r#"{"definition":{"version":1,"points":[],"sites":[{"name":"f","type":"(int)int","target":["op","ineg"]}]},"workers":1,"events":[["call",0,"f",[7]],["invalidate",[]],["call",0,"g",[7]]]}"#;
 
 const LINES: &str = "int -7\nok\nrefused 3 NoSite\n";
 
-/// What a run answers whose reader fails after so many reads, what it wrote, and how many failures of reading there were.
+/// What a run answers whose reader fails after so many reads, what it wrote, and how many failures
+/// of reading there were.
 fn run_from<T: Threads + Sync>(
     rt: &T,
     alloc: Global,
@@ -136,7 +137,8 @@ fn run_into<T: Threads + Sync>(
     }
 }
 
-/// The first room at whose end a failed write is told otherwise, or where not all that had room was written.
+/// The first room at whose end a failed write is told otherwise, or where not all that had room was
+/// written.
 fn first_other_failed_write<T: Threads + Sync>(
     rt: &T,
     alloc: Global,
@@ -179,9 +181,10 @@ impl Write for Unflushed {
 }
 
 const CHECK: &str =
-    "{\"problem\":{\"version\":1,\"costs\":[],\"links\":[]},\"plan\":{\"links\":[],\"points\":[],\"value\":0,\"flow\":[]}}";
+    r#"{"problem":{"version":1,"costs":[],"links":[]},"plan":{"links":[],"points":[],"value":0,"flow":[]}}"#;
 
-/// The status of a request whose last flush fails, and whether the fault stands on the other stream.
+/// The status of a request whose last flush fails, and whether the fault stands on the other
+/// stream.
 fn answer_unflushed<T: Threads + Wait + Sync>(
     rt: &T,
     alloc: Global,

@@ -4,15 +4,15 @@ use Rattle.std.specs.Io.KnownBytes.{Keeps}
 use Rattle.mh_network.specs.Problems.{ProblemData}
 use Rattle.mh_cert.specs.declared.plan.Plan.{Plan}
 use Rattle.mh_text.specs.declared.fault.Fault.{Fault}
-use Rattle.mh_text.specs.declared.fault.TextFault.TheVariants.{NoMemory}
 use Rattle.mh_text.specs.declared.json.problem.ProblemRows.{ProblemRows}
 use Rattle.mh_text.specs.declared.lines.verdict.Verdict.{Verdict}
 use Rattle.mh_text.specs.Checks.{IsFirstOf, IsClaim, IsFound, IsVerdict, IsCutOff, FailsCheck}
+use Rattle.mh_text.specs.Gives.{no_memory}
 use Rattle.mh_text.specs.Output.{outside}
 use Rattle.mh_text.specs.Problems.{MakesProblem}
 
 -- the first fault of a problem comes first
-pub problem_fails : (problem : Result ProblemRows Fault) (read : Result Plan Fault) (e : Fault) → MakesProblem problem (Err e) → (e ≡ outside NoMemory) ⊎ IsFirstOf problem read e
+pub problem_fails : (problem : Result ProblemRows Fault) (read : Result Plan Fault) (e : Fault) → MakesProblem problem (Err e) → (e ≡ outside no_memory) ⊎ IsFirstOf problem read e
 problem_fails (Ok rows) read e (inl memory) = inl memory
 problem_fails (Ok rows) read e (inr fails) = inr (inr (rows, refl, inl fails))
 problem_fails (Err first) read e (inl memory) = inl memory
@@ -25,7 +25,7 @@ found_in (Some bytes) p plan verdict claim found = (p, plan, claim, found)
 
 -- a line that was not written to its end
 pub unwritten : (input old new : Option (List ℕ)) (ReadHasFailed WriteHasFailed : Type 0) (e : Fault) (verdict : Verdict)
-    → IfSome input (λ bytes. IsVerdict bytes verdict) → (Keeps old new × (e ≡ outside NoMemory)) ⊎ IsCutOff old new WriteHasFailed e verdict
+    → IfSome input (λ bytes. IsVerdict bytes verdict) → (Keeps old new × (e ≡ outside no_memory)) ⊎ IsCutOff old new WriteHasFailed e verdict
     → FailsCheck input old new ReadHasFailed WriteHasFailed e
 unwritten input old new ReadHasFailed WriteHasFailed e verdict found (inl (kept, memory)) = inl (kept, inl memory)
 unwritten input old new ReadHasFailed WriteHasFailed e verdict found (inr cut) = inr (verdict, found, cut)

@@ -5,7 +5,7 @@ use Rattle.serde_json.specs.View.{view, items_view}
 use Rattle.serde_json.specs.declared.value.Value.{Value, Array}
 use Rattle.serde_json.proofs.Views.{view-Array}
 use Rattle.mh_tree.specs.Handle.{TypedTree}
-use Rattle.mh_text.specs.declared.fault.ReadFault.{ReadFault}
+use Rattle.mh_text.specs.declared.fault.InputFault.{InputFault}
 use Rattle.mh_text.specs.declared.json.scope.Scope.{Scope}
 use Rattle.mh_text.specs.Gives.{◌>>=◌}
 use Rattle.mh_text.specs.Shape.{text_of, each_from}
@@ -35,9 +35,9 @@ module _ (scope : Scope) where
   filters_in-items_view : (vs : List Value) (n : ℕ) → filters_in scope (items_view vs) ≡ each_from (λ _ d. filter_of scope d) n (map view vs)
   filters_in-items_view [] n = refl
   filters_in-items_view (v ∷ vs) n =
-      ap (λ (r : Result (List (Option TypedTree)) ReadFault). filter_of scope (view v) >>= λ filter. r >>= λ filters. Ok (filter ∷ filters)) (filters_in-items_view vs (n + 1))
+      ap (λ (r : Result (List (Option TypedTree)) InputFault). filter_of scope (view v) >>= λ filter. r >>= λ filters. Ok (filter ∷ filters)) (filters_in-items_view vs (n + 1))
 
-  no_front : (r : Result (List (Option TypedTree)) ReadFault) → with_front [] r ≡ r
+  no_front : (r : Result (List (Option TypedTree)) InputFault) → with_front [] r ≡ r
   no_front (Ok xs) = refl
   no_front (Err e) = refl
 

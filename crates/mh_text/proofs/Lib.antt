@@ -1,12 +1,11 @@
-pub mod Claims
-pub mod Forms
-pub mod Loop
-pub mod NameLemmas
-pub mod OfInput
-pub mod PlanData
-pub mod ProblemInputs
-pub mod Problems
-pub mod Reached
-pub mod Runs
-pub mod Shapes
-pub mod SharedPairs
+mod Claims
+mod Forms
+mod Loop
+mod NameLemmas
+mod PlanData
+mod ProblemInputs
+mod Problems
+mod Reached
+mod Runs
+mod Shapes
+mod SharedPairs

@@ -3,8 +3,8 @@ use Rattle.std.proofs.Common.{◌≡◌, ◌⊎◌, inl, inr, refl, sym, ap, ℕ
 use Rattle.std.specs.Io.KnownBytes.{Appends}
 use Rattle.mh_network.specs.Problems.{ProblemData}
 use Rattle.mh_text.specs.declared.fault.Fault.{Fault}
-use Rattle.mh_text.specs.declared.fault.TextFault.TheVariants.{NoMemory}
 use Rattle.mh_text.specs.declared.json.problem.ProblemRows.{ProblemRows}
+use Rattle.mh_text.specs.Gives.{no_memory}
 use Rattle.mh_text.specs.Output.{outside}
 use Rattle.mh_text.specs.declared.streams.planning.PlanOptions.{PlanOptions}
 use Rattle.mh_text.specs.Planning.{IsProblemInput, IsProblemFault, IsPlanOf, IsPlanned}
@@ -14,7 +14,7 @@ made_of : (rows : Result ProblemRows Fault) (p : ProblemData) → MakesProblem r
 made_of (Ok rows) p made = (rows, refl, made)
 made_of (Err first) p made = absurd made
 
-fault_of : (rows : Result ProblemRows Fault) (e : Fault) → MakesProblem rows (Err e) → (e ≡ outside NoMemory) ⊎ ((rows ≡ Err e) ⊎ ((r : ProblemRows) × (rows ≡ Ok r) × IsNotMade r e))
+fault_of : (rows : Result ProblemRows Fault) (e : Fault) → MakesProblem rows (Err e) → (e ≡ outside no_memory) ⊎ ((rows ≡ Err e) ⊎ ((r : ProblemRows) × (rows ≡ Ok r) × IsNotMade r e))
 fault_of (Ok rows) e (inl memory) = inl memory
 fault_of (Ok rows) e (inr fails) = inr (inr (rows, refl, fails))
 fault_of (Err first) e (inl memory) = inl memory
@@ -24,7 +24,7 @@ pub is_input : (input : List ℕ) (r : Result ProblemData Fault) → MakesProble
 is_input input (Ok p) made = made_of (rows_of_input None input) p made
 is_input input (Err e) made = tt
 
-pub is_fault : (input : List ℕ) (r : Result ProblemData Fault) → MakesProblem (rows_of_input None input) r → IfErr r (λ e. (e ≡ outside NoMemory) ⊎ IsProblemFault input e)
+pub is_fault : (input : List ℕ) (r : Result ProblemData Fault) → MakesProblem (rows_of_input None input) r → IfErr r (λ e. (e ≡ outside no_memory) ⊎ IsProblemFault input e)
 is_fault input (Ok p) made = tt
 is_fault input (Err e) made = fault_of (rows_of_input None input) e made
 

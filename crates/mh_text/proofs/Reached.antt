@@ -6,9 +6,8 @@ use Rattle.serde_json.specs.View.{view}
 use Rattle.serde_json.specs.declared.value.Value.{Value}
 use Rattle.mh_text.specs.declared.json.declarations.Declarations.{Declarations}
 use Rattle.mh_text.specs.declared.fault.Fault.{Fault}
-use Rattle.mh_text.specs.declared.fault.TextFault.TheVariants as text
 use Rattle.mh_text.specs.declared.json.step.Step.{Step}
-use Rattle.mh_text.specs.Gives.{◌>>=◌, at_place, GivesUpTo}
+use Rattle.mh_text.specs.Gives.{◌>>=◌, at_place, no_memory, GivesUpTo}
 use Rattle.mh_text.specs.Script.{declarations_of, step_of, steps_of, schedule_of, script_of, IsNext, IsReached, IsReachedBy}
 use Rattle.mh_text.specs.Shape.{each_from}
 use Rattle.mh_text.proofs.Loop.{with_front}
@@ -87,7 +86,7 @@ module _ (declared : Declarations) (values : List Value) (i at : ℕ) (before : 
       ap (steps_of declared) split ∙ each_fails read_at 1 at front rest (view v) before e so_far front_length here
 
   -- and is told, or memory ran out at its number
-  pub step_fails : (e : Fault) → (e ≡ record { kind = text.NoMemory; at = at }) ⊎ (read_at at (view v) ≡ Err e)
+  pub step_fails : (e : Fault) → (e ≡ record { kind = no_memory; at = at }) ⊎ (read_at at (view v) ≡ Err e)
       → GivesUpTo {X = List Step} (IsNext declared (map view values)) (Err e) (steps_of declared (map view values))
   step_fails e (inl memory) = inr (inl (ap (λ f. f.kind) memory, subst (IsNext declared (map view values)) (sym (ap (λ f. f.at) memory)) is_next))
   step_fails e (inr here) = inr (inr (fails_next e here))

@@ -8,7 +8,7 @@ use Rattle.std.specs.Io.KnownBytes.{Appends}
 use Rattle.std.specs.Str.{IsUtf8, is_utf8}
 use Rattle.serde_json.specs.Data.{Data}
 use Rattle.serde_json.specs.Read.{read}
-use Rattle.mh_text.specs.declared.fault.ReadFault.TheVariants as fault
+use Rattle.mh_text.specs.declared.fault.InputFault.TheVariants as fault
 use Rattle.mh_core.specs.declared.event.Event.{Event}
 use Rattle.mh_text.specs.Lines.{line_of, lines_of}
 use Rattle.mh_core.specs.Legal.{Setting, MachineState}

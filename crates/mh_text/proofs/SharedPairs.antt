@@ -3,18 +3,18 @@ use Rattle.std.proofs.Common.{◌≡◌, ℕ, ◌+◌, ◌<◌, ◌⊎◌, inl, 
 use Rattle.std.proofs.lemmas.List.{at_drop_more}
 use Rattle.serde_json.specs.View.{view}
 use Rattle.serde_json.specs.declared.value.Value.{Value}
-use Rattle.mh_text.specs.declared.fault.ReadFault.{ReadFault}
+use Rattle.mh_text.specs.declared.fault.InputFault.{InputFault}
 use Rattle.mh_text.specs.declared.json.scope.Scope.{Scope}
 use Rattle.mh_text.specs.Shared.{shared_of, all_shared_of}
 
 module _ (scope : Scope) (xs : List Value) (i : ℕ) where
-  abbrev rest : List Value → Result Scope ReadFault
+  abbrev rest : List Value → Result Scope InputFault
   rest ys = all_shared_of scope (map view ys)
 
-  next_pair : (v : Value) (total : Result Scope ReadFault) → i < length xs → v ≡ get_or xs i v → rest (drop i xs) ≡ total → rest (v ∷ drop (i + 1) xs) ≡ total
+  next_pair : (v : Value) (total : Result Scope InputFault) → i < length xs → v ≡ get_or xs i v → rest (drop i xs) ≡ total → rest (v ∷ drop (i + 1) xs) ≡ total
   next_pair v total lt is so_far = ap (λ w. rest (w ∷ drop (i + 1) xs)) is ∙ sym (at_drop_more rest xs i v lt) ∙ so_far
 
-  pub pair_stops : {M : Type 0} (v : Value) (e : ReadFault) (total : Result Scope ReadFault) → i < length xs → v ≡ get_or xs i v → M ⊎ (shared_of scope (view v) ≡ Err e)
+  pub pair_stops : {M : Type 0} (v : Value) (e : InputFault) (total : Result Scope InputFault) → i < length xs → v ≡ get_or xs i v → M ⊎ (shared_of scope (view v) ≡ Err e)
       → rest (drop i xs) ≡ total → M ⊎ (total ≡ Err e)
   pair_stops v e total lt is (inl memory) so_far = inl memory
   pair_stops v e total lt is (inr read) so_far =

@@ -3,7 +3,7 @@ use Rattle.std.specs.Prelude.{ℕ, ◌≡◌, ◌⊎◌, List, [], ◌∷◌, �
 use Rattle.std.specs.Io.KnownBytes.{Keeps}
 use Rattle.mh_network.specs.Problems.{ProblemData, problem_tests}
 use Rattle.mh_network.specs.Selection.{IsBest, member}
-use Rattle.mh_network.specs.Tests.{Passes, Refuses}
+use Rattle.mh_base.specs.Tests.{Passes, Refuses}
 use Rattle.mh_cert.specs.declared.plan.Plan.{Plan}
 use Rattle.mh_cert.specs.Plans.{Matches, plan_tests, check_fault_text}
 use Rattle.mh_text.specs.declared.fault.Fault.{Fault}

@@ -6,23 +6,28 @@ use Rattle.mh_tree.specs.Faults as tree_fault
 use Rattle.mh_site.specs.Definitions as definition_fault
 use Rattle.mh_network.specs.Problems as problem_fault
 use Rattle.mh_text.specs.declared.fault.Fault.{Fault}
+use Rattle.mh_text.specs.declared.fault.InputFault.{InputFault}
+use Rattle.mh_text.specs.declared.fault.InputFault.TheVariants.{NoMemory, TooLong, NotJson, BadShape, BadValue, UnknownShared, Tree, Definition, Problem, BadType}
 use Rattle.mh_text.specs.declared.fault.TextFault.{TextFault}
-use Rattle.mh_text.specs.declared.fault.TextFault.TheVariants.{NoMemory, TooLong, NotJson, BadShape, BadValue, UnknownShared, Tree, Definition, Problem, ReadFailed, WriteFailed, BadType, NoReader}
+use Rattle.mh_text.specs.declared.fault.TextFault.TheVariants.{Input, ReadFailed, WriteFailed, NoReader}
 
 -- the number, the name, and the number of the cause
+abbrev pub input_text : InputFault → List ℕ
+input_text NoMemory = codes "1 NoMemory"
+input_text TooLong = codes "2 TooLong"
+input_text NotJson = codes "3 NotJson"
+input_text BadShape = codes "4 BadShape"
+input_text BadValue = codes "5 BadValue"
+input_text UnknownShared = codes "6 UnknownShared"
+input_text (Tree cause) = codes "7 Tree " ++ decimal (tree_fault.fault_number cause)
+input_text (Definition cause) = codes "8 Definition " ++ decimal (definition_fault.fault_number cause)
+input_text (Problem cause) = codes "9 Problem " ++ decimal (problem_fault.fault_number cause)
+input_text (BadType cause) = codes "12 BadType " ++ decimal (type_fault.fault_number cause)
+
 abbrev pub kind_text : TextFault → List ℕ
-kind_text NoMemory = codes "1 NoMemory"
-kind_text TooLong = codes "2 TooLong"
-kind_text NotJson = codes "3 NotJson"
-kind_text BadShape = codes "4 BadShape"
-kind_text BadValue = codes "5 BadValue"
-kind_text UnknownShared = codes "6 UnknownShared"
-kind_text (Tree cause) = codes "7 Tree " ++ decimal (tree_fault.fault_number cause)
-kind_text (Definition cause) = codes "8 Definition " ++ decimal (definition_fault.fault_number cause)
-kind_text (Problem cause) = codes "9 Problem " ++ decimal (problem_fault.fault_number cause)
+kind_text (Input cause) = input_text cause
 kind_text ReadFailed = codes "10 ReadFailed"
 kind_text WriteFailed = codes "11 WriteFailed"
-kind_text (BadType cause) = codes "12 BadType " ++ decimal (type_fault.fault_number cause)
 kind_text NoReader = codes "NoReader"
 
 -- a fault that no event and no part of an input has

@@ -8,8 +8,8 @@ use Rattle.mh_site.specs.declared.fault.DefinitionFault.{DefinitionFault}
 use Rattle.mh_site.specs.declared.fault.DefinitionFault.TheVariants as definition_fault
 use Rattle.mh_network.specs.declared.fault.ProblemFault.{ProblemFault}
 use Rattle.mh_network.specs.declared.fault.ProblemFault.TheVariants as problem_fault
-use Rattle.mh_text.specs.declared.fault.ReadFault.{ReadFault}
-use Rattle.mh_text.specs.declared.fault.ReadFault.TheVariants.{NoMemory, TooLong, NotJson, BadShape, BadValue, UnknownShared, Tree, Definition, Problem, BadType}
+use Rattle.mh_text.specs.declared.fault.InputFault.{InputFault}
+use Rattle.mh_text.specs.declared.fault.InputFault.TheVariants.{NoMemory, TooLong, NotJson, BadShape, BadValue, UnknownShared, Tree, Definition, Problem, BadType}
 use Rattle.mh_text.specs.declared.fault.TextFault.{TextFault}
 use Rattle.mh_text.specs.declared.fault.TextFault.TheVariants as text
 use Rattle.mh_text.specs.declared.fault.Fault.{Fault}
@@ -20,73 +20,68 @@ abbrev pub ◌>>=◌ : {A B E : Type 0} → Result A E → (A → Result B E) �
 (Err e) >>= f = Err e
 
 -- the value, or the fault where there is none
-abbrev pub or_fault : {A : Type 0} → ReadFault → Option A → Result A ReadFault
+abbrev pub or_fault : {A : Type 0} → InputFault → Option A → Result A InputFault
 or_fault e (Some x) = Ok x
 or_fault e None = Err e
 
 -- What a function returned, seen by view, is what reading gives, unless memory ran out.
-abbrev pub Gives : {X Y : Type 0} → (X → Y) → Result X ReadFault → Result Y ReadFault → Type 0
+abbrev pub Gives : {X Y : Type 0} → (X → Y) → Result X InputFault → Result Y InputFault → Type 0
 Gives view (Ok x) read = read ≡ Ok (view x)
 Gives view (Err e) read = (e ≡ NoMemory) ⊎ (read ≡ Err e)
 
 -- what a constructor of trees refuses, as a fault of the input
-abbrev pub of_tree : TreeFault → ReadFault
+abbrev pub of_tree : TreeFault → InputFault
 of_tree tree_fault.NoMemory = NoMemory
 of_tree cause = Tree cause
 
 -- what makes a type refuses, as a fault of the input
-abbrev pub of_type : TypeFault → ReadFault
+abbrev pub of_type : TypeFault → InputFault
 of_type type_fault.NoMemory = NoMemory
 of_type cause = BadType cause
 
 -- what makes a definition refuses, as a fault of the input
-abbrev pub of_definition : DefinitionFault → ReadFault
+abbrev pub of_definition : DefinitionFault → InputFault
 of_definition definition_fault.NoMemory = NoMemory
 of_definition cause = Definition cause
 
 -- what makes a problem refuses, as a fault of the input
-abbrev pub of_problem : ProblemFault → ReadFault
+abbrev pub of_problem : ProblemFault → InputFault
 of_problem problem_fault.NoMemory = NoMemory
 of_problem cause = Problem cause
 
 -- what was made, or the cause as a fault of the input
-abbrev pub caused : {A C : Type 0} → (C → ReadFault) → Result A C → Result A ReadFault
+abbrev pub caused : {A C : Type 0} → (C → InputFault) → Result A C → Result A InputFault
 caused fault (Ok x) = Ok x
 caused fault (Err cause) = Err (fault cause)
 
--- a fault of the input as one of the whole run
-abbrev pub told : ReadFault → TextFault
-told NoMemory = text.NoMemory
-told TooLong = text.TooLong
-told NotJson = text.NotJson
-told BadShape = text.BadShape
-told BadValue = text.BadValue
-told UnknownShared = text.UnknownShared
-told (Tree cause) = text.Tree cause
-told (Definition cause) = text.Definition cause
-told (Problem cause) = text.Problem cause
-told (BadType cause) = text.BadType cause
+-- want of memory, as a fault of the whole run
+abbrev pub no_memory : TextFault
+no_memory = text.Input NoMemory
+
+-- an input that is too long
+abbrev pub too_long : TextFault
+too_long = text.Input TooLong
 
 -- a fault at a place: 0 outside the events, and the event's number from 1
-abbrev pub at_place : {A : Type 0} → ℕ → Result A ReadFault → Result A Fault
+abbrev pub at_place : {A : Type 0} → ℕ → Result A InputFault → Result A Fault
 at_place place (Ok x) = Ok x
-at_place place (Err e) = Err (record { kind = told e; at = place })
+at_place place (Err e) = Err (record { kind = text.Input e; at = place })
 
 -- the same as Gives where the fault has its place, and want of memory the place 0
 abbrev pub GivesAt : {X Y : Type 0} → (X → Y) → Result X Fault → Result Y Fault → Type 0
 GivesAt view (Ok x) read = read ≡ Ok (view x)
-GivesAt view (Err e) read = (e ≡ record { kind = text.NoMemory; at = 0 }) ⊎ (read ≡ Err e)
+GivesAt view (Err e) read = (e ≡ record { kind = no_memory; at = 0 }) ⊎ (read ≡ Err e)
 
 -- the same where want of memory may also be told at a place that is reached
 abbrev pub GivesUpTo : {X : Type 0} → (ℕ → Type 0) → Result X Fault → Result X Fault → Type 0
 GivesUpTo IsReached (Ok x) read = read ≡ Ok x
 GivesUpTo IsReached (Err e) read =
-    (e ≡ record { kind = text.NoMemory; at = 0 }) ⊎ ((e.kind ≡ text.NoMemory) × IsReached e.at) ⊎ (read ≡ Err e)
+    (e ≡ record { kind = no_memory; at = 0 }) ⊎ ((e.kind ≡ no_memory) × IsReached e.at) ⊎ (read ≡ Err e)
 
 -- the same of the item that has this place
-abbrev pub GivesNumbered : {X : Type 0} → ℕ → Result X Fault → Result X ReadFault → Type 0
+abbrev pub GivesNumbered : {X : Type 0} → ℕ → Result X Fault → Result X InputFault → Type 0
 GivesNumbered place (Ok x) read = read ≡ Ok x
-GivesNumbered place (Err e) read = (e ≡ record { kind = text.NoMemory; at = place }) ⊎ (at_place place read ≡ Err e)
+GivesNumbered place (Err e) read = (e ≡ record { kind = no_memory; at = place }) ⊎ (at_place place read ≡ Err e)
 
 -- a fault of a stream is told only where that stream failed
 abbrev pub IsEndOf : Type 0 → Type 0 → TextFault → Type 0

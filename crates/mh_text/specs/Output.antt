@@ -9,7 +9,7 @@ use Rattle.mh_core.specs.declared.event.Event.{Event}
 use Rattle.mh_text.specs.declared.json.script.Script.{Script}
 use Rattle.mh_text.specs.declared.json.step.Step.{Step}
 use Rattle.mh_text.specs.Steps.{Told, Run}
-use Rattle.mh_text.specs.Gives.{◌>>=◌}
+use Rattle.mh_text.specs.Gives.{◌>>=◌, no_memory}
 use Rattle.mh_text.specs.Inputs.{json_of_input}
 use Rattle.mh_text.specs.Lines.{line_of, lines_of}
 use Rattle.mh_core.specs.Legal.{MachineState, opened_machine}
@@ -41,7 +41,7 @@ first script = opened_machine script.definition script.workers script.limits
 
 -- what may end a run in the line of an event: memory, or a write that failed
 abbrev pub IsEnd : Type 0 → TextFault → Type 0
-IsEnd WriteHasFailed kind = (kind ≡ fault.NoMemory) ⊎ ((kind ≡ fault.WriteFailed) × WriteHasFailed)
+IsEnd WriteHasFailed kind = (kind ≡ no_memory) ⊎ ((kind ≡ fault.WriteFailed) × WriteHasFailed)
 
 -- a fault outside the events
 abbrev pub outside : TextFault → Fault
@@ -57,17 +57,17 @@ IsReachedIn input n = (d : Data) × (json_of_input input ≡ Ok d) × IsReached 
 
 -- what ends the reading of a script: its first fault, or want of memory at an event that is reached
 abbrev pub EndsReading : List ℕ → Fault → Type 0
-EndsReading input e = IsScriptFault input e ⊎ ((e.kind ≡ fault.NoMemory) × IsReachedIn input e.at)
+EndsReading input e = IsScriptFault input e ⊎ ((e.kind ≡ no_memory) × IsReachedIn input e.at)
 
 -- A fault before anything is written: want of memory outside the events, a read that failed, or a fault of the input.
 abbrev pub IsUnread : (List ℕ → Fault → Type 0) → Option (List ℕ) → Type 0 → Fault → Type 0
 IsUnread IsFault input ReadHasFailed e =
-    (e ≡ outside fault.NoMemory) ⊎ ((e ≡ outside fault.ReadFailed) × ReadHasFailed) ⊎ IfSome input (λ bytes. IsFault bytes e)
+    (e ≡ outside no_memory) ⊎ ((e ≡ outside fault.ReadFailed) × ReadHasFailed) ⊎ IfSome input (λ bytes. IsFault bytes e)
 
 -- a fault of a run: memory before its first event, and else one that ends it in the line of an event
 abbrev pub EndsEarly : Script → Option (List ℕ) → Option (List ℕ) → Type 0 → Fault → Type 0
 EndsEarly script old new WriteHasFailed e =
-    (Keeps old new × (e ≡ outside fault.NoMemory)) ⊎ (IsEnd WriteHasFailed e.kind × EndsIn (first script) script.steps e.at old new)
+    (Keeps old new × (e ≡ outside no_memory)) ⊎ (IsEnd WriteHasFailed e.kind × EndsIn (first script) script.steps e.at old new)
 
 -- Where a fault leaves the writer: as it was, where the script was not read, and else where its run ended.
 abbrev pub Failed : Option (List ℕ) → Option (List ℕ) → Option (List ℕ) → Type 0 → Type 0 → Fault → Type 0

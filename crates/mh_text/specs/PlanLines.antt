@@ -1,27 +1,14 @@
 -- The text of plans, and of how they were made.
 use Rattle.std.specs.Prelude.{ℕ, ◌+◌, ◌*◌, List, [], ◌∷◌, ◌++◌, codes, length, map}
-use Rattle.std.specs.Fmt.{decimal, signed_decimal}
-use Rattle.std.specs.List.{flat_map, sum_by}
+use Rattle.std.specs.Fmt.{decimal}
+use Rattle.std.specs.List.{sum_by}
 use Rattle.serde_json.specs.Data.{Data, number, array, object, unsigned, no_members, member}
 use Rattle.serde_json.specs.Find.{of_integer}
 use Rattle.serde_json.specs.View.{items_of}
 use Rattle.serde_json.specs.Written.{compact_text}
 use Rattle.mh_network.specs.Problems.{ProblemData}
-use Rattle.mh_network.specs.Selection.{Row, value_of}
+use Rattle.mh_network.specs.Selection.{Row}
 use Rattle.mh_cert.specs.declared.plan.Plan.{Plan}
-
--- numbers with commas between them, and a dash where there is none
-abbrev pub numbers_text : List ℕ → List ℕ
-numbers_text [] = codes "-"
-numbers_text (n ∷ ns) = decimal n ++ flat_map (λ m. codes "," ++ decimal m) ns
-
--- links and points by number
-abbrev pub chosen_text : Plan → List ℕ
-chosen_text plan = codes "links " ++ (numbers_text plan.links ++ (codes " points " ++ numbers_text plan.points))
-
--- and the value; the flow is the sum of its amounts
-abbrev pub plan_text : Plan → List ℕ
-plan_text plan = chosen_text plan ++ (codes " value " ++ (signed_decimal plan.value ++ (codes " flow " ++ decimal (value_of plan.flow))))
 
 abbrev pub count_data : ℕ → Data
 count_data n = number (unsigned n)

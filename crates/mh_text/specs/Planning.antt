@@ -12,7 +12,8 @@ use Rattle.mh_text.specs.declared.streams.planning.PlanOptions.{PlanOptions}
 use Rattle.mh_text.specs.declared.json.problem.ProblemRows.{ProblemRows}
 use Rattle.mh_text.specs.Bytes.{AppendsFront}
 use Rattle.mh_text.specs.Output.{IsUnread, outside}
-use Rattle.mh_text.specs.PlanLines.{plan_text, plan_json, phases_text}
+use Rattle.mh_cert.specs.Display.{plan_text}
+use Rattle.mh_text.specs.PlanLines.{plan_json, phases_text}
 use Rattle.mh_text.specs.Problems.{rows_of_input, IsMade, IsNotMade}
 
 -- an input is this problem

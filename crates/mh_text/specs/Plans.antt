@@ -5,18 +5,18 @@ use Rattle.serde_json.specs.Find.{as_number, as_i64}
 use Rattle.mh_network.specs.Selection.{Row}
 use Rattle.mh_cert.specs.declared.plan.Plan.{Plan}
 use Rattle.mh_text.specs.declared.fault.Fault.{Fault}
-use Rattle.mh_text.specs.declared.fault.ReadFault.{ReadFault}
-use Rattle.mh_text.specs.declared.fault.ReadFault.TheVariants.{BadShape}
+use Rattle.mh_text.specs.declared.fault.InputFault.{InputFault}
+use Rattle.mh_text.specs.declared.fault.InputFault.TheVariants.{BadShape}
 use Rattle.mh_text.specs.Gives.{◌>>=◌, or_fault, at_place}
 use Rattle.mh_text.specs.Inputs.{json_of_input}
 use Rattle.mh_text.specs.Shape.{list_of, member_of, count_of, each_of, counts_of, part_of}
 
 -- a whole number of 64 bits with a sign
-abbrev pub signed_of : Data → Result ℤ ReadFault
+abbrev pub signed_of : Data → Result ℤ InputFault
 signed_of d = or_fault BadShape (option_and_then as_i64 (as_number d))
 
 -- link, point, amount
-abbrev pub flow_row_from : List Data → Result Row ReadFault
+abbrev pub flow_row_from : List Data → Result Row InputFault
 flow_row_from (link ∷ point ∷ amount ∷ []) = do
   link ← count_of (2 ^ 32 - 1) link
   point ← count_of (2 ^ 32 - 1) point
@@ -24,18 +24,18 @@ flow_row_from (link ∷ point ∷ amount ∷ []) = do
   Ok (link, point, amount)
 flow_row_from _ = Err BadShape
 
-abbrev pub flow_row_of : Data → Result Row ReadFault
+abbrev pub flow_row_of : Data → Result Row InputFault
 flow_row_of d = do
   parts ← list_of d
   flow_row_from parts
 
-abbrev pub flow_of : Data → Result (List Row) ReadFault
+abbrev pub flow_of : Data → Result (List Row) InputFault
 flow_of d = do
   rows ← list_of d
   each_of flow_row_of rows
 
 -- the links, the points, the value, the flow
-abbrev pub plan_of : Data → Result Plan ReadFault
+abbrev pub plan_of : Data → Result Plan InputFault
 plan_of d = do
   links ← member_of (codes "links") d
   links ← counts_of (2 ^ 32 - 1) links
@@ -48,7 +48,7 @@ plan_of d = do
   Ok (record { links = links; points = points; value = value; flow = flow })
 
 -- the plan that a value, or what it has at a key, is
-abbrev pub plan_at : Option (List ℕ) → Data → Result Plan ReadFault
+abbrev pub plan_at : Option (List ℕ) → Data → Result Plan InputFault
 plan_at key d = do
   part ← part_of key d
   plan_of part

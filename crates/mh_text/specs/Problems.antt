@@ -5,24 +5,24 @@ use Rattle.serde_json.specs.Find.{get, as_bool}
 use Rattle.mh_network.specs.declared.link_row.LinkRow.{LinkRow}
 use Rattle.mh_network.specs.declared.fault.ProblemFault.{ProblemFault}
 use Rattle.mh_network.specs.Problems.{ProblemData, problem_of, problem_tests}
-use Rattle.mh_network.specs.Tests.{Passes, Refuses}
+use Rattle.mh_base.specs.Tests.{Passes, Refuses}
 use Rattle.mh_text.specs.declared.fault.Fault.{Fault}
-use Rattle.mh_text.specs.declared.fault.ReadFault.{ReadFault}
-use Rattle.mh_text.specs.declared.fault.ReadFault.TheVariants.{BadShape}
-use Rattle.mh_text.specs.declared.fault.TextFault.TheVariants.{NoMemory, Problem}
+use Rattle.mh_text.specs.declared.fault.InputFault.{InputFault}
+use Rattle.mh_text.specs.declared.fault.InputFault.TheVariants.{BadShape, Problem}
+use Rattle.mh_text.specs.declared.fault.TextFault.TheVariants.{Input}
 use Rattle.mh_text.specs.declared.json.problem.ProblemRows.{ProblemRows}
-use Rattle.mh_text.specs.Gives.{◌>>=◌, or_fault, at_place}
+use Rattle.mh_text.specs.Gives.{◌>>=◌, or_fault, at_place, no_memory}
 use Rattle.mh_text.specs.Inputs.{json_of_input}
 use Rattle.mh_text.specs.Output.{outside}
 use Rattle.mh_text.specs.Shape.{list_of, member_of, count_of, version_of, each_of, counts_of, part_of}
 
 -- whether a link may be chosen, which it may where nothing is said
-abbrev pub eligible_where : Option Data → Result Bool ReadFault
+abbrev pub eligible_where : Option Data → Result Bool InputFault
 eligible_where None = Ok true
 eligible_where (Some d) = or_fault BadShape (as_bool d)
 
 -- a link: its gain, whether it may be chosen, and the numbers of the points that it needs
-abbrev pub row_of : Data → Result LinkRow ReadFault
+abbrev pub row_of : Data → Result LinkRow InputFault
 row_of d = do
   gain ← member_of (codes "gain") d
   gain ← count_of (2 ^ 63 - 1) gain
@@ -32,7 +32,7 @@ row_of d = do
   Ok (record { gain = gain; eligible = eligible; needs = needs })
 
 -- the version, the costs, the links
-abbrev pub rows_of : Data → Result ProblemRows ReadFault
+abbrev pub rows_of : Data → Result ProblemRows InputFault
 rows_of d = do
   version ← version_of d
   costs ← member_of (codes "costs") d
@@ -43,7 +43,7 @@ rows_of d = do
   Ok (record { links = links; costs = costs })
 
 -- the links and costs that a value, or what it has at a key, says
-abbrev pub rows_at : Option (List ℕ) → Data → Result ProblemRows ReadFault
+abbrev pub rows_at : Option (List ℕ) → Data → Result ProblemRows InputFault
 rows_at key d = do
   part ← part_of key d
   rows_of part
@@ -60,11 +60,11 @@ IsMade rows p = Passes (problem_tests rows.links rows.costs) × (p ≡ problem_o
 
 -- and are else told the first test that fails
 abbrev pub IsNotMade : ProblemRows → Fault → Type 0
-IsNotMade rows e = (cause : ProblemFault) × Refuses (problem_tests rows.links rows.costs) cause × (e ≡ record { kind = Problem cause; at = 0 })
+IsNotMade rows e = (cause : ProblemFault) × Refuses (problem_tests rows.links rows.costs) cause × (e ≡ record { kind = Input (Problem cause); at = 0 })
 
 -- What was made of links and costs that were read: their problem; the first fault of reading, or else of the tests; or memory ran out.
 abbrev pub MakesProblem : Result ProblemRows Fault → Result ProblemData Fault → Type 0
 MakesProblem (Ok rows) (Ok p) = IsMade rows p
-MakesProblem (Ok rows) (Err e) = (e ≡ outside NoMemory) ⊎ IsNotMade rows e
+MakesProblem (Ok rows) (Err e) = (e ≡ outside no_memory) ⊎ IsNotMade rows e
 MakesProblem (Err first) (Ok p) = ⊥
-MakesProblem (Err first) (Err e) = (e ≡ outside NoMemory) ⊎ (e ≡ first)
+MakesProblem (Err first) (Err e) = (e ≡ outside no_memory) ⊎ (e ≡ first)

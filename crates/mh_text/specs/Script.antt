@@ -4,6 +4,7 @@ use Rattle.std.specs.List.{slice_get}
 use Rattle.std.specs.Str.{bytes_eq}
 use Rattle.serde_json.specs.Data.{Data}
 use Rattle.serde_json.specs.Find.{get, as_null, as_object}
+use Rattle.mh_base.specs.Words.{at_word}
 use Rattle.mh_type.specs.declared.kind.Kind.{Kind}
 use Rattle.mh_type.specs.Signature.{Signature}
 use Rattle.mh_site.specs.declared.point.Point.{Point}
@@ -13,10 +14,10 @@ use Rattle.mh_site.specs.Defined.{DefinitionData, site_at}
 use Rattle.mh_site.specs.Definitions.{definition_made}
 use Rattle.mh_core.specs.declared.event.Event.{Event}
 use Rattle.mh_core.specs.declared.event.Event.TheVariants.{Call, Flush, Target, Invalidate, Snapshot, Publish, Install}
-use Rattle.mh_core.specs.Limits.{LimitsData}
+use Rattle.mh_core.specs.Limits.{LimitsData, most_events, most_held, most_hits}
 use Rattle.mh_text.specs.declared.fault.Fault.{Fault}
-use Rattle.mh_text.specs.declared.fault.ReadFault.{ReadFault}
-use Rattle.mh_text.specs.declared.fault.ReadFault.TheVariants.{BadShape}
+use Rattle.mh_text.specs.declared.fault.InputFault.{InputFault}
+use Rattle.mh_text.specs.declared.fault.InputFault.TheVariants.{BadShape}
 use Rattle.mh_text.specs.declared.json.declarations.Declarations.{Declarations}
 use Rattle.mh_text.specs.declared.json.scope.Scope.{Scope}
 use Rattle.mh_text.specs.declared.json.script.Schedule.{Schedule}
@@ -32,7 +33,7 @@ use Rattle.mh_text.specs.Trees.{declared_of, point_place}
 use Rattle.mh_text.specs.Values.{type_of, value_for, values_for}
 
 -- a point: its name, then its cost
-abbrev pub point_of : Data → Result Point ReadFault
+abbrev pub point_of : Data → Result Point InputFault
 point_of d = do
   name ← member_of (codes "name") d
   name ← text_of name
@@ -45,19 +46,19 @@ abbrev pub point_names_of : List Point → List (List ℕ)
 point_names_of points = fold (λ names p. with_name names p.name) [] points
 
 -- the name of a point, as its number
-abbrev pub named_point_of : List (List ℕ) → Data → Result ℕ ReadFault
+abbrev pub named_point_of : List (List ℕ) → Data → Result ℕ InputFault
 named_point_of points d = do
   name ← text_of d
   Ok (point_place points name)
 
 -- [POINT..]
-abbrev pub named_points_of : List (List ℕ) → Data → Result (List ℕ) ReadFault
+abbrev pub named_points_of : List (List ℕ) → Data → Result (List ℕ) InputFault
 named_points_of points d = do
   names ← list_of d
   each_of (named_point_of points) names
 
 -- a link: its key, read as of the kind of the key place, its weight, its needs
-abbrev pub link_of : List (List ℕ) → Option Kind → Data → Result Link ReadFault
+abbrev pub link_of : List (List ℕ) → Option Kind → Data → Result Link InputFault
 link_of points kind d = do
   when ← member_of (codes "when") d
   when ← value_for kind when
@@ -68,25 +69,25 @@ link_of points kind d = do
   Ok (record { when = when; weight = weight; needs = needs })
 
 -- what stands at the key, which may be absent
-abbrev pub links_where : List (List ℕ) → Option Kind → Option Data → Result (List Link) ReadFault
+abbrev pub links_where : List (List ℕ) → Option Kind → Option Data → Result (List Link) InputFault
 links_where points kind None = Ok []
 links_where points kind (Some d) = do
   links ← list_of d
   each_of (link_of points kind) links
 
-abbrev pub links_of : List (List ℕ) → Option Kind → Data → Result (List Link) ReadFault
+abbrev pub links_of : List (List ℕ) → Option Kind → Data → Result (List Link) InputFault
 links_of points kind site = links_where points kind (get (codes "links") site)
 
 -- a place, or none where the value is null
-abbrev pub place_or_none : Data → Result (Option ℕ) ReadFault
+abbrev pub place_or_none : Data → Result (Option ℕ) InputFault
 place_or_none d = if is_some (as_null d) then Ok None else (count_of (2 ^ 63 - 1) d >>= λ place. Ok (Some place))
 
 -- the key place, which may be absent
-abbrev pub key_where : Option Data → Result (Option ℕ) ReadFault
+abbrev pub key_where : Option Data → Result (Option ℕ) InputFault
 key_where None = Ok None
 key_where (Some d) = place_or_none d
 
-abbrev pub key_of : Data → Result (Option ℕ) ReadFault
+abbrev pub key_of : Data → Result (Option ℕ) InputFault
 key_of site = key_where (get (codes "key") site)
 
 -- the kind of the parameter at the key place, where there is one
@@ -94,7 +95,7 @@ abbrev pub key_kind : Signature → Option ℕ → Option Kind
 key_kind method_type key = option_and_then (slice_get method_type.parameters) key
 
 -- a site: its name, its type, its key place, its target, its links
-abbrev pub site_of : Scope → Data → Result Site ReadFault
+abbrev pub site_of : Scope → Data → Result Site InputFault
 site_of scope d = do
   name ← member_of (codes "name") d
   name ← text_of name
@@ -111,14 +112,14 @@ abbrev pub site_names_of : List Site → List (List ℕ)
 site_names_of sites = fold (λ names s. with_name names s.name) [] sites
 
 -- the points of a definition
-abbrev pub points_of : Data → Result (List Point) ReadFault
+abbrev pub points_of : Data → Result (List Point) InputFault
 points_of d = do
   points ← member_of (codes "points") d
   points ← list_of points
   each_of point_of points
 
 -- the sites of a definition
-abbrev pub sites_of : Scope → Data → Result (List Site) ReadFault
+abbrev pub sites_of : Scope → Data → Result (List Site) InputFault
 sites_of scope d = do
   sites ← member_of (codes "sites") d
   sites ← list_of sites
@@ -126,7 +127,7 @@ sites_of scope d = do
 
 -- The version, the points, the shared trees, the sites, and then the faults of the definition that they make. The names
 -- go on to the events.
-abbrev pub declarations_of : Data → Result Declarations ReadFault
+abbrev pub declarations_of : Data → Result Declarations InputFault
 declarations_of d = do
   definition ← member_of (codes "definition") d
   version ← version_of definition
@@ -141,37 +142,39 @@ abbrev pub most_workers : ℕ
 most_workers = 64
 
 -- the number of workers: 1 to 64
-abbrev pub workers_of : Data → Result ℕ ReadFault
+abbrev pub workers_of : Data → Result ℕ InputFault
 workers_of d = do
   workers ← member_of (codes "workers") d
   workers ← count_of most_workers workers
   if workers == 0 then Err BadShape else Ok workers
 
 -- a limit, which is the greatest where it is absent
-abbrev pub limit_where : ℕ → Option Data → Result ℕ ReadFault
+abbrev pub limit_where : ℕ → Option Data → Result ℕ InputFault
 limit_where greatest None = Ok greatest
 limit_where greatest (Some d) = count_of (2 ^ 63 - 1) d
 
-abbrev pub limit_of : List ℕ → ℕ → Data → Result ℕ ReadFault
+abbrev pub limit_of : List ℕ → ℕ → Data → Result ℕ InputFault
 limit_of key greatest d = limit_where greatest (get key d)
 
 -- at most 2^20 events, 1 to 2^20 hits in a ledger, and at most 2^40 in the totals
-abbrev pub limits_made : ℕ → ℕ → ℕ → Result LimitsData ReadFault
-limits_made history ledger total = if nat_le history (2 ^ 20) && (nat_lt 0 ledger && nat_le ledger (2 ^ 20)) && nat_le total (2 ^ 40) then Ok (record { history = history; ledger = ledger; total = total }) else Err BadShape
+abbrev pub limits_made : ℕ → ℕ → ℕ → Result LimitsData InputFault
+limits_made history ledger total =
+    if nat_le history most_events && (nat_lt 0 ledger && nat_le ledger most_held) && nat_le total most_hits
+    then Ok (record { history = history; ledger = ledger; total = total }) else Err BadShape
 
-abbrev pub limits_in : Data → Result LimitsData ReadFault
+abbrev pub limits_in : Data → Result LimitsData InputFault
 limits_in d = if is_some (as_object d) then (do
-  history ← limit_of (codes "history") (2 ^ 20) d
-  ledger ← limit_of (codes "ledger") (2 ^ 20) d
-  total ← limit_of (codes "total") (2 ^ 40) d
+  history ← limit_of (codes "history") most_events d
+  ledger ← limit_of (codes "ledger") most_held d
+  total ← limit_of (codes "total") most_hits d
   limits_made history ledger total) else Err BadShape
 
 -- the limits, which may be absent
-abbrev pub limits_where : Option Data → Result LimitsData ReadFault
-limits_where None = limits_made (2 ^ 20) (2 ^ 20) (2 ^ 40)
+abbrev pub limits_where : Option Data → Result LimitsData InputFault
+limits_where None = limits_made most_events most_held most_hits
 limits_where (Some d) = limits_in d
 
-abbrev pub limits_of : Data → Result LimitsData ReadFault
+abbrev pub limits_of : Data → Result LimitsData InputFault
 limits_of d = limits_where (get (codes "limits") d)
 
 -- the parameters of a site, none past the last
@@ -179,7 +182,7 @@ abbrev pub parameters_at : DefinitionData → ℕ → List Kind
 parameters_at d s = if nat_lt s (length d.sites) then (site_at d s).method_type.parameters else []
 
 -- w, SITE, [VALUE..]
-abbrev pub call_from : Declarations → List Data → Result Event ReadFault
+abbrev pub call_from : Declarations → List Data → Result Event InputFault
 call_from declared (worker ∷ name ∷ values ∷ []) = do
   worker ← count_of (2 ^ 32 - 1) worker
   name ← text_of name
@@ -189,14 +192,14 @@ call_from declared (worker ∷ name ∷ values ∷ []) = do
 call_from declared _ = Err BadShape
 
 -- w
-abbrev pub flush_from : List Data → Result Event ReadFault
+abbrev pub flush_from : List Data → Result Event InputFault
 flush_from (worker ∷ []) = do
   worker ← count_of (2 ^ 32 - 1) worker
   Ok (Flush worker)
 flush_from _ = Err BadShape
 
 -- SITE, TREE
-abbrev pub target_from : Declarations → List Data → Result Event ReadFault
+abbrev pub target_from : Declarations → List Data → Result Event InputFault
 target_from declared (name ∷ tree ∷ []) = do
   name ← text_of name
   tree ← declared_of declared.scope tree
@@ -204,19 +207,19 @@ target_from declared (name ∷ tree ∷ []) = do
 target_from declared _ = Err BadShape
 
 -- [POINT..]
-abbrev pub invalidate_from : List (List ℕ) → List Data → Result Event ReadFault
+abbrev pub invalidate_from : List (List ℕ) → List Data → Result Event InputFault
 invalidate_from points (names ∷ []) = do
   places ← named_points_of points names
   Ok (Invalidate places)
 invalidate_from points _ = Err BadShape
 
 -- nothing
-abbrev pub snapshot_from : List Data → Result Event ReadFault
+abbrev pub snapshot_from : List Data → Result Event InputFault
 snapshot_from [] = Ok Snapshot
 snapshot_from _ = Err BadShape
 
 -- n, PLAN
-abbrev pub offer_from : List Data → Result Event ReadFault
+abbrev pub offer_from : List Data → Result Event InputFault
 offer_from (snapshot ∷ plan ∷ []) = do
   snapshot ← count_of (2 ^ 32 - 1) snapshot
   plan ← plan_of plan
@@ -224,43 +227,48 @@ offer_from (snapshot ∷ plan ∷ []) = do
 offer_from _ = Err BadShape
 
 -- m
-abbrev pub install_from : List Data → Result Event ReadFault
+abbrev pub install_from : List Data → Result Event InputFault
 install_from (plan ∷ []) = do
   plan ← count_of (2 ^ 32 - 1) plan
   Ok (Install plan)
 install_from _ = Err BadShape
 
 -- n
-abbrev pub plan_from : List Data → Result Step ReadFault
+abbrev pub plan_from : List Data → Result Step InputFault
 plan_from (snapshot ∷ []) = do
   snapshot ← count_of (2 ^ 32 - 1) snapshot
   Ok (ask_plan snapshot)
 plan_from _ = Err BadShape
 
+-- the event that each word heads
+abbrev pub events : Declarations → List Data → List (List ℕ × Result Event InputFault)
+events declared args =
+    (codes "call", call_from declared args)
+    ∷ (codes "flush", flush_from args)
+    ∷ (codes "target", target_from declared args)
+    ∷ (codes "invalidate", invalidate_from declared.scope.points args)
+    ∷ (codes "snapshot", snapshot_from args)
+    ∷ (codes "offer", offer_from args)
+    ∷ (codes "install", install_from args)
+    ∷ []
+
 -- the event that a word heads
-abbrev pub event_named : Declarations → List ℕ → List Data → Result Event ReadFault
-event_named declared word args =
-    if bytes_eq word (codes "call") then call_from declared args else (
-    if bytes_eq word (codes "flush") then flush_from args else (
-    if bytes_eq word (codes "target") then target_from declared args else (
-    if bytes_eq word (codes "invalidate") then invalidate_from declared.scope.points args else (
-    if bytes_eq word (codes "snapshot") then snapshot_from args else (
-    if bytes_eq word (codes "offer") then offer_from args else (
-    if bytes_eq word (codes "install") then install_from args else Err BadShape))))))
+abbrev pub event_named : Declarations → List ℕ → List Data → Result Event InputFault
+event_named declared word args = at_word (events declared args) word (Err BadShape)
 
 -- the step that a word heads: the asking for a plan, or an event
-abbrev pub step_named : Declarations → List ℕ → List Data → Result Step ReadFault
+abbrev pub step_named : Declarations → List ℕ → List Data → Result Step InputFault
 step_named declared word args =
     if bytes_eq word (codes "plan") then plan_from args else (event_named declared word args >>= λ event. Ok (Ask event))
 
 -- a word, and what it heads
-abbrev pub step_from : Declarations → List Data → Result Step ReadFault
+abbrev pub step_from : Declarations → List Data → Result Step InputFault
 step_from declared [] = Err BadShape
 step_from declared (head ∷ args) = do
   word ← text_of head
   step_named declared word args
 
-abbrev pub step_of : Declarations → Data → Result Step ReadFault
+abbrev pub step_of : Declarations → Data → Result Step InputFault
 step_of declared d = do
   parts ← list_of d
   step_from declared parts

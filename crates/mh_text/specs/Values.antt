@@ -13,31 +13,31 @@ use Rattle.mh_type.specs.Signature.{Signature}
 use Rattle.mh_type.specs.Written.{parsed}
 use Rattle.mh_type.specs.Operations.{op_named}
 use Rattle.mh_type.specs.Printable.{is_text}
-use Rattle.mh_text.specs.declared.fault.ReadFault.{ReadFault}
-use Rattle.mh_text.specs.declared.fault.ReadFault.TheVariants.{BadShape, BadValue}
+use Rattle.mh_text.specs.declared.fault.InputFault.{InputFault}
+use Rattle.mh_text.specs.declared.fault.InputFault.TheVariants.{BadShape, BadValue}
 use Rattle.mh_text.specs.Gives.{or_fault, ◌>>=◌, caused, of_type}
 use Rattle.mh_text.specs.Shape.{text_of, each_from}
 
 -- the name of a kind
-abbrev pub kind_of : Data → Result Kind ReadFault
+abbrev pub kind_of : Data → Result Kind InputFault
 kind_of d = do
   name ← text_of d
   or_fault BadShape (kind_named name)
 
 -- the text of a method type
-abbrev pub type_of : Data → Result Signature ReadFault
+abbrev pub type_of : Data → Result Signature InputFault
 type_of d = do
   written ← text_of d
   caused of_type (parsed written)
 
 -- the name of an operation
-abbrev pub op_of : Data → Result Op ReadFault
+abbrev pub op_of : Data → Result Op InputFault
 op_of d = do
   name ← text_of d
   or_fault BadShape (op_named name)
 
 -- a whole number of 64 bits with a sign
-abbrev pub long_of : Data → Result ℤ ReadFault
+abbrev pub long_of : Data → Result ℤ InputFault
 long_of d = or_fault BadValue (option_and_then as_i64 (as_number d))
 
 -- whether a number has at most 32 bits with its sign
@@ -49,11 +49,11 @@ abbrev pub least_number : ℤ → Value
 least_number z = if is_int z then Int z else Long z
 
 -- a text: at most 65,536 bytes, each printable
-abbrev pub text_value : List ℕ → Result Value ReadFault
+abbrev pub text_value : List ℕ → Result Value InputFault
 text_value bytes = if is_text bytes then Ok (Text bytes) else Err BadValue
 
 -- a value of a kind
-abbrev pub value_of_kind : Kind → Data → Result Value ReadFault
+abbrev pub value_of_kind : Kind → Data → Result Value InputFault
 value_of_kind kind.Int d = do
   z ← long_of d
   if is_int z then Ok (Int z) else Err BadValue
@@ -68,7 +68,7 @@ value_of_kind kind.Text d = do
   text_value bytes
 
 -- a value by its own form
-abbrev pub value_by_form : Data → Result Value ReadFault
+abbrev pub value_by_form : Data → Result Value InputFault
 value_by_form (string bytes) = text_value bytes
 value_by_form (boolean truth) = Ok (Boolean truth)
 value_by_form (number n) = do
@@ -79,15 +79,15 @@ value_by_form (array ds) = Err BadValue
 value_by_form (object ms) = Err BadValue
 
 -- the first reading, and the second where that has a fault
-abbrev pub or_else : Result Value ReadFault → Result Value ReadFault → Result Value ReadFault
+abbrev pub or_else : Result Value InputFault → Result Value InputFault → Result Value InputFault
 or_else (Ok value) other = Ok value
 or_else (Err e) other = other
 
 -- a value of the kind that is wanted, where one is, and else by its own form
-abbrev pub value_for : Option Kind → Data → Result Value ReadFault
+abbrev pub value_for : Option Kind → Data → Result Value InputFault
 value_for (Some kind) d = or_else (value_of_kind kind d) (value_by_form d)
 value_for None d = value_by_form d
 
 -- values for parameters of these kinds, in order
-abbrev pub values_for : List Kind → List Data → Result (List Value) ReadFault
+abbrev pub values_for : List Kind → List Data → Result (List Value) InputFault
 values_for kinds ds = each_from (λ i d. value_for (slice_get kinds i) d) 0 ds

@@ -2,7 +2,7 @@
 ghost use Rattle.std.specs.Prelude.{◌≡◌};
 ghost use Rattle.mh_text.specs.declared.fault.TextFault.TheVariants as text;
 ghost use Rattle.mh_text.specs.Faults.{is_nowhere};
-ghost use Rattle.mh_text.specs.Gives.{of_tree, of_type, of_definition, of_problem, told};
+ghost use Rattle.mh_text.specs.Gives.{of_tree, of_type, of_definition, of_problem, no_memory};
 
 use mh_core::NoMemory;
 use mh_network::ProblemFault;
@@ -13,111 +13,9 @@ use std::alloc::{AllocError, AllocFailed};
 use std::error::Error;
 use std::fmt;
 
-/// What is wrong with an input.
+/// What is wrong with an input, or want of memory.
 #[derive(Clone, Copy, Debug, PartialEq, Eq)]
-pub enum ReadFault {
-    /// Memory ran out while the input was read.
-    NoMemory,
-    /// The input has more than 1,048,576 bytes.
-    TooLong,
-    /// The input is no JSON.
-    NotJson,
-    /// A part is missing, of another form, of another length, or out of its range.
-    BadShape,
-    /// A value does not stand for an int, a long, a boolean or a text.
-    BadValue,
-    /// A shared tree that stands nowhere earlier.
-    UnknownShared,
-    /// A constructor of trees refused.
-    Tree(TreeFault),
-    /// The definition is not lawful.
-    Definition(DefinitionFault),
-    /// Rows and costs are no problem.
-    Problem(ProblemFault),
-    /// A text is no method type.
-    BadType(TypeFault),
-}
-
-impl From<AllocError> for ReadFault {
-    ghost use Rattle.std.specs.Prelude.{◌≡◌};
-    ghost use Rattle.mh_text.specs.declared.fault.ReadFault.TheVariants.{NoMemory};
-
-    ghost from_gives = { λ _ e. e ≡ NoMemory };
-
-    fn from(_e: AllocError) -> ReadFault {
-        ReadFault::NoMemory
-    }
-}
-
-impl<T: Drop> From<AllocFailed<T>> for ReadFault {
-    ghost use Rattle.std.specs.Prelude.{◌≡◌};
-    ghost use Rattle.mh_text.specs.declared.fault.ReadFault.TheVariants.{NoMemory};
-
-    ghost from_gives = { λ _ e. e ≡ NoMemory };
-
-    fn from(_e: AllocFailed<T>) -> ReadFault {
-        ReadFault::NoMemory
-    }
-}
-
-impl From<NoMemory> for ReadFault {
-    ghost use Rattle.std.specs.Prelude.{◌≡◌};
-    ghost use Rattle.mh_text.specs.declared.fault.ReadFault.TheVariants.{NoMemory};
-
-    ghost from_gives = { λ _ e. e ≡ NoMemory };
-
-    fn from(_e: NoMemory) -> ReadFault {
-        ReadFault::NoMemory
-    }
-}
-
-impl From<TreeFault> for ReadFault {
-    ghost from_gives = { λ cause e. e ≡ of_tree cause };
-
-    fn from(cause: TreeFault) -> ReadFault {
-        match cause {
-            TreeFault::NoMemory => ReadFault::NoMemory,
-            _ => ReadFault::Tree(cause),
-        }
-    }
-}
-
-impl From<DefinitionFault> for ReadFault {
-    ghost from_gives = { λ cause e. e ≡ of_definition cause };
-
-    fn from(cause: DefinitionFault) -> ReadFault {
-        match cause {
-            DefinitionFault::NoMemory => ReadFault::NoMemory,
-            _ => ReadFault::Definition(cause),
-        }
-    }
-}
-
-impl From<ProblemFault> for ReadFault {
-    ghost from_gives = { λ cause e. e ≡ of_problem cause };
-
-    fn from(cause: ProblemFault) -> ReadFault {
-        match cause {
-            ProblemFault::NoMemory => ReadFault::NoMemory,
-            _ => ReadFault::Problem(cause),
-        }
-    }
-}
-
-impl From<TypeFault> for ReadFault {
-    ghost from_gives = { λ cause e. e ≡ of_type cause };
-
-    fn from(cause: TypeFault) -> ReadFault {
-        match cause {
-            TypeFault::NoMemory => ReadFault::NoMemory,
-            _ => ReadFault::BadType(cause),
-        }
-    }
-}
-
-/// Why a run ended early: a fault of the input, or of a stream.
-#[derive(Clone, Copy, Debug, PartialEq, Eq)]
-pub enum TextFault {
+pub enum InputFault {
     /// Memory ran out.
     NoMemory,
     /// The input has more than 1,048,576 bytes.
@@ -136,13 +34,122 @@ pub enum TextFault {
     Definition(DefinitionFault),
     /// Rows and costs are no problem.
     Problem(ProblemFault),
+    /// A text is no method type.
+    BadType(TypeFault),
+}
+
+impl fmt::Display for InputFault {
+    ghost use Rattle.mh_text.specs.Faults.{input_text};
+    ghost use Rattle.std.specs.Prelude.{Some};
+
+    ghost output = { λ kind. Some (input_text kind) };
+
+    fn fmt<W: fmt::Write>(&self, f: &mut fmt::Formatter<W>) -> fmt::Result {
+        match self {
+            InputFault::NoMemory => write!(f, "1 NoMemory"),
+            InputFault::TooLong => write!(f, "2 TooLong"),
+            InputFault::NotJson => write!(f, "3 NotJson"),
+            InputFault::BadShape => write!(f, "4 BadShape"),
+            InputFault::BadValue => write!(f, "5 BadValue"),
+            InputFault::UnknownShared => write!(f, "6 UnknownShared"),
+            InputFault::Tree(cause) => write!(f, "7 Tree {}", cause.number()),
+            InputFault::Definition(cause) => write!(f, "8 Definition {}", cause.number()),
+            InputFault::Problem(cause) => write!(f, "9 Problem {}", cause.number()),
+            InputFault::BadType(cause) => write!(f, "12 BadType {}", cause.number()),
+        }
+    }
+}
+
+impl Error for InputFault {}
+
+impl From<AllocError> for InputFault {
+    ghost use Rattle.std.specs.Prelude.{◌≡◌};
+    ghost use Rattle.mh_text.specs.declared.fault.InputFault.TheVariants.{NoMemory};
+
+    ghost from_gives = { λ _ e. e ≡ NoMemory };
+
+    fn from(_e: AllocError) -> InputFault {
+        InputFault::NoMemory
+    }
+}
+
+impl<T: Drop> From<AllocFailed<T>> for InputFault {
+    ghost use Rattle.std.specs.Prelude.{◌≡◌};
+    ghost use Rattle.mh_text.specs.declared.fault.InputFault.TheVariants.{NoMemory};
+
+    ghost from_gives = { λ _ e. e ≡ NoMemory };
+
+    fn from(_e: AllocFailed<T>) -> InputFault {
+        InputFault::NoMemory
+    }
+}
+
+impl From<NoMemory> for InputFault {
+    ghost use Rattle.std.specs.Prelude.{◌≡◌};
+    ghost use Rattle.mh_text.specs.declared.fault.InputFault.TheVariants.{NoMemory};
+
+    ghost from_gives = { λ _ e. e ≡ NoMemory };
+
+    fn from(_e: NoMemory) -> InputFault {
+        InputFault::NoMemory
+    }
+}
+
+impl From<TreeFault> for InputFault {
+    ghost from_gives = { λ cause e. e ≡ of_tree cause };
+
+    fn from(cause: TreeFault) -> InputFault {
+        match cause {
+            TreeFault::NoMemory => InputFault::NoMemory,
+            _ => InputFault::Tree(cause),
+        }
+    }
+}
+
+impl From<DefinitionFault> for InputFault {
+    ghost from_gives = { λ cause e. e ≡ of_definition cause };
+
+    fn from(cause: DefinitionFault) -> InputFault {
+        match cause {
+            DefinitionFault::NoMemory => InputFault::NoMemory,
+            _ => InputFault::Definition(cause),
+        }
+    }
+}
+
+impl From<ProblemFault> for InputFault {
+    ghost from_gives = { λ cause e. e ≡ of_problem cause };
+
+    fn from(cause: ProblemFault) -> InputFault {
+        match cause {
+            ProblemFault::NoMemory => InputFault::NoMemory,
+            _ => InputFault::Problem(cause),
+        }
+    }
+}
+
+impl From<TypeFault> for InputFault {
+    ghost from_gives = { λ cause e. e ≡ of_type cause };
+
+    fn from(cause: TypeFault) -> InputFault {
+        match cause {
+            TypeFault::NoMemory => InputFault::NoMemory,
+            _ => InputFault::BadType(cause),
+        }
+    }
+}
+
+/// Why a run ended early: a fault of the input or want of memory, or a fault of a stream.
+#[derive(Clone, Copy, Debug, PartialEq, Eq)]
+pub enum TextFault {
+    /// The input has a fault, or memory ran out.
+    Input(InputFault),
     /// A read failed.
     ReadFailed,
     /// A write or a flush failed, or a write took no byte.
     WriteFailed,
-    /// A text is no method type.
-    BadType(TypeFault),
-    /// No more readers of a published world can be made. It is no fault of an input, and has no number.
+    /// No more readers of a published world can be made. It is no fault of an input, and has no
+    /// number.
     NoReader,
 }
 
@@ -163,18 +170,9 @@ impl fmt::Display for TextFault {
 
     fn fmt<W: fmt::Write>(&self, f: &mut fmt::Formatter<W>) -> fmt::Result {
         match self {
-            TextFault::NoMemory => write!(f, "1 NoMemory"),
-            TextFault::TooLong => write!(f, "2 TooLong"),
-            TextFault::NotJson => write!(f, "3 NotJson"),
-            TextFault::BadShape => write!(f, "4 BadShape"),
-            TextFault::BadValue => write!(f, "5 BadValue"),
-            TextFault::UnknownShared => write!(f, "6 UnknownShared"),
-            TextFault::Tree(cause) => write!(f, "7 Tree {}", cause.number()),
-            TextFault::Definition(cause) => write!(f, "8 Definition {}", cause.number()),
-            TextFault::Problem(cause) => write!(f, "9 Problem {}", cause.number()),
+            TextFault::Input(cause) => write!(f, "{cause}"),
             TextFault::ReadFailed => write!(f, "10 ReadFailed"),
             TextFault::WriteFailed => write!(f, "11 WriteFailed"),
-            TextFault::BadType(cause) => write!(f, "12 BadType {}", cause.number()),
             TextFault::NoReader => write!(f, "NoReader"),
         }
     }
@@ -182,30 +180,19 @@ impl fmt::Display for TextFault {
 
 impl Error for TextFault {}
 
-impl From<ReadFault> for TextFault {
-    ghost from_gives = { λ cause e. e ≡ told cause };
+impl From<InputFault> for TextFault {
+    ghost from_gives = { λ cause e. e ≡ text.Input cause };
 
-    fn from(cause: ReadFault) -> TextFault {
-        match cause {
-            ReadFault::NoMemory => TextFault::NoMemory,
-            ReadFault::TooLong => TextFault::TooLong,
-            ReadFault::NotJson => TextFault::NotJson,
-            ReadFault::BadShape => TextFault::BadShape,
-            ReadFault::BadValue => TextFault::BadValue,
-            ReadFault::UnknownShared => TextFault::UnknownShared,
-            ReadFault::Tree(cause) => TextFault::Tree(cause),
-            ReadFault::Definition(cause) => TextFault::Definition(cause),
-            ReadFault::Problem(cause) => TextFault::Problem(cause),
-            ReadFault::BadType(cause) => TextFault::BadType(cause),
-        }
+    fn from(cause: InputFault) -> TextFault {
+        TextFault::Input(cause)
     }
 }
 
 impl From<AllocError> for TextFault {
-    ghost from_gives = { λ _ e. e ≡ text.NoMemory };
+    ghost from_gives = { λ _ e. e ≡ no_memory };
 
     fn from(_e: AllocError) -> TextFault {
-        TextFault::NoMemory
+        TextFault::Input(InputFault::NoMemory)
     }
 }
 
@@ -241,10 +228,10 @@ impl From<TextFault> for Fault {
     }
 }
 
-impl From<ReadFault> for Fault {
-    ghost from_gives = { λ cause e. e ≡ record { kind = told cause; at = 0 } };
+impl From<InputFault> for Fault {
+    ghost from_gives = { λ cause e. e ≡ record { kind = text.Input cause; at = 0 } };
 
-    fn from(cause: ReadFault) -> Fault {
+    fn from(cause: InputFault) -> Fault {
         Fault {
             kind: TextFault::from(cause),
             at: 0,
@@ -253,31 +240,23 @@ impl From<ReadFault> for Fault {
 }
 
 impl From<AllocError> for Fault {
-    ghost from_gives = { λ _ e. e ≡ record { kind = text.NoMemory; at = 0 } };
+    ghost from_gives = { λ _ e. e ≡ record { kind = no_memory; at = 0 } };
 
     fn from(_e: AllocError) -> Fault {
         Fault {
-            kind: TextFault::NoMemory,
+            kind: TextFault::Input(InputFault::NoMemory),
             at: 0,
         }
     }
 }
 
 impl From<NoMemory> for Fault {
-    ghost from_gives = { λ _ e. e ≡ record { kind = text.NoMemory; at = 0 } };
+    ghost from_gives = { λ _ e. e ≡ record { kind = no_memory; at = 0 } };
 
     fn from(_e: NoMemory) -> Fault {
         Fault {
-            kind: TextFault::NoMemory,
+            kind: TextFault::Input(InputFault::NoMemory),
             at: 0,
         }
-    }
-}
-
-impl From<mh_network::NoMemory> for Fault {
-    ghost from_gives = { λ _ e. e ≡ record { kind = text.NoMemory; at = 0 } };
-
-    fn from(_e: mh_network::NoMemory) -> Fault {
-        Fault::from(TextFault::NoMemory)
     }
 }

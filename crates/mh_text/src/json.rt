@@ -23,34 +23,33 @@ pub(crate) mod step;
 pub(crate) mod trees;
 pub(crate) mod values;
 
-use crate::fault::{Fault, ReadFault, TextFault};
+use crate::fault::{Fault, InputFault};
 use crate::streams::input::LIMIT;
 use serde_json::Value;
 use std::alloc::Global;
 
 /// The JSON value of bytes of any number.
-fn parse(alloc: Global, input: &[u8]) -> Result<Value, ReadFault>
+fn parse(alloc: Global, input: &[u8]) -> Result<Value, InputFault>
     ensures value { Gives view result (json_in input.now) }
 {
     match Value::from_slice(alloc, input) {
         Ok(value) => Ok(value),
         Err(error) => {
             if error.is_memory() {
-                return Err(ReadFault::NoMemory);
+                return Err(InputFault::NoMemory);
             }
-            Err(ReadFault::NotJson)
+            Err(InputFault::NotJson)
         }
     }
 }
 
 /// The JSON value of an input, whose length comes first.
-#[tactic(auto, using(crate::proofs::OfInput::told_of_input))]
 pub(crate) fn read_json(alloc: Global, input: &[u8]) -> Result<Value, Fault>
     ensures value { GivesAt view result (json_of_input input.now) }
     ensures kind { IfErr result (λ e. IsOfInput e.kind) }
 {
     if input.len() > LIMIT {
-        return Err(Fault::from(TextFault::TooLong));
+        return Err(Fault::from(InputFault::TooLong));
     }
     Ok(parse(alloc, input)?)
 }

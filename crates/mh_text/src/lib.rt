@@ -1,7 +1,8 @@
 //! Scripts, problems and plans from JSON, and the lines of what they give.
 //!
-//! `json` reads and writes values of JSON, `lines` the lines of replies and plans, and `streams` takes an input to its end
-//! and writes what it gives. What the calls name of the crates below stands here too:
+//! `json` reads and writes values of JSON, `lines` the lines of replies and plans, and `streams`
+//! takes an input to its end and writes what it gives. What the calls name of the crates below
+//! stands here too:
 //!
 //! ```
 //! let script = read_script(alloc, input)?;
@@ -19,7 +20,7 @@ mod json;
 mod lines;
 mod streams;
 
-pub use fault::{Fault, TextFault};
+pub use fault::{Fault, InputFault, TextFault};
 pub use json::certificate::plan_json;
 pub use json::plan::read_plan;
 pub use json::problem::read_problem;

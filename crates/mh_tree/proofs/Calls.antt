@@ -1,5 +1,5 @@
 -- What a handle's code does in a call.
-use Rattle.std.proofs.Common.{◌≡◌, ◌+◌, ◌≤◌, ap, sym, ◌∙◌, List, [], length, map, arith, Bool, zero-add, subst}
+use Rattle.std.proofs.Common.{◌≡◌, ◌+◌, ◌≤◌, ap, sym, ◌∙◌, List, [], length, map, arith, zero-add, subst}
 use Rattle.std.specs.List.{range_with_len}
 use Rattle.std.proofs.lemmas.List.{length-map}
 use Rattle.mh_type.specs.declared.kind.Kind.{Kind}
@@ -17,8 +17,9 @@ use Rattle.mh_tree.specs.declared.operand.Operand.TheVariants.{Argument}
 use Rattle.mh_tree.proofs.Costs.{costs, weighs}
 use Rattle.mh_tree.proofs.Means.{means}
 use Rattle.mh_tree.proofs.Scope.{scoped, in_arguments, reads_arguments}
+use Rattle.mh_tree.specs.Environment.{Environment}
 
-module _ (v : List Bool) (h : TypedTree) (a : List Value) (code : Code) (kept : code ≡ handle_code h) (sound : IsSound h.tree h.signature) (fits : Fits h.signature a) where
+module _ (v : Environment) (h : TypedTree) (a : List Value) (code : Code) (kept : code ≡ handle_code h) (sound : IsSound h.tree h.signature) (fits : Fits h.signature a) where
   pub count : length h.signature.parameters ≡ length a
   count = sym (ap (λ (ks : List Kind). length ks) fits) ∙ length-map a kind_of
 
@@ -38,7 +39,7 @@ module _ (v : List Bool) (h : TypedTree) (a : List Value) (code : Code) (kept : 
       let w = ap weight kept ∙ weighs h.tree (map (λ i. Argument i) (range_with_len 0 (length h.signature.parameters))) 0 0 in
       omega (arith, w, sound.small)
 
-  pub call_scoped : point_bound h.tree ≤ length v → IsScoped (length v) (length a) 0 code
+  pub call_scoped : point_bound h.tree ≤ length v.valid → IsScoped (length v.valid) (length a) 0 code
   call_scoped known =
-      let P : Code → Type 0 = λ k. IsScoped (length v) (length a) 0 k in
-      subst P (sym kept) (scoped (length v) (length a) h.tree _ 0 0 (in_arguments (length a) (length h.signature.parameters) 0 (omega (arith, count))) known)
+      let P : Code → Type 0 = λ k. IsScoped (length v.valid) (length a) 0 k in
+      subst P (sym kept) (scoped (length v.valid) (length a) h.tree _ 0 0 (in_arguments (length a) (length h.signature.parameters) 0 (omega (arith, count))) known)

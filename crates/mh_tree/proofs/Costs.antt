@@ -1,5 +1,5 @@
 -- The prepared code of a typed tree takes the steps that the tree takes, and counts each node once.
-use Rattle.std.proofs.Common.{◌≡◌, ℕ, ◌+◌, ◌≤◌, refl, ap, sym, ◌∙◌, List, [], ◌∷◌, ◌++◌, drop, map, length, arith, Bool, Result, length-append, length-take, length-drop, zero-add, if◌then◌else◌}
+use Rattle.std.proofs.Common.{◌≡◌, ℕ, ◌+◌, ◌≤◌, refl, ap, sym, ◌∙◌, List, [], ◌∷◌, ◌++◌, drop, map, length, arith, Result, length-append, length-take, length-drop, zero-add, if◌then◌else◌}
 use Rattle.std.specs.Prelude.{slice_set}
 use Rattle.std.proofs.Math.ListN.{length-set}
 use Rattle.mh_type.specs.declared.kind.Kind.{Kind}
@@ -20,6 +20,7 @@ use Rattle.mh_tree.specs.declared.operand.Operand.{Operand}
 use Rattle.mh_tree.specs.declared.operand.Operand.TheVariants.{Local}
 use Rattle.mh_tree.proofs.OperandReads.{Reads, reads_inserted, reads_discarded, reads_permuted, reads_one, reads_newest, reads_set, reads_nothing, permuted_wide, filter_wide, shorter, one_more}
 use Rattle.mh_tree.proofs.Means.{means}
+use Rattle.mh_tree.specs.Environment.{Environment}
 
 -- the steps after a filter
 joined_steps : (o : Outcome) (n : ℕ) (g : Value → ℕ) (r : Value → Result (List Value) Throw) (goes : List Value → ℕ) → n + after o (λ x. g x + after_filters (r x) goes) ≡ (n + after o g) + after_filters (with_value o r) goes
@@ -30,7 +31,7 @@ moved : (s n : ℕ) → (s + 1) + n ≡ s + (1 + n)
 moved s n = omega arith
 
 mutual
-  pub costs : (v : List Bool) (t : Tree) (m : Signature) (env : List Operand) (d s : ℕ) (a l b : List Value) → IsTyped t m → length m.parameters ≤ length b → d ≡ length l → Reads a l env b → code_steps v (prepared t env d s) a l ≡ s + steps v t b
+  pub costs : (v : Environment) (t : Tree) (m : Signature) (env : List Operand) (d s : ℕ) (a l b : List Value) → IsTyped t m → length m.parameters ≤ length b → d ≡ length l → Reads a l env b → code_steps v (prepared t env d s) a l ≡ s + steps v t b
   costs v (constant x) m env d s a l b typed wide deep h = refl
   costs v (identity k) m env d s a l b typed wide deep h = refl
   costs v (operation o) m env d s a l b typed wide deep h = refl
@@ -72,7 +73,7 @@ mutual
       (λ i. (s + 1) + (if is_valid v p then (costs v x m env d 0 a l b one wide deep h ∙ zero-add _) i else (costs v y m env d 0 a l b two wide deep h ∙ zero-add _) i))
       ∙ moved s _
 
-  costs_filters : (v : List Bool) (fs : Filters) (old new : List Kind) (p : ℕ) (env : List Operand) (d s : ℕ) (a l b : List Value) (go : List Operand → ℕ → ℕ → Code) (goes : List Value → ℕ) (w : ℕ) → AreTyped fs old new → w ≤ length b → d ≡ length l → Reads a l env b → ((env' : List Operand) (d' s' : ℕ) (l' b' : List Value) → w ≤ length b' → d' ≡ length l' → Reads a l' env' b' → code_steps v (go env' d' s') a l' ≡ s' + goes b') → code_steps v (prepared_filters fs p env d s go) a l ≡ s + (filter_steps v fs p b + after_filters (filtered v fs p b) goes)
+  costs_filters : (v : Environment) (fs : Filters) (old new : List Kind) (p : ℕ) (env : List Operand) (d s : ℕ) (a l b : List Value) (go : List Operand → ℕ → ℕ → Code) (goes : List Value → ℕ) (w : ℕ) → AreTyped fs old new → w ≤ length b → d ≡ length l → Reads a l env b → ((env' : List Operand) (d' s' : ℕ) (l' b' : List Value) → w ≤ length b' → d' ≡ length l' → Reads a l' env' b' → code_steps v (go env' d' s') a l' ≡ s' + goes b') → code_steps v (prepared_filters fs p env d s go) a l ≡ s + (filter_steps v fs p b + after_filters (filtered v fs p b) goes)
   costs_filters v no_more old new p env d s a l b go goes w typed wide deep h k = k env d s l b wide deep h ∙ ap (λ n. s + n) (sym (zero-add _))
   costs_filters v (absent fs) (z ∷ old) (j ∷ new) p env d s a l b go goes w typed wide deep h k =
       costs_filters v fs old new (p + 1) env d s a l b go goes w typed.1 wide deep h k

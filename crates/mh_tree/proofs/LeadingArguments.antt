@@ -1,5 +1,5 @@
 -- A typed tree reads its leading arguments alone, as many as it has parameters.
-use Rattle.std.proofs.Common.{◌≡◌, ℕ, suc, ◌+◌, ◌≤◌, ◌<◌, refl, ap, sym, ◌∙◌, List, [], ◌∷◌, ◌++◌, append_assoc, take, drop, map, length, arith, Bool, Result, Ok, Err, length-append, length-take, length-drop, if◌then◌else◌}
+use Rattle.std.proofs.Common.{◌≡◌, ℕ, suc, ◌+◌, ◌≤◌, ◌<◌, refl, ap, sym, ◌∙◌, List, [], ◌∷◌, ◌++◌, append_assoc, take, drop, map, length, arith, Result, Ok, Err, length-append, length-take, length-drop, if◌then◌else◌}
 use Rattle.std.specs.Prelude.{slice_set}
 use Rattle.std.specs.List.{All}
 use Rattle.std.proofs.lemmas.List.{take-append-le, drop-append-le, take-append-drop, get_or_append_left, set-append_left}
@@ -18,6 +18,7 @@ use Rattle.mh_tree.specs.Arity.{arity}
 use Rattle.mh_tree.specs.Meaning.{◌>>=◌, mean, steps, filtered, filter_steps, with_arguments, with_value, after, after_filters, argument, put_in, taken_out, choose, choose_steps, is_valid}
 use Rattle.mh_tree.specs.Tree.{Tree, Filters, constant, identity, operation, insert, discard, permute, filter, filter_return, fold, guard, point, no_more, absent, present}
 use Rattle.mh_tree.specs.Typing.{IsTyped, AreTyped}
+use Rattle.mh_tree.specs.Environment.{Environment}
 
 pub as_few : (fs : Filters) (old new : List Kind) → AreTyped fs old new → length new ≤ length old
 as_few no_more old new h = let e = ap (λ (ks : List Kind). length ks) h in omega arith
@@ -149,7 +150,7 @@ carry_steps : (o : Outcome) (go go' : Value → ℕ) → ((x : Value) → go x �
 carry_steps (Value' x) go go' h = h x
 carry_steps (Thrown t) go go' h = refl
 
-pub filtered_more : (v : List Bool) (fs : Filters) (p : ℕ) (a e : List Value) → p + count fs ≤ length a → filtered v fs p (a ++ e) ≡ with_more e (filtered v fs p a)
+pub filtered_more : (v : Environment) (fs : Filters) (p : ℕ) (a e : List Value) → p + count fs ≤ length a → filtered v fs p (a ++ e) ≡ with_more e (filtered v fs p a)
 filtered_more v no_more p a e h = refl
 filtered_more v (absent fs) p a e h = filtered_more v fs (p + 1) a e (omega arith)
 filtered_more v (present f fs) p a e h =
@@ -158,7 +159,7 @@ filtered_more v (present f fs) p a e h =
     (carry e (mean v f (argument a p ∷ [])) _ _
     (λ x. rw (set-append_left a e p x inside) (filtered_more v fs (p + 1) (slice_set a p x) e (omega (arith, length-set a p x)))))
 
-filter_steps_more : (v : List Bool) (fs : Filters) (p : ℕ) (a e : List Value) → p + count fs ≤ length a → filter_steps v fs p (a ++ e) ≡ filter_steps v fs p a
+filter_steps_more : (v : Environment) (fs : Filters) (p : ℕ) (a e : List Value) → p + count fs ≤ length a → filter_steps v fs p (a ++ e) ≡ filter_steps v fs p a
 filter_steps_more v no_more p a e h = refl
 filter_steps_more v (absent fs) p a e h = filter_steps_more v fs (p + 1) a e (omega arith)
 filter_steps_more v (present f fs) p a e h =
@@ -173,7 +174,7 @@ after_value : (o : Outcome) (go : Value → Result (List Value) Throw) (b : List
 after_value (Value' x) go b n k h = k x h
 after_value (Thrown x) go b n k h = cc
 
-pub filtered_length : (v : List Bool) (fs : Filters) (p : ℕ) (a b : List Value) → filtered v fs p a ≡ Ok b → length b ≡ length a
+pub filtered_length : (v : Environment) (fs : Filters) (p : ℕ) (a b : List Value) → filtered v fs p a ≡ Ok b → length b ≡ length a
 filtered_length v no_more p a b h = let e : a ≡ b = cc in ap (λ (xs : List Value). length xs) (sym e)
 filtered_length v (absent fs) p a b h = filtered_length v fs (p + 1) a b h
 filtered_length v (present f fs) p a b h =
@@ -196,7 +197,7 @@ leading c ret ks kinds a e typed begins wide =
     take-append-le (arity c) a e (omega (arith, length-take (length ks) kinds))
 
 -- further arguments change nothing
-pub mean_more : (v : List Bool) (t : Tree) (m : Signature) (a e : List Value) → IsTyped t m → length m.parameters ≤ length a → mean v t (a ++ e) ≡ mean v t a
+pub mean_more : (v : Environment) (t : Tree) (m : Signature) (a e : List Value) → IsTyped t m → length m.parameters ≤ length a → mean v t (a ++ e) ≡ mean v t a
 mean_more v (constant x) m a e typed wide = refl
 mean_more v (identity k) m a e typed wide =
     let one = arity_counts (identity k) m typed in
@@ -233,7 +234,7 @@ mean_more v (guard c x y) m a e (ks, test, begins, first, second) wide =
 mean_more v (point p x y) m a e (first, second) wide =
     λ i. if is_valid v p then mean_more v x m a e first wide i else mean_more v y m a e second wide i
 
-steps_more : (v : List Bool) (t : Tree) (m : Signature) (a e : List Value) → IsTyped t m → length m.parameters ≤ length a → steps v t (a ++ e) ≡ steps v t a
+steps_more : (v : Environment) (t : Tree) (m : Signature) (a e : List Value) → IsTyped t m → length m.parameters ≤ length a → steps v t (a ++ e) ≡ steps v t a
 steps_more v (constant x) m a e typed wide = refl
 steps_more v (identity k) m a e typed wide = refl
 steps_more v (operation o) m a e typed wide = refl
@@ -271,7 +272,7 @@ steps_more v (point p x y) m a e (first, second) wide =
     λ i. 1 + (if is_valid v p then steps_more v x m a e first wide i else steps_more v y m a e second wide i)
 
 -- A typed tree does on as many leading arguments as it has parameters what it does on all.
-module _ (v : List Bool) (t : Tree) (m : Signature) (a : List Value) (typed : IsTyped t m) (wide : length m.parameters ≤ length a) where
+module _ (v : Environment) (t : Tree) (m : Signature) (a : List Value) (typed : IsTyped t m) (wide : length m.parameters ≤ length a) where
   pub enough : length m.parameters ≤ length (take (arity t) a)
   enough = let many = arity_counts t m typed in omega (arith, length-take (arity t) a)
 

@@ -1,15 +1,16 @@
-pub mod Calls
-pub mod Costs
-pub mod Effort
-pub mod FilterKinds
-pub mod LeadingArguments
-pub mod LeadingOperands
-pub mod Means
-pub mod OperandReads
-pub mod PreparedParts
-pub mod Scope
-pub mod Sound
-pub mod Tests
-pub mod Trees
-pub mod Types
+mod Calls
+mod Costs
+mod Effort
+mod FilterKinds
+mod LeadingArguments
+mod LeadingOperands
+mod Means
+mod OperandReads
+mod PreparedParts
+pub mod PublicLaws
+mod Scope
+mod Sound
+mod Tests
+mod Trees
+mod Types
 mod WorkedTrees

@@ -1,5 +1,5 @@
 -- The prepared code of a typed tree does what the tree does.
-use Rattle.std.proofs.Common.{◌≡◌, ℕ, ◌+◌, ◌≤◌, refl, ap, sym, ◌∙◌, List, [], ◌∷◌, ◌++◌, take, drop, map, length, arith, Bool, length-append, length-take, length-drop, if◌then◌else◌}
+use Rattle.std.proofs.Common.{◌≡◌, ℕ, ◌+◌, ◌≤◌, refl, ap, sym, ◌∙◌, List, [], ◌∷◌, ◌++◌, take, drop, map, length, arith, length-append, length-take, length-drop, if◌then◌else◌}
 use Rattle.std.specs.Prelude.{slice_set}
 use Rattle.std.proofs.lemmas.List.{take-append-drop, take-map}
 use Rattle.std.proofs.Math.ListN.{length-set}
@@ -19,9 +19,10 @@ use Rattle.mh_tree.specs.Prepared.{operand_at, prepared, prepared_filters}
 use Rattle.mh_tree.specs.declared.operand.Operand.{Operand}
 use Rattle.mh_tree.specs.declared.operand.Operand.TheVariants.{Local}
 use Rattle.mh_tree.proofs.OperandReads.{Reads, reads_now, reads_at, reads_inserted, reads_discarded, reads_permuted, reads_one, reads_newest, reads_set, reads_nothing, two_read, passed, permuted_wide, filter_wide, shorter, one_more}
+use Rattle.mh_tree.specs.Environment.{Environment}
 
 mutual
-  pub means : (v : List Bool) (t : Tree) (m : Signature) (env : List Operand) (d s : ℕ) (a l b : List Value) → IsTyped t m → length m.parameters ≤ length b → d ≡ length l → Reads a l env b → run_code v (prepared t env d s) a l ≡ mean v t b
+  pub means : (v : Environment) (t : Tree) (m : Signature) (env : List Operand) (d s : ℕ) (a l b : List Value) → IsTyped t m → length m.parameters ≤ length b → d ≡ length l → Reads a l env b → run_code v (prepared t env d s) a l ≡ mean v t b
   means v (constant x) m env d s a l b typed wide deep h = refl
   means v (identity k) m env d s a l b typed wide deep h = ap Value' (reads_at a l env b 0 (reads_now a l env b h))
   means v (operation o) m env d s a l b typed wide deep h =
@@ -62,7 +63,7 @@ mutual
   means v (point p x y) m env d s a l b (one, two) wide deep h =
       λ i. if is_valid v p then means v x m env d 0 a l b one wide deep h i else means v y m env d 0 a l b two wide deep h i
 
-  means_filters : (v : List Bool) (fs : Filters) (old new : List Kind) (p : ℕ) (env : List Operand) (d s : ℕ) (a l b : List Value) (go : List Operand → ℕ → ℕ → Code) (goes : List Value → Outcome) (w : ℕ) → AreTyped fs old new → w ≤ length b → d ≡ length l → Reads a l env b → ((env' : List Operand) (d' s' : ℕ) (l' b' : List Value) → w ≤ length b' → d' ≡ length l' → Reads a l' env' b' → run_code v (go env' d' s') a l' ≡ goes b') → run_code v (prepared_filters fs p env d s go) a l ≡ with_arguments (filtered v fs p b) goes
+  means_filters : (v : Environment) (fs : Filters) (old new : List Kind) (p : ℕ) (env : List Operand) (d s : ℕ) (a l b : List Value) (go : List Operand → ℕ → ℕ → Code) (goes : List Value → Outcome) (w : ℕ) → AreTyped fs old new → w ≤ length b → d ≡ length l → Reads a l env b → ((env' : List Operand) (d' s' : ℕ) (l' b' : List Value) → w ≤ length b' → d' ≡ length l' → Reads a l' env' b' → run_code v (go env' d' s') a l' ≡ goes b') → run_code v (prepared_filters fs p env d s go) a l ≡ with_arguments (filtered v fs p b) goes
   means_filters v no_more old new p env d s a l b go goes w typed wide deep h k = k env d s l b wide deep h
   means_filters v (absent fs) (z ∷ old) (j ∷ new) p env d s a l b go goes w typed wide deep h k =
       means_filters v fs old new (p + 1) env d s a l b go goes w typed.1 wide deep h k

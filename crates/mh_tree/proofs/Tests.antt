@@ -7,7 +7,7 @@ use Rattle.std.proofs.lemmas.Bool.{le-leb, lt-leb, eq-eqb}
 use Rattle.mh_type.specs.declared.kind.Kind.{Kind}
 use Rattle.mh_type.specs.Kinds.{kind_of, kind_eq, kinds_eq}
 use Rattle.mh_type.specs.Signature.{Signature, signature_eq}
-use Rattle.mh_type.proofs.SameKind.{kind_eq_decides, kinds_eq_decides, signature_eq_decides}
+use Rattle.mh_type.proofs.PublicLaws.{kind_eq_decides, kinds_eq_decides, signature_eq_decides}
 use Rattle.mh_type.specs.declared.kind.Kind.TheVariants as kind
 use Rattle.mh_type.specs.declared.value.Value.{Value}
 use Rattle.mh_tree.specs.Constructors.{require, within_limits, inserted, insert_made, dropped, drop_made, permuted, permute_made, is_unary, return_kinds, arguments_filtered, filter_made, return_filtered, filter_return_made, folded, fold_made, guarded, guard_made, pointed, point_made}

@@ -13,6 +13,7 @@ use Rattle.mh_tree.specs.Tree.{Tree, constant, operation, insert, discard, guard
 use Rattle.mh_tree.specs.Meaning.{mean, steps}
 use Rattle.mh_tree.specs.Typing.{IsTyped}
 use Rattle.mh_tree.specs.Limits.{depth, size, point_bound}
+use Rattle.mh_tree.specs.Environment.{with_points}
 
 abbrev int : ℕ → Value
 int n = Int (pos n)
@@ -24,17 +25,17 @@ unary = record { ret = kind.Int; parameters = kind.Int ∷ [] }
 abbrev base : Tree
 base = point 0 (guard (insert (operation Ieq) 1 (int 1 ∷ [])) (discard (constant (int 100)) 0 (kind.Int ∷ [])) (insert (operation Iadd) 1 (int 1 ∷ []))) (operation Ineg)
 
-f_one : mean (true ∷ true ∷ []) base (int 1 ∷ []) ≡ outcome.Value (int 100)
+f_one : mean (with_points (true ∷ true ∷ [])) base (int 1 ∷ []) ≡ outcome.Value (int 100)
 f_one = refl
 
-f_one_steps : steps (true ∷ true ∷ []) base (int 1 ∷ []) ≡ 6
+f_one_steps : steps (with_points (true ∷ true ∷ [])) base (int 1 ∷ []) ≡ 6
 f_one_steps = refl
 
-f_two : mean (true ∷ true ∷ []) base (int 2 ∷ []) ≡ outcome.Value (int 3)
+f_two : mean (with_points (true ∷ true ∷ [])) base (int 2 ∷ []) ≡ outcome.Value (int 3)
 unfolding int_wrap
 f_two = refl
 
-f_invalid : mean (false ∷ true ∷ []) base (int 1 ∷ []) ≡ outcome.Value (Int (negsuc 0))
+f_invalid : mean (with_points (false ∷ true ∷ [])) base (int 1 ∷ []) ≡ outcome.Value (Int (negsuc 0))
 unfolding int_wrap
 f_invalid = refl
 
@@ -42,19 +43,19 @@ f_invalid = refl
 quotients : Tree
 quotients = filter (operation Iadd) 0 (present (insert (operation Idiv) 0 (int 10 ∷ [])) (present (insert (operation Idiv) 0 (int 7 ∷ [])) no_more))
 
-throws : mean [] quotients (int 0 ∷ int 0 ∷ []) ≡ outcome.Thrown ArithmeticException
+throws : mean (with_points []) quotients (int 0 ∷ int 0 ∷ []) ≡ outcome.Thrown ArithmeticException
 unfolding quotients
 throws = refl
 
-throws_steps : steps [] quotients (int 0 ∷ int 0 ∷ []) ≡ 3
+throws_steps : steps (with_points []) quotients (int 0 ∷ int 0 ∷ []) ≡ 3
 unfolding quotients
 throws_steps = refl
 
-sum_steps : steps [] quotients (int 5 ∷ int 2 ∷ []) ≡ 6
+sum_steps : steps (with_points []) quotients (int 5 ∷ int 2 ∷ []) ≡ 6
 unfolding quotients
 sum_steps = refl
 
-sum : mean [] quotients (int 5 ∷ int 2 ∷ []) ≡ outcome.Value (int 5)
+sum : mean (with_points []) quotients (int 5 ∷ int 2 ∷ []) ≡ outcome.Value (int 5)
 unfolding quotients int_wrap
 sum = refl
 
@@ -62,11 +63,11 @@ sum = refl
 chosen : Tree
 chosen = guard (insert (operation Ieq) 1 (int 0 ∷ [])) (discard (constant (int 7)) 0 (kind.Int ∷ [])) (insert (operation Idiv) 0 (int 10 ∷ []))
 
-chosen_target : mean [] chosen (int 0 ∷ []) ≡ outcome.Value (int 7)
+chosen_target : mean (with_points []) chosen (int 0 ∷ []) ≡ outcome.Value (int 7)
 unfolding chosen
 chosen_target = refl
 
-chosen_fallback : mean [] chosen (int 3 ∷ []) ≡ outcome.Value (int 3)
+chosen_fallback : mean (with_points []) chosen (int 3 ∷ []) ≡ outcome.Value (int 3)
 unfolding chosen int_wrap
 chosen_fallback = refl
 
@@ -74,11 +75,11 @@ chosen_fallback = refl
 square : Tree
 square = permute (operation Imul) unary (0 ∷ 0 ∷ [])
 
-square_wraps : mean [] square (int 65536 ∷ []) ≡ outcome.Value (int 0)
+square_wraps : mean (with_points []) square (int 65536 ∷ []) ≡ outcome.Value (int 0)
 unfolding square int_wrap
 square_wraps = refl
 
-square_steps : steps [] square (int 65536 ∷ []) ≡ 2
+square_steps : steps (with_points []) square (int 65536 ∷ []) ≡ 2
 unfolding square
 square_steps = refl
 
@@ -86,11 +87,11 @@ square_steps = refl
 cancelled : Tree
 cancelled = fold (operation Iadd) (operation Ineg)
 
-cancelled_zero : mean [] cancelled (int 5 ∷ []) ≡ outcome.Value (int 0)
+cancelled_zero : mean (with_points []) cancelled (int 5 ∷ []) ≡ outcome.Value (int 0)
 unfolding cancelled int_wrap
 cancelled_zero = refl
 
-cancelled_least : mean [] cancelled (Int (negsuc 2147483647) ∷ []) ≡ outcome.Value (int 0)
+cancelled_least : mean (with_points []) cancelled (Int (negsuc 2147483647) ∷ []) ≡ outcome.Value (int 0)
 unfolding cancelled int_wrap
 cancelled_least = refl
 

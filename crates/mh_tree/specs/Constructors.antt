@@ -9,11 +9,12 @@ use Rattle.mh_type.specs.Kinds.{kind_of, kind_eq, kinds_eq}
 use Rattle.mh_type.specs.Operations.{op_signature}
 use Rattle.mh_type.specs.Signature.{Signature, signature_eq, with_parameters, without_parameters}
 use Rattle.mh_tree.specs.Handle.{TypedTree}
-use Rattle.mh_tree.specs.Limits.{depth, size}
+use Rattle.mh_tree.specs.Limits.{depth, size, greatest_depth, most_nodes, greatest_declared_depth, most_declared_nodes}
 use Rattle.mh_tree.specs.Tree.{Filters, filters_of, constant, identity, operation, insert, discard, permute, filter, filter_return, fold, guard, point}
 use Rattle.mh_tree.specs.Typing.{kind_at}
 use Rattle.mh_tree.specs.declared.fault.TreeFault.{TreeFault}
 use Rattle.mh_tree.specs.declared.fault.TreeFault.TheVariants.{NoMemory, BadPosition, TypeMismatch, NotUnary, NotBoolean, BadReorder, TooManyParameters, TooDeep, TooLarge}
+use Rattle.mh_type.specs.Limits.{most_parameters}
 
 -- what is made where a test passes, and the fault where it fails
 abbrev pub require : Bool → TreeFault → Result TypedTree TreeFault → Result TypedTree TreeFault
@@ -23,13 +24,13 @@ require false fault made = Err fault
 -- the tests that come last: the limits of parameters, depth and size
 abbrev pub within_limits : TypedTree → Result TypedTree TreeFault
 within_limits h =
-    require (nat_le (length h.signature.parameters) 16) TooManyParameters
-    (require (nat_le (depth h.tree) 96) TooDeep
-    (require (nat_le (size h.tree) 262144) TooLarge (Ok h)))
+    require (nat_le (length h.signature.parameters) most_parameters) TooManyParameters
+    (require (nat_le (depth h.tree) greatest_depth) TooDeep
+    (require (nat_le (size h.tree) most_nodes) TooLarge (Ok h)))
 
 -- a handle as a declared tree
 abbrev pub declared_made : TypedTree → Result TypedTree TreeFault
-declared_made h = require (nat_le (depth h.tree) 64) TooDeep (require (nat_le (size h.tree) 4096) TooLarge (Ok h))
+declared_made h = require (nat_le (depth h.tree) greatest_declared_depth) TooDeep (require (nat_le (size h.tree) most_declared_nodes) TooLarge (Ok h))
 
 -- a refusal: a test that fails, or memory, which is asked for where every test passed
 abbrev pub Refuses : TreeFault → Result TypedTree TreeFault → Type 0

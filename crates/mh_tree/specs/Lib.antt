@@ -2,6 +2,7 @@ pub mod Arity
 pub mod Code
 pub mod CodeOf
 pub mod Constructors
+pub mod Environment
 pub mod Faults
 pub mod Handle
 pub mod Kept

@@ -1,4 +1,4 @@
--- The depth, the size and the point bound of a tree.
+-- The depth, the size and the point bound of a tree, and what is the most of them.
 use Rattle.std.specs.Prelude.{ℕ, ◌+◌, max}
 use Rattle.mh_tree.specs.Tree.{Tree, Filters, constant, identity, operation, insert, discard, permute, filter, filter_return, fold, guard, point, no_more, absent, present}
 
@@ -61,3 +61,17 @@ abbrev mutual
   greatest_bound no_more = 0
   greatest_bound (absent fs) = greatest_bound fs
   greatest_bound (present f fs) = max (point_bound f) (greatest_bound fs)
+
+-- the depth and the size of the greatest tree
+abbrev pub greatest_depth : ℕ
+greatest_depth = 96
+
+abbrev pub most_nodes : ℕ
+most_nodes = 262144
+
+-- the same of a declared tree
+abbrev pub greatest_declared_depth : ℕ
+greatest_declared_depth = 64
+
+abbrev pub most_declared_nodes : ℕ
+most_declared_nodes = 4096

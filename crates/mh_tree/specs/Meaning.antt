@@ -1,4 +1,4 @@
--- What a tree does with arguments, where v says which points are valid (the pseudo-code of each combinator in
+-- What a tree does with arguments in an environment (the pseudo-code of each combinator in
 -- `java.lang.invoke.MethodHandles`, Java SE 17). The first throw of a part that runs is the outcome.
 use Rattle.std.specs.Prelude.{ℕ, ◌+◌, Bool, false, Result, Ok, Err, List, [], ◌∷◌, ◌++◌, take, drop, map, length, slice_index_or, slice_set, if◌then◌else◌}
 use Rattle.mh_type.specs.declared.value.Value.{Value}
@@ -8,6 +8,7 @@ use Rattle.mh_type.specs.declared.outcome.Outcome.TheVariants as outcome
 use Rattle.mh_type.specs.declared.outcome.Throw.{Throw}
 use Rattle.mh_type.specs.Operations.{operate}
 use Rattle.mh_tree.specs.Arity.{arity}
+use Rattle.mh_tree.specs.Environment.{Environment, Steps}
 use Rattle.mh_tree.specs.Tree.{Tree, Filters, constant, identity, operation, insert, discard, permute, filter, filter_return, fold, guard, point, no_more, absent, present}
 
 infixl 10 ◌>>=◌
@@ -21,8 +22,8 @@ abbrev pub argument : List Value → ℕ → Value
 argument a i = slice_index_or a i (Boolean false)
 
 -- whether a point is valid (`SwitchPoint.hasBeenInvalidated`)
-abbrev pub is_valid : List Bool → ℕ → Bool
-is_valid v p = slice_index_or v p false
+abbrev pub is_valid : Environment → ℕ → Bool
+is_valid v p = slice_index_or v.valid p false
 
 -- goes on by a truth value
 abbrev pub choose : Value → Outcome → Outcome → Outcome
@@ -50,7 +51,7 @@ with_value (outcome.Thrown t) go = Err t
 abbrev mutual
   -- The outcome. A test, and a combiner, gets as many of the leading arguments as it has parameters
   -- (`MethodHandles.guardWithTest`, `MethodHandles.foldArguments`).
-  pub mean : List Bool → Tree → List Value → Outcome
+  pub mean : Environment → Tree → List Value → Outcome
   mean v (constant x) a = outcome.Value x
   mean v (identity k) a = outcome.Value (argument a 0)
   mean v (operation o) a = operate o a
@@ -70,29 +71,29 @@ abbrev mutual
   mean v (point p x y) a = if is_valid v p then mean v x a else mean v y a
 
   -- the arguments after the filters of the places from p on have run, from left to right
-  pub filtered : List Bool → Filters → ℕ → List Value → Result (List Value) Throw
+  pub filtered : Environment → Filters → ℕ → List Value → Result (List Value) Throw
   filtered v no_more p a = Ok a
   filtered v (absent fs) p a = filtered v fs (p + 1) a
   filtered v (present f fs) p a = with_value (mean v f (argument a p ∷ [])) (λ x. filtered v fs (p + 1) (slice_set a p x))
 
 -- the steps after a value; a throw takes none
-abbrev pub after : Outcome → (Value → ℕ) → ℕ
+abbrev pub after : Outcome → (Value → Steps) → Steps
 after (outcome.Value x) go = go x
 after (outcome.Thrown t) go = 0
 
 -- the steps after filters
-abbrev pub after_filters : Result (List Value) Throw → (List Value → ℕ) → ℕ
+abbrev pub after_filters : Result (List Value) Throw → (List Value → Steps) → Steps
 after_filters (Ok a) go = go a
 after_filters (Err t) go = 0
 
 -- the steps of the chosen branch
-abbrev pub choose_steps : Value → ℕ → ℕ → ℕ
+abbrev pub choose_steps : Value → Steps → Steps → Steps
 choose_steps (Boolean b) x y = if b then x else y
 choose_steps _ x y = y
 
 abbrev mutual
   -- the number of nodes entered, the one that throws included
-  pub steps : List Bool → Tree → List Value → ℕ
+  pub steps : Environment → Tree → List Value → Steps
   steps v (constant x) a = 1
   steps v (identity k) a = 1
   steps v (operation o) a = 1
@@ -110,7 +111,7 @@ abbrev mutual
   steps v (point p x y) a = 1 + (if is_valid v p then steps v x a else steps v y a)
 
   -- the steps of the filters of the places from p on
-  pub filter_steps : List Bool → Filters → ℕ → List Value → ℕ
+  pub filter_steps : Environment → Filters → ℕ → List Value → Steps
   filter_steps v no_more p a = 0
   filter_steps v (absent fs) p a = filter_steps v fs (p + 1) a
   filter_steps v (present f fs) p a =

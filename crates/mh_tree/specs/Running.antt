@@ -1,10 +1,11 @@
--- What prepared code does with arguments a and locals l, where v says which points are valid.
-use Rattle.std.specs.Prelude.{ℕ, ◌+◌, Bool, List, [], ◌∷◌, ◌++◌, if◌then◌else◌}
+-- What prepared code does in an environment v with arguments a and locals l.
+use Rattle.std.specs.Prelude.{ℕ, ◌+◌, List, [], ◌∷◌, ◌++◌, if◌then◌else◌}
 use Rattle.mh_type.specs.declared.value.Value.{Value}
 use Rattle.mh_type.specs.declared.outcome.Outcome.{Outcome}
 use Rattle.mh_type.specs.declared.outcome.Outcome.TheVariants as outcome
 use Rattle.mh_type.specs.Operations.{operate}
 use Rattle.mh_tree.specs.Meaning.{◌>>=◌, argument, choose, choose_steps, after, is_valid}
+use Rattle.mh_tree.specs.Environment.{Environment, Steps}
 use Rattle.mh_tree.specs.Code.{Code, leaf, apply, bind, branch, switch}
 use Rattle.mh_tree.specs.declared.operand.Operand.{Operand}
 use Rattle.mh_tree.specs.declared.operand.Operand.TheVariants.{Argument, Local, Constant}
@@ -15,7 +16,7 @@ value_of a l (Argument i) = argument a i
 value_of a l (Local i) = argument l i
 value_of a l (Constant x) = x
 
-abbrev pub run_code : List Bool → Code → List Value → List Value → Outcome
+abbrev pub run_code : Environment → Code → List Value → List Value → Outcome
 run_code v (leaf s o) a l = outcome.Value (value_of a l o)
 run_code v (apply s op x y) a l = operate op (value_of a l x ∷ value_of a l y ∷ [])
 run_code v (bind s f g) a l = do
@@ -27,7 +28,7 @@ run_code v (branch s c x y) a l = do
 run_code v (switch s p x y) a l = if is_valid v p then run_code v x a l else run_code v y a l
 
 -- the steps that it takes
-abbrev pub code_steps : List Bool → Code → List Value → List Value → ℕ
+abbrev pub code_steps : Environment → Code → List Value → List Value → Steps
 code_steps v (leaf s o) a l = s
 code_steps v (apply s op x y) a l = s
 code_steps v (bind s f g) a l = s + (code_steps v f a l + after (run_code v f a l) (λ x. code_steps v g a (l ++ x ∷ [])))

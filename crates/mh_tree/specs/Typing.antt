@@ -9,6 +9,7 @@ use Rattle.mh_type.specs.Kinds.{kind_of}
 use Rattle.mh_type.specs.Operations.{op_signature}
 use Rattle.mh_type.specs.Signature.{Signature, with_parameters, without_parameters}
 use Rattle.mh_tree.specs.Tree.{Tree, Filters, constant, identity, operation, insert, discard, permute, filter, filter_return, fold, guard, point, no_more, absent, present}
+use Rattle.mh_type.specs.Limits.{most_parameters}
 
 -- a list begins with another
 abbrev pub BeginsWith : List Kind → List Kind → Type 0
@@ -23,7 +24,7 @@ pub record Inserts (n : Signature) (p : ℕ) (xs : List Value) (m : Signature) :
 -- parameters that are put in beside those of a type n, at most 16 in all (`MethodHandles.dropArguments`)
 pub record Discards (n : Signature) (p : ℕ) (ks : List Kind) (m : Signature) : Type 0 where
   pub inside : p ≤ length n.parameters
-  pub few : length n.parameters + length ks ≤ 16
+  pub few : length n.parameters + length ks ≤ most_parameters
   pub made : m ≡ record { ret = n.ret; parameters = with_parameters n.parameters p ks }
 
 -- the kind at a place
@@ -34,7 +35,7 @@ kind_at kinds i = slice_index_or kinds i kind.Int
 pub record Reorders (n m : Signature) (r : List ℕ) : Type 0 where
   pub returns : n.ret ≡ m.ret
   pub inside : All (λ i. i < length m.parameters) r
-  pub few : length m.parameters ≤ 16
+  pub few : length m.parameters ≤ most_parameters
   pub same : n.parameters ≡ map (λ i. kind_at m.parameters i) r
 
 abbrev mutual

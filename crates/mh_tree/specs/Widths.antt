@@ -3,7 +3,7 @@ use Rattle.std.specs.Prelude.{ℕ, ◌+◌, ◌<◌, ◌≤◌, length}
 use Rattle.mh_type.specs.Signature.{Signature}
 use Rattle.mh_tree.specs.Tree.{Tree, Filters, no_more, absent, present}
 use Rattle.mh_tree.specs.Typing.{IsTyped}
-use Rattle.mh_tree.specs.Limits.{size, point_bound}
+use Rattle.mh_tree.specs.Limits.{size, point_bound, most_nodes}
 
 -- well typed, with an argument for each parameter and a valid bit for each point
 pub record CanRun (t : Tree) (width : ℕ) (points : ℕ) : Type 0 where
@@ -11,7 +11,7 @@ pub record CanRun (t : Tree) (width : ℕ) (points : ℕ) : Type 0 where
   pub typed : IsTyped t signature
   pub wide : length signature.parameters ≤ width
   pub known : point_bound t ≤ points
-  pub small : size t ≤ 262144
+  pub small : size t ≤ most_nodes
 
 -- the same of filters from place p on
 abbrev pub CanFilter : Filters → ℕ → ℕ → ℕ → Type 0

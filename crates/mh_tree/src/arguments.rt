@@ -34,7 +34,8 @@ impl Handle {
         values: &[Value],
     ) -> Result<Handle, TreeFault>
         ensures value { IfOk result (λ h. insert_made target.now position values.now ≡ Ok h) }
-        ensures refused { IfErr result (λ e. Refuses e (insert_made target.now position values.now)) }
+        ensures refused { IfErr result (λ e. Refuses e
+            (insert_made target.now position values.now)) }
     {
         let method_type = insert_type(target, position, values)?;
         let root = Node::Insert {
@@ -79,8 +80,8 @@ impl Handle {
 
 // The type of the target with these values inserted, where they may be.
 fn insert_type(target: &Handle, position: usize, values: &[Value]) -> Result<MethodType, TreeFault>
-    ensures value { MatchResult result
-        (λ m. insert_made target.now position values.now ≡ Ok (record { tree = insert_tree target.now.tree position values.now; signature = m }))
+    ensures value { MatchResult result (λ m. insert_made target.now position values.now ≡ Ok
+        (record { tree = insert_tree target.now.tree position values.now; signature = m }))
         (λ e. insert_made target.now position values.now ≡ Err e) }
     ensures sound { IfOk result (λ m. IsSound (insert_tree target.now.tree position values.now) m) }
 {
@@ -98,8 +99,8 @@ fn insert_type(target: &Handle, position: usize, values: &[Value]) -> Result<Met
 
 // The type of the target with parameters of these kinds put in, where they may be.
 fn drop_type(target: &Handle, position: usize, kinds: &[Kind]) -> Result<MethodType, TreeFault>
-    ensures value { MatchResult result
-        (λ m. drop_made target.now position kinds.now ≡ Ok (record { tree = discard target.now.tree position kinds.now; signature = m }))
+    ensures value { MatchResult result (λ m. drop_made target.now position kinds.now ≡ Ok
+        (record { tree = discard target.now.tree position kinds.now; signature = m }))
         (λ e. drop_made target.now position kinds.now ≡ Err e) }
     ensures sound { IfOk result (λ m. IsSound (discard target.now.tree position kinds.now) m) }
 {

@@ -33,7 +33,8 @@ impl Handle {
         fallback: &Handle,
     ) -> Result<Handle, TreeFault>
         ensures value { IfOk result (λ h. guard_made test.now target.now fallback.now ≡ Ok h) }
-        ensures refused { IfErr result (λ e. Refuses e (guard_made test.now target.now fallback.now)) }
+        ensures refused { IfErr result (λ e. Refuses e
+            (guard_made test.now target.now fallback.now)) }
     {
         let method_type = guard_type(test, target, fallback)?;
         let root = Node::Guard {
@@ -84,10 +85,13 @@ impl Handle {
 
 // The type of a guard of these parts, where they agree.
 fn guard_type(test: &Handle, target: &Handle, fallback: &Handle) -> Result<MethodType, TreeFault>
-    ensures value { MatchResult result
-        (λ m. guard_made test.now target.now fallback.now ≡ Ok (record { tree = guard_tree test.now.tree target.now.tree fallback.now.tree; signature = m }))
-        (λ e. guard_made test.now target.now fallback.now ≡ Err e) }
-    ensures sound { IfOk result (λ m. IsSound (guard_tree test.now.tree target.now.tree fallback.now.tree) m) }
+    ensures value { MatchResult result (λ m. guard_made test.now target.now fallback.now ≡ Ok
+        (record {
+          tree = guard_tree test.now.tree target.now.tree fallback.now.tree;
+          signature = m;
+        })) (λ e. guard_made test.now target.now fallback.now ≡ Err e) }
+    ensures sound { IfOk result (λ m. IsSound (guard_tree test.now.tree target.now.tree
+        fallback.now.tree) m) }
 {
     if !test.method_type().ret().is(Kind::Boolean) {
         return Err(TreeFault::NotBoolean);
@@ -106,10 +110,11 @@ fn guard_type(test: &Handle, target: &Handle, fallback: &Handle) -> Result<Metho
 
 // The type of a point's branches, where they agree.
 fn point_type(point: u32, target: &Handle, fallback: &Handle) -> Result<MethodType, TreeFault>
-    ensures value { MatchResult result
-        (λ m. point_made point target.now fallback.now ≡ Ok (record { tree = point_tree point target.now.tree fallback.now.tree; signature = m }))
+    ensures value { MatchResult result (λ m. point_made point target.now fallback.now ≡ Ok
+        (record { tree = point_tree point target.now.tree fallback.now.tree; signature = m }))
         (λ e. point_made point target.now fallback.now ≡ Err e) }
-    ensures sound { IfOk result (λ m. IsSound (point_tree point target.now.tree fallback.now.tree) m) }
+    ensures sound { IfOk result (λ m. IsSound (point_tree point target.now.tree fallback.now.tree)
+        m) }
 {
     let method_type = target.method_type();
     if !method_type.equals(fallback.method_type()) {

@@ -2,10 +2,11 @@
 
 ghost use Rattle.std.specs.Prelude.{◌≡◌, ◌≤◌, Ok, IfOk, IfErr};
 ghost use Rattle.mh_tree.specs.Constructors.{Refuses, declared_made};
-ghost use Rattle.mh_tree.specs.Limits.{depth as tree_depth, size as tree_size};
+ghost use Rattle.mh_tree.specs.Limits.{depth as tree_depth, size as tree_size, greatest_declared_depth, most_declared_nodes};
 
 use crate::fault::TreeFault;
 use crate::handle::Handle;
+use std::fmt;
 use std::marker::Model;
 
 /// The greatest depth of a declared tree.
@@ -14,8 +15,8 @@ pub const DEEPEST_DECLARED: usize = 64;
 /// The greatest size of a declared tree.
 pub const LARGEST_DECLARED: usize = 4096;
 
-/// A handle within the limits of declared trees: at most 64 deep, and of at most 4,096 nodes. What is
-/// built over such a tree is then within the limits of any handle.
+/// A handle within the limits of declared trees: at most 64 deep, and of at most 4,096 nodes. What
+/// is built over such a tree is then within the limits of any handle.
 #[derive(Drop)]
 pub struct Declared {
     handle: Handle,
@@ -33,6 +34,13 @@ impl Model for Declared {
     ghost view = { λ d. d.handle };
 
     ghost invariant = { λ d. IsDeclared d.handle };
+}
+
+/// As its handle.
+impl fmt::Debug for Declared {
+    fn fmt<W: fmt::Write>(&self, f: &mut fmt::Formatter<W>) -> fmt::Result {
+        write!(f, "Declared({:?})", self.handle())
+    }
 }
 
 impl Declared {
@@ -64,7 +72,8 @@ impl Declared {
     /// The handle.
     pub fn handle(&self) -> &Handle
         ensures value { result.now ≡ self.now }
-        ensures limits { (tree_depth self.now.tree ≤ 64) × (tree_size self.now.tree ≤ 4096) }
+        ensures limits { (tree_depth self.now.tree ≤ greatest_declared_depth)
+            × (tree_size self.now.tree ≤ most_declared_nodes) }
     {
         &self.handle
     }

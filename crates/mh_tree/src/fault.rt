@@ -56,7 +56,3 @@ impl TreeFault {
         }
     }
 }
-
-// A growth was refused, or a further owner: what alone a function is refused that makes code.
-#[derive(Clone, Copy, Debug)]
-pub(crate) struct NoMemory;

@@ -3,10 +3,11 @@
 ghost use Rattle.std.specs.Prelude.{◌≡◌, ◌+◌, ◌*◌, ◌≤◌, ◌++◌, true, Ok, Err, take, drop, length, map, option_map, IfSome, IfOk, IfErr, MatchResult};
 ghost use Rattle.std.specs.List.{All, list_all};
 ghost use Rattle.mh_tree.specs.Constructors.{Refuses, filter_made, filter_return_made, is_unary, return_kinds as kinds_returned, taken_kinds, plain_filters};
-ghost use Rattle.mh_tree.specs.Limits.{deepest as deepest_tree, total_size as total_of, greatest_bound as greatest_of};
+ghost use Rattle.mh_tree.specs.Limits.{deepest as deepest_tree, total_size as total_of, greatest_bound as greatest_of, greatest_depth, most_nodes};
 ghost use Rattle.mh_tree.specs.TreeOf.{filter_trees};
 ghost use Rattle.mh_tree.specs.Handle.{IsSound};
 ghost use Rattle.mh_tree.specs.Tree.{filter as filter_tree, filter_return as filter_return_tree};
+ghost use Rattle.mh_type.specs.Limits.{most_parameters};
 
 use crate::fault::TreeFault;
 use crate::handle::Handle;
@@ -20,21 +21,21 @@ impl Handle {
     /// The target on filtered arguments (`MethodHandles.filterArguments`).
     ///
     /// *Type*: the target's, where each filter's parameter stands in place of the target's that the
-    /// filter returns. The filters stand for the parameters from `position` on; an absent one leaves
-    /// its argument.
+    /// filter returns. The filters stand for the parameters from `position` on; an absent one
+    /// leaves its argument.
     ///
     /// *Pseudo-code*: `adapter(a.., x, y, .., b..) = target(a.., filters[0](x), filters[1](y), .., b..)`,
-    /// with `position` arguments `a`. Filters run from left to right. A throw of one is the outcome,
-    /// and nothing after it runs.
+    /// with `position` arguments `a`. Filters run from left to right. A throw of one is the
+    /// outcome, and nothing after it runs.
     ///
     /// *Example*: `ladd` with the filter `i2l` at place 1 is of type `(long,int)long`, and gives
-    /// `long 3` on `long 1` and `int 2`. No filters are allowed: the handle is then the target in one
-    /// more node.
+    /// `long 3` on `long 1` and `int 2`. No filters are allowed: the handle is then the target in
+    /// one more node.
     ///
     /// *Refusals*: `BadPosition` where `position + filters.len()` is above the target's count of
-    /// parameters, as a number without bounds; `NotUnary` where a filter has other than one parameter;
-    /// `TypeMismatch` where a filter returns another kind than its place has; `TooDeep`, `TooLarge`,
-    /// and `NoMemory`.
+    /// parameters, as a number without bounds; `NotUnary` where a filter has other than one
+    /// parameter; `TypeMismatch` where a filter returns another kind than its place has; `TooDeep`,
+    /// `TooLarge`, and `NoMemory`.
     pub fn filter(
         alloc: Global,
         target: &Handle,
@@ -42,7 +43,8 @@ impl Handle {
         filters: &[Option<Handle>],
     ) -> Result<Handle, TreeFault>
         ensures value { IfOk result (λ h. filter_made target.now position filters.now ≡ Ok h) }
-        ensures refused { IfErr result (λ e. Refuses e (filter_made target.now position filters.now)) }
+        ensures refused { IfErr result (λ e. Refuses e
+            (filter_made target.now position filters.now)) }
     {
         let method_type = filter_type(target, position, filters)?;
         let root = Node::Filter {
@@ -94,11 +96,16 @@ fn filter_type(
     position: usize,
     filters: &[Option<Handle>],
 ) -> Result<MethodType, TreeFault>
-    ensures value { MatchResult result
-        (λ m. filter_made target.now position filters.now ≡ Ok (record { tree = filter_tree target.now.tree position (plain_filters filters.now); signature = m }))
+    ensures value { MatchResult result (λ m. filter_made target.now position filters.now ≡ Ok
+        (record {
+          tree = filter_tree target.now.tree position
+              (plain_filters filters.now);
+          signature = m;
+        }))
         (λ e. filter_made target.now position filters.now ≡ Err e) }
-    ensures sound { IfOk result (λ m. IsSound (filter_tree target.now.tree position (plain_filters filters.now)) m) }
-    ensures few { IfOk result (λ m. length filters.now ≤ 16) }
+    ensures sound { IfOk result (λ m. IsSound (filter_tree target.now.tree position
+        (plain_filters filters.now)) m) }
+    ensures few { IfOk result (λ m. length filters.now ≤ most_parameters) }
 {
     let old = target.method_type();
     let parameters = old.parameters();
@@ -118,10 +125,11 @@ fn filter_type(
 
 // The type of the target with this filter of its result, where it may be.
 fn filter_return_type(target: &Handle, filter: &Handle) -> Result<MethodType, TreeFault>
-    ensures value { MatchResult result
-        (λ m. filter_return_made target.now filter.now ≡ Ok (record { tree = filter_return_tree target.now.tree filter.now.tree; signature = m }))
+    ensures value { MatchResult result (λ m. filter_return_made target.now filter.now ≡ Ok
+        (record { tree = filter_return_tree target.now.tree filter.now.tree; signature = m }))
         (λ e. filter_return_made target.now filter.now ≡ Err e) }
-    ensures sound { IfOk result (λ m. IsSound (filter_return_tree target.now.tree filter.now.tree) m) }
+    ensures sound { IfOk result (λ m. IsSound (filter_return_tree target.now.tree filter.now.tree)
+        m) }
 {
     let old = target.method_type();
     let last = filter.method_type();
@@ -169,7 +177,11 @@ fn return_kinds(filters: &[Option<Handle>], kinds: &[Kind]) -> bool
 fn type_before(target: &MethodType, position: usize, filters: &[Option<Handle>]) -> MethodType
     requires inside { position + length filters.now ≤ length target.now.parameters }
     requires unary { list_all is_unary filters.now ≡ true }
-    ensures value { result ≡ record { ret = target.now.ret; parameters = take position target.now.parameters ++ taken_kinds filters.now (drop position target.now.parameters) } }
+    ensures value { result ≡ record {
+      ret = target.now.ret;
+      parameters = take position
+          target.now.parameters ++ taken_kinds filters.now (drop position target.now.parameters);
+    } }
     ensures sound { All (λ o. IfSome o (λ f. IsSound f.tree f.signature)) filters.now }
 {
     let mut made = target.copy();
@@ -185,7 +197,7 @@ fn type_before(target: &MethodType, position: usize, filters: &[Option<Handle>])
 // The depth of the deepest filter, or 0.
 fn deepest(filters: &[Option<Handle>]) -> usize
     ensures value { result ≡ deepest_tree (plain_filters filters.now) }
-    ensures shallow { result ≤ 96 }
+    ensures shallow { result ≤ greatest_depth }
 {
     let mut deepest = 0;
     for filter in filters {
@@ -198,9 +210,9 @@ fn deepest(filters: &[Option<Handle>]) -> usize
 
 // The number of nodes of all filters.
 fn total_size(filters: &[Option<Handle>]) -> usize
-    requires few { length filters.now ≤ 16 }
+    requires few { length filters.now ≤ most_parameters }
     ensures value { result ≡ total_of (plain_filters filters.now) }
-    ensures small { result ≤ length filters.now * 262144 }
+    ensures small { result ≤ length filters.now * most_nodes }
 {
     let mut total = 0;
     for filter in filters {
@@ -226,7 +238,8 @@ fn greatest_bound(filters: &[Option<Handle>]) -> usize
 
 // Another owner of each filter's tree.
 fn owners(alloc: Global, filters: &[Option<Handle>]) -> Result<Vec<Option<Arc<Node>>>, TreeFault>
-    ensures value { IfOk result (λ v. filter_trees v.items ≡ map (option_map (λ f. f.tree)) filters.now) }
+    ensures value { IfOk result (λ v. filter_trees v.items ≡ map
+        (option_map (λ f. f.tree)) filters.now) }
     ensures refused { IfErr result (λ e. e ≡ TreeFault.NoMemory) }
 {
     let mut owned = Vec::new(alloc);

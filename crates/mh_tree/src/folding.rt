@@ -25,8 +25,8 @@ impl Handle {
     /// `int -2147483648`, whose negation wraps (JLS SE 17, 15.15.4).
     ///
     /// *Refusals*: `TypeMismatch` where the target has no parameter, the combiner returns another kind
-    /// than its first, or the combiner's parameters do not begin the rest; `TooDeep`, `TooLarge`, and
-    /// `NoMemory`.
+    /// than its first, or the combiner's parameters do not begin the rest; `TooDeep`, `TooLarge`,
+    /// and `NoMemory`.
     pub fn fold(alloc: Global, target: &Handle, combiner: &Handle) -> Result<Handle, TreeFault>
         ensures value { IfOk result (λ h. fold_made target.now combiner.now ≡ Ok h) }
         ensures refused { IfErr result (λ e. Refuses e (fold_made target.now combiner.now)) }
@@ -45,8 +45,8 @@ impl Handle {
 
 // The type of the target without the parameter that the combiner gives, where it may give it.
 fn fold_type(target: &Handle, combiner: &Handle) -> Result<MethodType, TreeFault>
-    ensures value { MatchResult result
-        (λ m. fold_made target.now combiner.now ≡ Ok (record { tree = fold_tree target.now.tree combiner.now.tree; signature = m }))
+    ensures value { MatchResult result (λ m. fold_made target.now combiner.now ≡ Ok
+        (record { tree = fold_tree target.now.tree combiner.now.tree; signature = m }))
         (λ e. fold_made target.now combiner.now ≡ Err e) }
     ensures sound { IfOk result (λ m. IsSound (fold_tree target.now.tree combiner.now.tree) m) }
 {

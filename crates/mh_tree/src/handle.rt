@@ -4,13 +4,14 @@ ghost use Rattle.std.specs.Prelude.{◌≡◌, ◌≤◌, IfOk, IfErr};
 ghost use Rattle.std.specs.Arc.{arc_value};
 ghost use Rattle.mh_tree.specs.Handle.{TypedTree, IsSound};
 ghost use Rattle.mh_tree.specs.TreeOf.{tree_of};
-ghost use Rattle.mh_tree.specs.Limits.{depth as tree_depth, size as tree_size, point_bound as tree_point_bound};
+ghost use Rattle.mh_tree.specs.Limits.{depth as tree_depth, size as tree_size, point_bound as tree_point_bound, greatest_depth, most_nodes};
 
 use crate::fault::TreeFault;
 use crate::measures::{Measures, measure};
 use crate::node::Node;
 use mh_type::MethodType;
 use std::alloc::Global;
+use std::fmt;
 use std::marker::Model;
 use std::sync::Arc;
 
@@ -48,6 +49,13 @@ impl Model for Handle {
     ghost invariant = { IsKept };
 }
 
+/// The type of the tree, and its size: a shared tree may have more nodes than one wants to read.
+impl fmt::Debug for Handle {
+    fn fmt<W: fmt::Write>(&self, f: &mut fmt::Formatter<W>) -> fmt::Result {
+        write!(f, "Handle({}, {} nodes)", self.method_type(), self.size())
+    }
+}
+
 impl Handle {
     // The tree in an owner, with what is kept beside it.
     pub(crate) fn of(
@@ -62,7 +70,8 @@ impl Handle {
         requires deep { depth ≡ tree_depth (tree_of root) }
         requires large { size ≡ tree_size (tree_of root) }
         requires bound { point_bound ≡ tree_point_bound (tree_of root) }
-        ensures value { IfOk result (λ h. h ≡ record { tree = tree_of root; signature = method_type }) }
+        ensures value { IfOk result (λ h. h ≡ record
+            { tree = tree_of root; signature = method_type }) }
         ensures refused { IfErr result (λ e. e ≡ TreeFault.NoMemory) }
     {
         let root = Arc::new(alloc, root).map_err(|_| TreeFault::NoMemory)?;
@@ -85,7 +94,8 @@ impl Handle {
         requires deep { measures.depth ≡ tree_depth (tree_of (arc_value root)) }
         requires large { measures.size ≡ tree_size (tree_of (arc_value root)) }
         requires bound { measures.point_bound ≡ tree_point_bound (tree_of (arc_value root)) }
-        ensures value { IfOk result (λ h. h ≡ record { tree = tree_of (arc_value root); signature = method_type }) }
+        ensures value { IfOk result (λ h. h ≡ record
+            { tree = tree_of (arc_value root); signature = method_type }) }
         ensures refused { IfErr result (λ e. e ≡ TreeFault.NoMemory) }
     {
         let Measures {
@@ -106,15 +116,16 @@ impl Handle {
     }
 
     /// A tree that was rebuilt of nodes, as a handle of its type: it has to be typed and within the
-    /// limits, as `root` says of the trees of handles. The tree is measured, in time linear in its size.
-    /// Refused with `NoMemory` alone.
+    /// limits, as `root` says of the trees of handles. The tree is measured, in time linear in its
+    /// size. Refused with `NoMemory` alone.
     pub fn from_root(
         alloc: Global,
         root: Arc<Node>,
         method_type: &MethodType,
     ) -> Result<Handle, TreeFault>
         requires sound { IsSound (tree_of (arc_value root)) method_type.now }
-        ensures value { IfOk result (λ h. h ≡ record { tree = tree_of (arc_value root); signature = method_type.now }) }
+        ensures value { IfOk result (λ h. h ≡ record
+            { tree = tree_of (arc_value root); signature = method_type.now }) }
         ensures refused { IfErr result (λ e. e ≡ TreeFault.NoMemory) }
     {
         let measures = measure(&root);
@@ -166,7 +177,7 @@ impl Handle {
     /// The depth of the tree: 1 for a leaf, and else one more than that of the deepest part.
     pub fn depth(&self) -> usize
         ensures value { result ≡ tree_depth self.now.tree }
-        ensures shallow { result ≤ 96 }
+        ensures shallow { result ≤ greatest_depth }
     {
         let shared = &self.shared;
         shared.depth
@@ -175,7 +186,7 @@ impl Handle {
     /// The number of nodes. A part that occurs twice is counted twice.
     pub fn size(&self) -> usize
         ensures value { result ≡ tree_size self.now.tree }
-        ensures small { result ≤ 262144 }
+        ensures small { result ≤ most_nodes }
     {
         let shared = &self.shared;
         shared.size

@@ -1,4 +1,15 @@
 //! Handle trees: typed, and within limits.
+//!
+//! ```
+//! // f(x) = if x == 1 { 100 } else { x + 1 }
+//! let one = [Value::Int(1)];
+//! let test = Handle::insert(alloc, &Handle::op(alloc, Op::Ieq)?, 1, &one)?;
+//! let hundred = Handle::constant(alloc, &Value::Int(100))?;
+//! let hundred = Handle::drop(alloc, &hundred, 0, &[Kind::Int])?;
+//! let more = Handle::insert(alloc, &Handle::op(alloc, Op::Iadd)?, 1, &one)?;
+//! let f = Handle::guard(alloc, &test, &hundred, &more)?;
+//! let prepared = Prepared::new(&f)?;
+//! ```
 #![tactic(auto)]
 
 mod arguments;
@@ -19,9 +30,10 @@ mod prepared;
 mod preparing;
 mod reordering;
 
-pub use declared::Declared;
+pub use declared::{DEEPEST_DECLARED, Declared, LARGEST_DECLARED};
 pub use fault::TreeFault;
 pub use handle::Handle;
+pub use limits::{DEEPEST, LARGEST};
 pub use node::Node;
 pub use operand::Operand;
 pub use piece::Piece;

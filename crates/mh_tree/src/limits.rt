@@ -6,6 +6,7 @@ ghost use Rattle.mh_tree.specs.Handle.{IsSound};
 ghost use Rattle.mh_tree.specs.Limits.{depth as tree_depth, size as tree_size};
 ghost use Rattle.mh_tree.specs.Tree.{Tree};
 ghost use Rattle.mh_tree.specs.Typing.{IsTyped};
+ghost use Rattle.mh_type.specs.Limits.{most_parameters};
 
 use crate::fault::TreeFault;
 use mh_type::MethodType;
@@ -23,11 +24,13 @@ pub(crate) fn within_limits(
     depth: usize,
     size: usize,
 ) -> Result<MethodType, TreeFault>
-    requires few { length method_type.parameters ≤ 16 }
-    ensures value { (t : Tree) → depth ≡ tree_depth t → size ≡ tree_size t → MatchResult result
-        (λ m. made_within_limits (record { tree = t; signature = method_type }) ≡ Ok (record { tree = t; signature = m }))
+    requires few { length method_type.parameters ≤ most_parameters }
+    ensures value { (t : Tree) → depth ≡ tree_depth t → size ≡ tree_size t
+        → MatchResult result (λ m. made_within_limits (record { tree = t; signature = method_type })
+        ≡ Ok (record { tree = t; signature = m }))
         (λ e. made_within_limits (record { tree = t; signature = method_type }) ≡ Err e) }
-    ensures sound { (t : Tree) → depth ≡ tree_depth t → size ≡ tree_size t → IsTyped t method_type → IfOk result (λ m. IsSound t m) }
+    ensures sound { (t : Tree) → depth ≡ tree_depth t → size ≡ tree_size t → IsTyped t method_type
+        → IfOk result (λ m. IsSound t m) }
 {
     if depth > DEEPEST {
         return Err(TreeFault::TooDeep);

@@ -1,7 +1,7 @@
 //! What is kept beside a tree: its depth, its size and its point bound.
 
 ghost use Rattle.std.specs.Prelude.{◌≡◌, ◌+◌, ◌≤◌, ◌<◌, max};
-ghost use Rattle.mh_tree.specs.Limits.{depth, size, point_bound, deepest, total_size, greatest_bound};
+ghost use Rattle.mh_tree.specs.Limits.{depth, size, point_bound, deepest, total_size, greatest_bound, most_nodes, greatest_depth};
 ghost use Rattle.mh_tree.specs.Tree.{filters_of};
 ghost use Rattle.mh_tree.specs.TreeOf.{tree_of, filter_trees};
 
@@ -30,8 +30,13 @@ impl Measures {
 
     // Of these trees and others.
     fn and(self, others: Measures) -> Measures
-        requires few { self.size + others.size ≤ 262144 }
-        ensures value { result ≡ record { depth = max self.depth others.depth; size = self.size + others.size; point_bound = max self.point_bound others.point_bound } }
+        requires few { self.size + others.size ≤ most_nodes }
+        ensures value { result ≡ record {
+          depth = max self.depth others.depth;
+          size = self.size
+              + others.size;
+          point_bound = max self.point_bound others.point_bound;
+        } }
     {
         Measures {
             depth: self.depth.max(others.depth),
@@ -42,9 +47,14 @@ impl Measures {
 
     // Of a node over these trees.
     fn over(self) -> Measures
-        requires few { self.size < 262144 }
-        requires shallow { self.depth < 96 }
-        ensures value { result ≡ record { depth = 1 + self.depth; size = 1 + self.size; point_bound = self.point_bound } }
+        requires few { self.size < most_nodes }
+        requires shallow { self.depth < greatest_depth }
+        ensures value { result ≡ record {
+          depth = 1 + self.depth;
+          size = 1
+              + self.size;
+          point_bound = self.point_bound;
+        } }
     {
         Measures {
             depth: 1 + self.depth,
@@ -55,9 +65,14 @@ impl Measures {
 
     // Of a point over these trees.
     fn over_point(self, point: u32) -> Measures
-        requires few { self.size < 262144 }
-        requires shallow { self.depth < 96 }
-        ensures value { result ≡ record { depth = 1 + self.depth; size = 1 + self.size; point_bound = max (point + 1) self.point_bound } }
+        requires few { self.size < most_nodes }
+        requires shallow { self.depth < greatest_depth }
+        ensures value { result ≡ record {
+          depth = 1 + self.depth;
+          size = 1
+              + self.size;
+          point_bound = max (point + 1) self.point_bound;
+        } }
     {
         let Measures {
             depth,
@@ -75,9 +90,14 @@ impl Measures {
 /// The measures of a node's tree, in time linear in its size.
 #[cycle(measures)]
 pub(crate) fn measure(node: &Node) -> Measures
-    requires shallow { depth (tree_of node.now) ≤ 96 }
-    requires small { size (tree_of node.now) ≤ 262144 }
-    ensures value { result ≡ record { depth = depth (tree_of node.now); size = size (tree_of node.now); point_bound = point_bound (tree_of node.now) } }
+    requires shallow { depth (tree_of node.now) ≤ greatest_depth }
+    requires small { size (tree_of node.now) ≤ most_nodes }
+    ensures value { result ≡ record {
+      depth = depth (tree_of node.now);
+      size = size
+          (tree_of node.now);
+      point_bound = point_bound (tree_of node.now);
+    } }
 {
     match node {
         Node::Constant(_) | Node::Identity(_) | Node::Operation(_) => Measures::nothing().over(),
@@ -110,9 +130,16 @@ pub(crate) fn measure(node: &Node) -> Measures
 // The measures of the filters that are present.
 #[cycle(measures)]
 fn measure_filters(filters: &[Option<Arc<Node>>]) -> Measures
-    requires shallow { deepest (filters_of (filter_trees filters.now)) ≤ 96 }
-    requires small { total_size (filters_of (filter_trees filters.now)) ≤ 262144 }
-    ensures value { result ≡ record { depth = deepest (filters_of (filter_trees filters.now)); size = total_size (filters_of (filter_trees filters.now)); point_bound = greatest_bound (filters_of (filter_trees filters.now)) } }
+    requires shallow { deepest (filters_of (filter_trees filters.now)) ≤ greatest_depth }
+    requires small { total_size (filters_of (filter_trees filters.now)) ≤ most_nodes }
+    ensures value { result ≡ record {
+      depth = deepest
+          (filters_of (filter_trees filters.now));
+      size = total_size
+          (filters_of (filter_trees filters.now));
+      point_bound = greatest_bound
+          (filters_of (filter_trees filters.now));
+    } }
 {
     let mut all = Measures::nothing();
     for filter in filters {

@@ -7,13 +7,15 @@ ghost use Rattle.mh_tree.specs.Tree.{filters_of};
 ghost use Rattle.mh_tree.specs.TreeOf.{tree_of, filter_trees};
 ghost use Rattle.mh_tree.specs.TypeOf.{type_of, filtered_kinds};
 ghost use Rattle.mh_tree.specs.Typing.{IsTyped, AreTyped};
+ghost use Rattle.mh_type.specs.Limits.{most_parameters};
 
 use mh_type::{Kind, MethodType, Op, Value};
 use std::sync::Arc;
 
 /// A tree of combinators, one variant for each. A node owns its parts together with other nodes and
-/// handles. A node alone is no handle: `Handle` lends nodes of trees that are typed and within limits.
-#[derive(Drop)]
+/// handles. A node alone is no handle: `Handle` lends nodes of trees that are typed and within
+/// limits.
+#[derive(Debug, Drop)]
 pub enum Node {
     /// `MethodHandles.constant`.
     Constant(Value),
@@ -70,8 +72,8 @@ pub enum Node {
 }
 
 impl Node {
-    /// The type of the node's tree, which is typed, as that of each node of a handle's tree is. It is
-    /// computed from the parts, in time linear in the size.
+    /// The type of the node's tree, which is typed, as that of each node of a handle's tree is. It
+    /// is computed from the parts, in time linear in the size.
     pub fn method_type(&self) -> MethodType
         requires typed { (m : Signature) × IsTyped (tree_of self.now) m }
         ensures value { result ≡ type_of (tree_of self.now) }
@@ -125,9 +127,14 @@ impl Node {
 // The target's type with each filter's parameter in its place.
 #[cycle(types)]
 fn filtered_type(target: MethodType, position: usize, filters: &[Option<Arc<Node>>]) -> MethodType
-    requires typed { (new : List Kind) × AreTyped (filters_of (filter_trees filters.now)) (drop position target.parameters) new }
-    requires few { length target.parameters ≤ 16 }
-    ensures value { result ≡ record { ret = target.ret; parameters = filtered_kinds (filters_of (filter_trees filters.now)) position target.parameters } }
+    requires typed { (new : List Kind) × AreTyped (filters_of (filter_trees filters.now))
+        (drop position target.parameters) new }
+    requires few { length target.parameters ≤ most_parameters }
+    ensures value { result ≡ record {
+      ret = target.ret;
+      parameters = filtered_kinds
+          (filters_of (filter_trees filters.now)) position target.parameters;
+    } }
 {
     let mut made = target;
     for (index, filter) in filters.iter().enumerate() {
@@ -142,8 +149,12 @@ fn filtered_type(target: MethodType, position: usize, filters: &[Option<Arc<Node
 // The type with another kind of one parameter.
 pub(crate) fn with_parameter(method_type: &MethodType, place: usize, kind: Kind) -> MethodType
     requires inside { place < length method_type.now.parameters }
-    requires few { length method_type.now.parameters ≤ 16 }
-    ensures value { result ≡ record { ret = method_type.now.ret; parameters = slice_set method_type.now.parameters place kind } }
+    requires few { length method_type.now.parameters ≤ most_parameters }
+    ensures value { result ≡ record {
+      ret = method_type.now.ret;
+      parameters = slice_set
+          method_type.now.parameters place kind;
+    } }
 {
     let Ok(made) = method_type.remove(place, 1).insert(place, &[kind]) else {
         unreachable!()

@@ -3,7 +3,7 @@
 use mh_type::Value;
 
 /// Where a value stands.
-#[derive(Drop)]
+#[derive(Debug, Drop)]
 pub enum Operand {
     /// An argument of the call.
     Argument(u32),

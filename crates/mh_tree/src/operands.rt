@@ -5,8 +5,8 @@ ghost use Rattle.std.specs.List.{range_with_len};
 ghost use Rattle.mh_tree.specs.declared.operand.Operand.TheVariants.{Argument, Constant, Local};
 ghost use Rattle.mh_tree.specs.Prepared.{operand_at};
 
-use crate::fault::NoMemory;
 use crate::operand::Operand;
+use mh_base::NoMemory;
 use mh_type::Value;
 use std::alloc::Global;
 
@@ -70,7 +70,8 @@ pub(crate) fn put_in(
     position: usize,
     values: &[Value],
 ) -> Result<Vec<Operand>, NoMemory>
-    ensures value { IfOk result (λ v. v.items ≡ take position operands.now ++ (map Constant values.now ++ drop position operands.now)) }
+    ensures value { IfOk result (λ v. v.items ≡ take position operands.now
+        ++ (map Constant values.now ++ drop position operands.now)) }
 {
     let (before, after) = parts(operands, position);
     let mut list = Vec::new(alloc);
@@ -87,7 +88,8 @@ pub(crate) fn taken_out(
     position: usize,
     count: usize,
 ) -> Result<Vec<Operand>, NoMemory>
-    ensures value { IfOk result (λ v. v.items ≡ take position operands.now ++ drop (position + count) operands.now) }
+    ensures value { IfOk result (λ v. v.items ≡ take position operands.now ++ drop
+        (position + count) operands.now) }
 {
     let mut list = Vec::new(alloc);
     append(&mut list, parts(operands, position).0)?;

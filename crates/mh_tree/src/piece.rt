@@ -4,9 +4,9 @@ use crate::operand::Operand;
 use mh_type::Op;
 use std::sync::Arc;
 
-/// A piece of prepared code. It owns its parts together with other pieces. Each counts the nodes of the
-/// tree that are entered with it, the nodes above it that only move arguments included.
-#[derive(Drop)]
+/// A piece of prepared code. It owns its parts together with other pieces. Each counts the nodes of
+/// the tree that are entered with it, the nodes above it that only move arguments included.
+#[derive(Debug, Drop)]
 pub enum Piece {
     /// The value of an operand.
     Leaf {

@@ -8,17 +8,19 @@ ghost use Rattle.mh_tree.specs.Constructors.{Refuses, guard_made, point_made};
 ghost use Rattle.mh_tree.specs.Handle.{IsSound};
 ghost use Rattle.mh_tree.specs.Prepared.{handle_code};
 
-use crate::fault::{NoMemory, TreeFault};
+use crate::fault::TreeFault;
 use crate::handle::Handle;
 use crate::operands::arguments;
 use crate::piece::Piece;
 use crate::preparing::{owned, prepare};
+use mh_base::NoMemory;
 use std::alloc::Global;
+use std::fmt;
 use std::marker::Model;
 use std::sync::Arc;
 
-/// A handle and its prepared code, in which moved arguments vanish and each leaf names its operands. A
-/// clone of it is `share`, which copies no code.
+/// A handle and its prepared code, in which moved arguments vanish and each leaf names its
+/// operands. A clone of it is `share`, which copies no code.
 ///
 /// A contract sees the handle's tree and type. That the code is the tree's is the invariant.
 #[derive(Drop)]
@@ -43,6 +45,13 @@ impl Model for Prepared {
     ghost invariant = { IsPrepared };
 }
 
+/// As its handle.
+impl fmt::Debug for Prepared {
+    fn fmt<W: fmt::Write>(&self, f: &mut fmt::Formatter<W>) -> fmt::Result {
+        write!(f, "Prepared({:?})", self.handle())
+    }
+}
+
 impl Prepared {
     /// The handle with its code, in time linear in the tree's size. Refused with `NoMemory` alone.
     pub fn new(handle: &Handle) -> Result<Prepared, TreeFault>
@@ -56,8 +65,9 @@ impl Prepared {
         Ok(Prepared { handle, code })
     }
 
-    /// The target where the test gives true, and else the fallback: what `Handle::guard` makes of the
-    /// three handles, with its refusals. It takes the code of its parts as it is, in constant time.
+    /// The target where the test gives true, and else the fallback: what `Handle::guard` makes of
+    /// the three handles, with its refusals. It takes the code of its parts as it is, in constant
+    /// time.
     pub fn guard(
         alloc: Global,
         test: &Prepared,
@@ -65,15 +75,16 @@ impl Prepared {
         fallback: &Prepared,
     ) -> Result<Prepared, TreeFault>
         ensures value { IfOk result (λ p. guard_made test.now target.now fallback.now ≡ Ok p) }
-        ensures refused { IfErr result (λ e. Refuses e (guard_made test.now target.now fallback.now)) }
+        ensures refused { IfErr result (λ e. Refuses e
+            (guard_made test.now target.now fallback.now)) }
     {
         let handle = Handle::guard(alloc, &test.handle, &target.handle, &fallback.handle)?;
         let code = guard_code(alloc, test, target, fallback)?;
         Ok(Prepared { handle, code })
     }
 
-    /// The target while a point is valid, and else the fallback: what `Handle::point` makes of the two
-    /// handles, with its refusals. It takes the code of its parts as it is, in constant time.
+    /// The target while a point is valid, and else the fallback: what `Handle::point` makes of the
+    /// two handles, with its refusals. It takes the code of its parts as it is, in constant time.
     pub fn point(
         alloc: Global,
         point: u32,
@@ -139,7 +150,8 @@ fn guard_code(
     target: &Prepared,
     fallback: &Prepared,
 ) -> Result<Arc<Piece>, TreeFault>
-    ensures value { IfOk result (λ a. code_of (arc_value a) ≡ branch 1 (handle_code test.now) (handle_code target.now) (handle_code fallback.now)) }
+    ensures value { IfOk result (λ a. code_of (arc_value a) ≡ branch 1 (handle_code test.now)
+        (handle_code target.now) (handle_code fallback.now)) }
     ensures refused { IfErr result (λ e. e ≡ TreeFault.NoMemory) }
 {
     let code = Piece::Branch {
@@ -158,7 +170,8 @@ fn point_code(
     target: &Prepared,
     fallback: &Prepared,
 ) -> Result<Arc<Piece>, TreeFault>
-    ensures value { IfOk result (λ a. code_of (arc_value a) ≡ switch 1 point (handle_code target.now) (handle_code fallback.now)) }
+    ensures value { IfOk result (λ a. code_of (arc_value a) ≡ switch 1 point
+        (handle_code target.now) (handle_code fallback.now)) }
     ensures refused { IfErr result (λ e. e ≡ TreeFault.NoMemory) }
 {
     let code = Piece::Point {

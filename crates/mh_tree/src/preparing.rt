@@ -3,7 +3,7 @@
 ghost use Rattle.std.specs.Prelude.{◌≡◌, ◌+◌, ◌≤◌, ◌<◌, ◌∷◌, [], take, length, IfOk};
 ghost use Rattle.std.specs.Arc.{arc_value};
 ghost use Rattle.mh_type.specs.Operations.{op_signature};
-ghost use Rattle.mh_tree.specs.Limits.{size, total_size};
+ghost use Rattle.mh_tree.specs.Limits.{size, total_size, most_nodes};
 ghost use Rattle.mh_tree.specs.Tree.{filters_of};
 ghost use Rattle.mh_tree.specs.TreeOf.{tree_of, filter_trees};
 ghost use Rattle.mh_tree.specs.CodeOf.{code_of};
@@ -11,11 +11,11 @@ ghost use Rattle.mh_tree.specs.Code.{leaf as leaf_code, apply as apply_code, bin
 ghost use Rattle.mh_tree.specs.Prepared.{operand_at, prepared, prepared_filters};
 ghost use Rattle.mh_tree.specs.declared.operand.Operand.TheVariants.{Constant, Local};
 
-use crate::fault::NoMemory;
 use crate::node::Node;
 use crate::operand::Operand;
 use crate::operands::{at, local_first, parts, put_in, reordered, taken_out, with_local};
 use crate::piece::Piece;
+use mh_base::NoMemory;
 use mh_type::{Op, Value};
 use std::alloc::Global;
 use std::sync::Arc;
@@ -29,9 +29,10 @@ pub(crate) fn prepare(
     depth: u32,
     before: u32,
 ) -> Result<Piece, NoMemory>
-    requires few { before + size (tree_of node.now) ≤ 262144 }
-    requires low { depth + size (tree_of node.now) ≤ 262144 }
-    ensures value { IfOk result (λ p. code_of p ≡ prepared (tree_of node.now) operands.now depth before) }
+    requires few { before + size (tree_of node.now) ≤ most_nodes }
+    requires low { depth + size (tree_of node.now) ≤ most_nodes }
+    ensures value { IfOk result (λ p. code_of p ≡ prepared
+        (tree_of node.now) operands.now depth before) }
 {
     match node {
         Node::Constant(value) => constant(value, before + 1),
@@ -133,9 +134,13 @@ fn prepare_filters(
     depth: u32,
     steps: u32,
 ) -> Result<Piece, NoMemory>
-    requires few { steps + (total_size (filters_of (filter_trees filters.now)) + size (tree_of target.now)) ≤ 262144 }
-    requires low { depth + (total_size (filters_of (filter_trees filters.now)) + size (tree_of target.now)) ≤ 262144 }
-    ensures value { IfOk result (λ p. code_of p ≡ prepared_filters (filters_of (filter_trees filters.now)) position operands.now depth steps (prepared (tree_of target.now))) }
+    requires few { steps + (total_size (filters_of (filter_trees filters.now)) + size
+        (tree_of target.now)) ≤ most_nodes }
+    requires low { depth + (total_size (filters_of (filter_trees filters.now)) + size
+        (tree_of target.now)) ≤ most_nodes }
+    ensures value { IfOk result (λ p. code_of p ≡ prepared_filters
+        (filters_of (filter_trees filters.now)) position operands.now depth steps
+        (prepared (tree_of target.now))) }
 {
     let Some((filter, rest)) = filters.split_first() else {
         return prepare(alloc, target, operands, depth, steps);
@@ -164,9 +169,11 @@ fn prepare_return(
     depth: u32,
     steps: u32,
 ) -> Result<Piece, NoMemory>
-    requires few { size (tree_of target.now) + size (tree_of last.now) < 262144 }
-    requires low { depth + (size (tree_of target.now) + size (tree_of last.now)) < 262144 }
-    ensures value { IfOk result (λ p. code_of p ≡ bind_code steps (prepared (tree_of target.now) operands.now depth 0) (prepared (tree_of last.now) (Local depth ∷ []) (depth + 1) 0)) }
+    requires few { size (tree_of target.now) + size (tree_of last.now) < most_nodes }
+    requires low { depth + (size (tree_of target.now) + size (tree_of last.now)) < most_nodes }
+    ensures value { IfOk result (λ p. code_of p ≡ bind_code steps
+        (prepared (tree_of target.now) operands.now depth 0)
+        (prepared (tree_of last.now) (Local depth ∷ []) (depth + 1) 0)) }
 {
     let first = prepare(alloc, target, operands, depth, 0)?;
     let then = prepare(alloc, last, &[Operand::Local(depth)], depth + 1, 0)?;
@@ -183,9 +190,11 @@ fn prepare_fold(
     depth: u32,
     steps: u32,
 ) -> Result<Piece, NoMemory>
-    requires few { size (tree_of target.now) + size (tree_of combiner.now) < 262144 }
-    requires low { depth + (size (tree_of target.now) + size (tree_of combiner.now)) < 262144 }
-    ensures value { IfOk result (λ p. code_of p ≡ bind_code steps (prepared (tree_of combiner.now) operands.now depth 0) (prepared (tree_of target.now) (Local depth ∷ operands.now) (depth + 1) 0)) }
+    requires few { size (tree_of target.now) + size (tree_of combiner.now) < most_nodes }
+    requires low { depth + (size (tree_of target.now) + size (tree_of combiner.now)) < most_nodes }
+    ensures value { IfOk result (λ p. code_of p ≡ bind_code steps
+        (prepared (tree_of combiner.now) operands.now depth 0)
+        (prepared (tree_of target.now) (Local depth ∷ operands.now) (depth + 1) 0)) }
 {
     let first = prepare(alloc, combiner, operands, depth, 0)?;
     let inner = local_first(alloc, depth, operands)?;
@@ -204,9 +213,14 @@ fn prepare_guard(
     depth: u32,
     steps: u32,
 ) -> Result<Piece, NoMemory>
-    requires few { size (tree_of test.now) + (size (tree_of target.now) + size (tree_of fallback.now)) ≤ 262144 }
-    requires low { depth + (size (tree_of test.now) + (size (tree_of target.now) + size (tree_of fallback.now))) ≤ 262144 }
-    ensures value { IfOk result (λ p. code_of p ≡ branch_code steps (prepared (tree_of test.now) operands.now depth 0) (prepared (tree_of target.now) operands.now depth 0) (prepared (tree_of fallback.now) operands.now depth 0)) }
+    requires few { size (tree_of test.now) + (size (tree_of target.now) + size
+        (tree_of fallback.now)) ≤ most_nodes }
+    requires low { depth + (size (tree_of test.now)
+        + (size (tree_of target.now) + size (tree_of fallback.now))) ≤ most_nodes }
+    ensures value { IfOk result (λ p. code_of p ≡ branch_code steps
+        (prepared (tree_of test.now) operands.now depth 0)
+        (prepared (tree_of target.now) operands.now depth 0)
+        (prepared (tree_of fallback.now) operands.now depth 0)) }
 {
     let test = prepare(alloc, test, operands, depth, 0)?;
     let target = prepare(alloc, target, operands, depth, 0)?;
@@ -230,9 +244,11 @@ fn prepare_point(
     depth: u32,
     steps: u32,
 ) -> Result<Piece, NoMemory>
-    requires few { size (tree_of target.now) + size (tree_of fallback.now) ≤ 262144 }
-    requires low { depth + (size (tree_of target.now) + size (tree_of fallback.now)) ≤ 262144 }
-    ensures value { IfOk result (λ p. code_of p ≡ switch_code steps point (prepared (tree_of target.now) operands.now depth 0) (prepared (tree_of fallback.now) operands.now depth 0)) }
+    requires few { size (tree_of target.now) + size (tree_of fallback.now) ≤ most_nodes }
+    requires low { depth + (size (tree_of target.now) + size (tree_of fallback.now)) ≤ most_nodes }
+    ensures value { IfOk result (λ p. code_of p ≡ switch_code steps point
+        (prepared (tree_of target.now) operands.now depth 0)
+        (prepared (tree_of fallback.now) operands.now depth 0)) }
 {
     let target = prepare(alloc, target, operands, depth, 0)?;
     let fallback = prepare(alloc, fallback, operands, depth, 0)?;

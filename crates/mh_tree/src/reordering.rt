@@ -27,8 +27,8 @@ impl Handle {
     /// `int 65536`, whose square wraps (JLS SE 17, 15.17.1).
     ///
     /// *Refusals*: `BadReorder` where the reordering has not one entry for each parameter of the
-    /// target, or names no parameter of the new type; `TypeMismatch` where the returns or the kinds of
-    /// a parameter and of what is passed there differ; `TooDeep`, `TooLarge`, and `NoMemory`.
+    /// target, or names no parameter of the new type; `TypeMismatch` where the returns or the kinds
+    /// of a parameter and of what is passed there differ; `TooDeep`, `TooLarge`, and `NoMemory`.
     pub fn permute(
         alloc: Global,
         target: &Handle,
@@ -36,7 +36,8 @@ impl Handle {
         reorder: &[usize],
     ) -> Result<Handle, TreeFault>
         ensures value { IfOk result (λ h. permute_made target.now new_type.now reorder.now ≡ Ok h) }
-        ensures refused { IfErr result (λ e. Refuses e (permute_made target.now new_type.now reorder.now)) }
+        ensures refused { IfErr result (λ e. Refuses e
+            (permute_made target.now new_type.now reorder.now)) }
     {
         let method_type = permute_type(target, new_type, reorder)?;
         let root = Node::Permute {
@@ -55,10 +56,11 @@ fn permute_type(
     new_type: &MethodType,
     reorder: &[usize],
 ) -> Result<MethodType, TreeFault>
-    ensures value { MatchResult result
-        (λ m. permute_made target.now new_type.now reorder.now ≡ Ok (record { tree = permute_tree target.now.tree new_type.now reorder.now; signature = m }))
+    ensures value { MatchResult result (λ m. permute_made target.now new_type.now reorder.now ≡ Ok
+        (record { tree = permute_tree target.now.tree new_type.now reorder.now; signature = m }))
         (λ e. permute_made target.now new_type.now reorder.now ≡ Err e) }
-    ensures sound { IfOk result (λ m. IsSound (permute_tree target.now.tree new_type.now reorder.now) m) }
+    ensures sound { IfOk result (λ m. IsSound (permute_tree target.now.tree new_type.now
+        reorder.now) m) }
 {
     let old = target.method_type();
     if reorder.len() != old.count() {

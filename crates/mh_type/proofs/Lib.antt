@@ -1,4 +1,5 @@
-pub mod Laws
-pub mod Reading
-pub mod SameKind
-pub mod Texts
+mod Laws
+pub mod PublicLaws
+mod Reading
+mod SameKind
+mod Texts

@@ -1,6 +1,6 @@
 -- The four kinds of value, their names and their equality.
-use Rattle.std.specs.Prelude.{ℕ, Bool, true, false, ◌&&◌, List, [], ◌∷◌, Option, Some, None, codes, if◌then◌else◌}
-use Rattle.std.specs.Str.{bytes_eq}
+use Rattle.std.specs.Prelude.{ℕ, Bool, true, false, ◌&&◌, List, [], ◌∷◌, Option, Some, None, codes}
+use Rattle.mh_base.specs.Words.{at_word}
 use Rattle.mh_type.specs.declared.kind.Kind.{Kind}
 use Rattle.mh_type.specs.declared.kind.Kind.TheVariants as kind
 use Rattle.mh_type.specs.declared.value.Value.{Value}
@@ -20,13 +20,18 @@ kind_name kind.Long = codes "long"
 kind_name kind.Boolean = codes "boolean"
 kind_name kind.Text = codes "String"
 
+-- the kinds by their names
+abbrev pub kinds : List (List ℕ × Option Kind)
+kinds =
+    (codes "int", Some kind.Int)
+    ∷ (codes "long", Some kind.Long)
+    ∷ (codes "boolean", Some kind.Boolean)
+    ∷ (codes "String", Some kind.Text)
+    ∷ []
+
 -- the kind of a name
 abbrev pub kind_named : List ℕ → Option Kind
-kind_named name =
-    if bytes_eq name (codes "int") then Some kind.Int
-    else (if bytes_eq name (codes "long") then Some kind.Long
-    else (if bytes_eq name (codes "boolean") then Some kind.Boolean
-    else (if bytes_eq name (codes "String") then Some kind.Text else None)))
+kind_named name = at_word kinds name None
 
 -- whether two kinds are one, as a test that computes
 abbrev pub kind_eq : Kind → Kind → Bool

@@ -1,6 +1,8 @@
+pub mod Display
 pub mod Faults
 pub mod Fits
 pub mod Kinds
+pub mod Limits
 pub mod Operations
 pub mod Printable
 pub mod Signature

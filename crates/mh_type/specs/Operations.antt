@@ -3,6 +3,7 @@ use Rattle.std.specs.Prelude.{ℕ, ◌+◌, ℤ, pos, ◌+ℤ◌, ◌-ℤ◌, �
 use Rattle.std.specs.Int.{int_wrap, int_wrapping_div, w32, w64}
 use Rattle.std.specs.Int.RustNames.{int_rem}
 use Rattle.std.specs.Str.{bytes_eq}
+use Rattle.mh_base.specs.Words.{at_word}
 use Rattle.mh_type.specs.declared.kind.Kind.{Kind}
 use Rattle.mh_type.specs.declared.kind.Kind.TheVariants as kind
 use Rattle.mh_type.specs.declared.value.Value.{Value}
@@ -13,33 +14,39 @@ use Rattle.mh_type.specs.declared.outcome.Throw.TheVariants.{ArithmeticException
 use Rattle.mh_type.specs.declared.operation.Op.{Op}
 use Rattle.mh_type.specs.declared.operation.Op.TheVariants.{Iadd, Isub, Imul, Idiv, Irem, Ineg, Ieq, Ilt, Ladd, Lsub, Lmul, Ldiv, Lrem, Lneg, Leq, Llt, I2l, L2i, Not, Beq, Concat, Seq, Len}
 use Rattle.mh_type.specs.Signature.{Signature}
+use Rattle.mh_type.specs.Limits.{longest_text}
+
+-- the operations by their names
+abbrev pub operations : List (List ℕ × Option Op)
+operations =
+    (codes "iadd", Some Iadd)
+    ∷ (codes "isub", Some Isub)
+    ∷ (codes "imul", Some Imul)
+    ∷ (codes "idiv", Some Idiv)
+    ∷ (codes "irem", Some Irem)
+    ∷ (codes "ineg", Some Ineg)
+    ∷ (codes "ieq", Some Ieq)
+    ∷ (codes "ilt", Some Ilt)
+    ∷ (codes "ladd", Some Ladd)
+    ∷ (codes "lsub", Some Lsub)
+    ∷ (codes "lmul", Some Lmul)
+    ∷ (codes "ldiv", Some Ldiv)
+    ∷ (codes "lrem", Some Lrem)
+    ∷ (codes "lneg", Some Lneg)
+    ∷ (codes "leq", Some Leq)
+    ∷ (codes "llt", Some Llt)
+    ∷ (codes "i2l", Some I2l)
+    ∷ (codes "l2i", Some L2i)
+    ∷ (codes "not", Some Not)
+    ∷ (codes "beq", Some Beq)
+    ∷ (codes "concat", Some Concat)
+    ∷ (codes "seq", Some Seq)
+    ∷ (codes "len", Some Len)
+    ∷ []
 
 -- the operation of a name
 abbrev pub op_named : List ℕ → Option Op
-op_named name =
-    if bytes_eq name (codes "iadd") then Some Iadd
-    else (if bytes_eq name (codes "isub") then Some Isub
-    else (if bytes_eq name (codes "imul") then Some Imul
-    else (if bytes_eq name (codes "idiv") then Some Idiv
-    else (if bytes_eq name (codes "irem") then Some Irem
-    else (if bytes_eq name (codes "ineg") then Some Ineg
-    else (if bytes_eq name (codes "ieq") then Some Ieq
-    else (if bytes_eq name (codes "ilt") then Some Ilt
-    else (if bytes_eq name (codes "ladd") then Some Ladd
-    else (if bytes_eq name (codes "lsub") then Some Lsub
-    else (if bytes_eq name (codes "lmul") then Some Lmul
-    else (if bytes_eq name (codes "ldiv") then Some Ldiv
-    else (if bytes_eq name (codes "lrem") then Some Lrem
-    else (if bytes_eq name (codes "lneg") then Some Lneg
-    else (if bytes_eq name (codes "leq") then Some Leq
-    else (if bytes_eq name (codes "llt") then Some Llt
-    else (if bytes_eq name (codes "i2l") then Some I2l
-    else (if bytes_eq name (codes "l2i") then Some L2i
-    else (if bytes_eq name (codes "not") then Some Not
-    else (if bytes_eq name (codes "beq") then Some Beq
-    else (if bytes_eq name (codes "concat") then Some Concat
-    else (if bytes_eq name (codes "seq") then Some Seq
-    else (if bytes_eq name (codes "len") then Some Len else None))))))))))))))))))))))
+op_named name = at_word operations name None
 
 -- from two parameters of a kind, and from one
 abbrev pub two : Kind → Kind → Signature
@@ -148,7 +155,7 @@ divided make by x y = if is_zero y then outcome.Thrown ArithmeticException else 
 
 -- one text and then the other (15.18.1), and a throw past 65,536 bytes
 abbrev pub joined : List ℕ → List ℕ → Outcome
-joined s t = if nat_le (length s + length t) 65536 then outcome.Value (Text (s ++ t)) else outcome.Thrown TextTooLong
+joined s t = if nat_le (length s + length t) longest_text then outcome.Value (Text (s ++ t)) else outcome.Thrown TextTooLong
 
 -- The outcome of an operation on arguments, of which it reads the leading ones. `int_wrapping_div` is the
 -- quotient truncated towards zero and wrapped, so the least value by -1 is the least value (15.17.2);

@@ -3,12 +3,13 @@ use Rattle.std.specs.Prelude.{◌≡◌, ◌⊎◌, ℕ, ◌+◌, ◌<◌, ◌�
 use Rattle.std.specs.List.{All, list_all}
 use Rattle.mh_type.specs.declared.fault.TypeFault.{TypeFault}
 use Rattle.mh_type.specs.declared.fault.TypeFault.TheVariants.{NoMemory, BadText}
+use Rattle.mh_type.specs.Limits.{longest_text}
 
 abbrev pub IsPrintable : ℕ → Type 0
 IsPrintable byte = (0x20 ≤ byte) × (byte ≤ 0x7E)
 
 pub record IsText (bytes : List ℕ) : Type 0 where
-  pub short : length bytes ≤ 65536
+  pub short : length bytes ≤ longest_text
   pub printable : All IsPrintable bytes
 
 -- the same as a test that computes
@@ -16,7 +17,7 @@ abbrev pub is_printable : ℕ → Bool
 is_printable byte = nat_le 0x20 byte && nat_le byte 0x7E
 
 abbrev pub is_text : List ℕ → Bool
-is_text bytes = nat_le (length bytes) 65536 && list_all is_printable bytes
+is_text bytes = nat_le (length bytes) longest_text && list_all is_printable bytes
 
 -- what a text of these bytes may be refused with: memory comes last
 abbrev pub RefusesText : List ℕ → TypeFault → Type 0
@@ -25,4 +26,4 @@ RefusesText bytes e = ((e ≡ BadText) × (is_text bytes ≡ false)) ⊎ ((e ≡
 -- what the text of one and then another may be refused with: memory comes last
 abbrev pub RefusesConcat : List ℕ → List ℕ → TypeFault → Type 0
 RefusesConcat s t e =
-    ((e ≡ BadText) × (65536 < length s + length t)) ⊎ ((e ≡ NoMemory) × (length s + length t ≤ 65536))
+    ((e ≡ BadText) × (longest_text < length s + length t)) ⊎ ((e ≡ NoMemory) × (length s + length t ≤ longest_text))

@@ -6,6 +6,7 @@ use Rattle.mh_type.specs.declared.fault.TypeFault.{TypeFault}
 use Rattle.mh_type.specs.declared.fault.TypeFault.TheVariants.{TooManyParameters, BadText}
 use Rattle.mh_type.specs.Kinds.{kind_name, kind_named}
 use Rattle.mh_type.specs.Signature.{Signature}
+use Rattle.mh_type.specs.Limits.{most_parameters}
 
 -- the names of kinds with commas between them
 abbrev pub listed : List Kind → List ℕ
@@ -38,7 +39,7 @@ kinds_listed (b ∷ bs) = kinds_named (slice_split (λ c. c == 44) (b ∷ bs))
 -- the limit on parameters
 abbrev pub within_parameters : Option Signature → Result Signature TypeFault
 within_parameters None = Err BadText
-within_parameters (Some m) = if nat_le (length m.parameters) 16 then Ok m else Err TooManyParameters
+within_parameters (Some m) = if nat_le (length m.parameters) most_parameters then Ok m else Err TooManyParameters
 
 -- the type with this return kind and the parameters of a list
 abbrev pub with_list : Kind → List ℕ → Option Signature

@@ -4,11 +4,12 @@ ghost use Rattle.std.specs.Prelude.{[], ◌∷◌, ◌≡◌, ◌<◌, ◌≤◌
 ghost use Rattle.mh_type.specs.Kinds.{kinds_eq};
 ghost use Rattle.mh_type.specs.Signature.{Signature, signature_eq, with_parameters, without_parameters};
 ghost use Rattle.mh_type.specs.Written.{written};
+ghost use Rattle.mh_type.specs.Limits.{most_parameters};
 
 use crate::fault::TypeFault;
 use crate::kind::Kind;
-use crate::written::written_type;
 use std::alloc::Global;
+use std::fmt;
 use std::marker::Model;
 
 /// The greatest number of parameters.
@@ -25,20 +26,23 @@ pub struct MethodType {
 
 impl Model for MethodType {
     ghost use Rattle.std.specs.Prelude.{◌≡◌, take, length, ◌≤◌};
+    ghost use Rattle.mh_type.specs.Limits.{most_parameters};
     ghost use Rattle.mh_type.specs.Signature.{Signature};
 
     ghost Value = { Signature };
 
     ghost view = { λ m. record { ret = m.result_kind; parameters = take m.count m.kinds } };
 
-    ghost invariant = { λ m. (m.count ≤ 16) × (length m.kinds ≡ 16) };
+    ghost invariant = { λ m. (m.count ≤ most_parameters) × (length m.kinds ≡ most_parameters) };
 }
 
 impl MethodType {
     /// The type of these parts.
     pub fn new(ret: Kind, parameters: &[Kind]) -> Result<MethodType, TypeFault>
-        ensures value { IfOk result (λ m. (m ≡ record { ret = ret; parameters = parameters.now }) × (length parameters.now ≤ 16)) }
-        ensures refused { IfErr result (λ e. (e ≡ TypeFault.TooManyParameters) × (16 < length parameters.now)) }
+        ensures value { IfOk result (λ m. (m ≡ record { ret = ret; parameters = parameters.now })
+            × (length parameters.now ≤ most_parameters)) }
+        ensures refused { IfErr result (λ e. (e ≡ TypeFault.TooManyParameters)
+            × (most_parameters < length parameters.now)) }
     {
         if parameters.len() > MOST_PARAMETERS {
             return Err(TypeFault::TooManyParameters);
@@ -50,8 +54,12 @@ impl MethodType {
 
     // One more parameter at the end.
     pub(crate) fn push(&mut self, kind: Kind)
-        requires inside { length self.old.parameters < 16 }
-        ensures value { self.new ≡ record { ret = self.old.ret; parameters = self.old.parameters ++ kind ∷ [] } }
+        requires inside { length self.old.parameters < most_parameters }
+        ensures value { self.new ≡ record {
+          ret = self.old.ret;
+          parameters = self.old.parameters
+              ++ kind ∷ [];
+        } }
     {
         self.kinds[self.count] = kind;
         self.count += 1;
@@ -59,8 +67,12 @@ impl MethodType {
 
     // More parameters at the end.
     fn extend(&mut self, kinds: &[Kind])
-        requires inside { length self.old.parameters + length kinds.now ≤ 16 }
-        ensures value { self.new ≡ record { ret = self.old.ret; parameters = self.old.parameters ++ kinds.now } }
+        requires inside { length self.old.parameters + length kinds.now ≤ most_parameters }
+        ensures value { self.new ≡ record {
+          ret = self.old.ret;
+          parameters = self.old.parameters
+              ++ kinds.now;
+        } }
     {
         for kind in kinds {
             self.push(*kind);
@@ -88,7 +100,7 @@ impl MethodType {
     /// The number of parameters.
     pub fn count(&self) -> usize
         ensures value { result ≡ length self.now.parameters }
-        ensures few { length self.now.parameters ≤ 16 }
+        ensures few { length self.now.parameters ≤ most_parameters }
     {
         self.parameters().len()
     }
@@ -104,7 +116,7 @@ impl MethodType {
     /// The kinds of the parameters.
     pub fn parameters(&self) -> &[Kind]
         ensures value { result.now ≡ self.now.parameters }
-        ensures few { length self.now.parameters ≤ 16 }
+        ensures few { length self.now.parameters ≤ most_parameters }
     {
         &self.kinds[..self.count]
     }
@@ -112,8 +124,11 @@ impl MethodType {
     /// The type with these parameters put in before the place.
     pub fn insert(&self, place: usize, more: &[Kind]) -> Result<MethodType, TypeFault>
         requires inside { place ≤ length self.now.parameters }
-        ensures value { IfOk result (λ m. (m ≡ record { ret = self.now.ret; parameters = with_parameters self.now.parameters place more.now }) × (length self.now.parameters + length more.now ≤ 16)) }
-        ensures refused { IfErr result (λ e. (e ≡ TypeFault.TooManyParameters) × (16 < length self.now.parameters + length more.now)) }
+        ensures value { IfOk result (λ m. (m ≡ record
+            { ret = self.now.ret; parameters = with_parameters self.now.parameters place more.now })
+            × (length self.now.parameters + length more.now ≤ most_parameters)) }
+        ensures refused { IfErr result (λ e. (e ≡ TypeFault.TooManyParameters)
+            × (most_parameters < length self.now.parameters + length more.now)) }
     {
         if more.len() > MOST_PARAMETERS - self.count {
             return Err(TypeFault::TooManyParameters);
@@ -129,7 +144,11 @@ impl MethodType {
     /// The type without so many parameters from the place on.
     pub fn remove(&self, place: usize, count: usize) -> MethodType
         requires inside { place + count ≤ length self.now.parameters }
-        ensures value { result ≡ record { ret = self.now.ret; parameters = without_parameters self.now.parameters place count } }
+        ensures value { result ≡ record {
+          ret = self.now.ret;
+          parameters = without_parameters
+              self.now.parameters place count;
+        } }
     {
         let kinds = self.parameters();
         let mut made = MethodType::nullary(self.result_kind);
@@ -163,10 +182,7 @@ impl MethodType {
         ensures value { IfOk result (λ s. string_bytes s ≡ written self.now) }
         ensures refused { IfErr result (λ e. e ≡ TypeFault.NoMemory) }
     {
-        match written_type(alloc, self.ret(), self.parameters()) {
-            Ok(text) => Ok(text),
-            Err(_) => Err(TypeFault::NoMemory),
-        }
+        format!(in alloc; "{self}").map_err(|_| TypeFault::NoMemory)
     }
 
     /// The type with no parameters.
@@ -195,6 +211,43 @@ impl MethodType {
         ensures same { IsTrue result ↔ (first.now ≡ take (length first.now) self.now.parameters) }
     {
         begins_with(self.parameters(), first)
+    }
+}
+
+impl PartialEq for MethodType {
+    ghost use Rattle.std.specs.Prelude.{◌&&◌};
+    ghost use Rattle.std.proofs.Common.{rules};
+    ghost use Rattle.std.specs.Cmp.{and_per, on_per};
+    ghost use Rattle.std.specs.Cmp.Rules.{comparing};
+    ghost use Rattle.std.specs.Cmp.Lexicographic.{pointwise, lists_per};
+    ghost use Rattle.mh_type.specs.contracts.kind.KindPartialEq.TheImpl.{eq-value};
+
+    ghost eq = { λ m n. eq-value.it m.ret n.ret && pointwise eq-value.it m.parameters n.parameters };
+
+    ghost laws = { and_per
+        (on_per (λ m. m.ret) (Prim.search (comparing, rules)))
+        (on_per (λ m. m.parameters) (lists_per (Prim.search (comparing, rules)))) };
+
+    fn eq(&self, other: &MethodType) -> bool {
+        self.result_kind == other.result_kind && self.parameters() == other.parameters()
+    }
+}
+
+impl Eq for MethodType {
+    ghost use Rattle.std.proofs.Common.{rules};
+    ghost use Rattle.std.specs.Cmp.{and_equiv, on_equiv};
+    ghost use Rattle.std.specs.Cmp.Rules.{comparing};
+    ghost use Rattle.std.specs.Cmp.Lexicographic.{lists_equiv};
+
+    ghost laws = { and_equiv
+        (on_equiv (λ m. m.ret) (Prim.search (comparing, rules)))
+        (on_equiv (λ m. m.parameters) (lists_equiv (Prim.search (comparing, rules)))) };
+}
+
+/// The text of the type, as `Display` writes it.
+impl fmt::Debug for MethodType {
+    fn fmt<W: fmt::Write>(&self, f: &mut fmt::Formatter<W>) -> fmt::Result {
+        write!(f, "{self}")
     }
 }
 

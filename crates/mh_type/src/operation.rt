@@ -1,7 +1,8 @@
 //! The leaf operations.
 
-ghost use Rattle.std.specs.Prelude.{◌≡◌, [], ◌∷◌};
+ghost use Rattle.std.specs.Prelude.{◌≡◌, [], ◌∷◌, Some};
 ghost use Rattle.mh_type.specs.Operations.{op_signature, op_named};
+ghost use Rattle.mh_type.specs.Display.{op_name};
 
 use crate::kind::Kind;
 use crate::method_type::MethodType;
@@ -38,6 +39,38 @@ pub enum Op {
 }
 
 impl Op {
+    /// The name of the operation, as `iadd`, of which `from_name` gives the operation.
+    pub fn name(self) -> &'static str
+        ensures value { result.now ≡ op_name self }
+        ensures read { op_named result.now ≡ Some self }
+    {
+        match self {
+            Op::Iadd => "iadd",
+            Op::Isub => "isub",
+            Op::Imul => "imul",
+            Op::Idiv => "idiv",
+            Op::Irem => "irem",
+            Op::Ineg => "ineg",
+            Op::Ieq => "ieq",
+            Op::Ilt => "ilt",
+            Op::Ladd => "ladd",
+            Op::Lsub => "lsub",
+            Op::Lmul => "lmul",
+            Op::Ldiv => "ldiv",
+            Op::Lrem => "lrem",
+            Op::Lneg => "lneg",
+            Op::Leq => "leq",
+            Op::Llt => "llt",
+            Op::I2l => "i2l",
+            Op::L2i => "l2i",
+            Op::Not => "not",
+            Op::Beq => "beq",
+            Op::Concat => "concat",
+            Op::Seq => "seq",
+            Op::Len => "len",
+        }
+    }
+
     /// The operation of a name, as `iadd`, or none.
     pub fn from_name(name: &str) -> Option<Op>
         ensures value { result ≡ op_named name.now }

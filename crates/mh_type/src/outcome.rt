@@ -12,7 +12,7 @@ pub enum Throw {
 }
 
 /// A value or a throw.
-#[derive(Drop)]
+#[derive(Debug, PartialEq, Eq, Drop)]
 pub enum Outcome {
     Value(Value),
     Thrown(Throw),

@@ -2,9 +2,11 @@
 
 ghost use Rattle.std.specs.Prelude.{◌≡◌, ◌≤◌, ◌+◌, ◌++◌, ◌↔◌, length, true, IsTrue, IfOk, IfErr, OnOk};
 ghost use Rattle.mh_type.specs.Printable.{IsText, RefusesText, RefusesConcat, is_text as is_text_bytes};
+ghost use Rattle.mh_type.specs.Limits.{longest_text};
 
 use crate::fault::TypeFault;
 use std::alloc::Global;
+use std::fmt;
 use std::marker::Model;
 use std::sync::Arc;
 
@@ -49,12 +51,12 @@ impl Text {
 
     /// One text and then another, whose bytes are written once, into room for just so many.
     ///
-    /// Refused with `BadText` exactly where they are more than 65,536 together, and else with `NoMemory`
-    /// alone, where a growth was refused.
+    /// Refused with `BadText` exactly where they are more than 65,536 together, and else with
+    /// `NoMemory` alone, where a growth was refused.
     #[tactic(auto, using(crate::proofs::Texts::concat_is_text))]
     pub fn concat(alloc: Global, some: &Text, more: &Text) -> Result<Text, TypeFault>
         ensures value { IfOk result (λ t. t ≡ some.now ++ more.now) }
-        ensures short { OnOk result (length some.now + length more.now ≤ 65536) }
+        ensures short { OnOk result (length some.now + length more.now ≤ longest_text) }
         ensures refused { IfErr result (λ e. RefusesConcat some.now more.now e) }
     {
         let (some, more) = (some.as_str(), more.as_str());
@@ -85,6 +87,33 @@ impl Text {
     {
         let shared = &self.shared;
         shared.as_str()
+    }
+}
+
+impl PartialEq for Text {
+    ghost use Rattle.std.specs.Str.{bytes_eq};
+    ghost use Rattle.std.proofs.Common.{rules};
+    ghost use Rattle.std.specs.Cmp.Rules.{comparing};
+
+    ghost eq = { bytes_eq };
+
+    ghost laws = { Prim.search (comparing, rules) };
+
+    fn eq(&self, other: &Text) -> bool {
+        self.as_str() == other.as_str()
+    }
+}
+
+impl Eq for Text {
+    ghost use Rattle.std.proofs.Common.{rules};
+    ghost use Rattle.std.specs.Cmp.Rules.{comparing};
+
+    ghost laws = { Prim.search (comparing, rules) };
+}
+
+impl fmt::Debug for Text {
+    fn fmt<W: fmt::Write>(&self, f: &mut fmt::Formatter<W>) -> fmt::Result {
+        fmt::Debug::fmt(self.as_str(), f)
     }
 }
 

@@ -10,7 +10,7 @@ use crate::text::Text;
 use std::alloc::Global;
 
 /// A value.
-#[derive(Drop)]
+#[derive(Debug, PartialEq, Eq, Drop)]
 pub enum Value {
     Int(i32),
     Long(i64),
@@ -34,7 +34,8 @@ impl Value {
     /// The same value, of which a text gets another owner.
     pub fn share(&self) -> Result<Value, TypeFault>
         ensures value { IfOk result (λ v. v ≡ self.now) }
-        ensures refused { IfErr result (λ e. (e ≡ TypeFault.NoMemory) × (kind_of self.now ≡ Kind.Text)) }
+        ensures refused { IfErr result (λ e. (e ≡ TypeFault.NoMemory)
+            × (kind_of self.now ≡ Kind.Text)) }
     {
         Ok(match self {
             Value::Int(number) => Value::Int(*number),

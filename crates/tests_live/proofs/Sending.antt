@@ -1,6 +1,6 @@
 -- What the calls of several threads share may cross threads.
 use denote.Param.Send.{IsSync}
-use Rattle.mh_live.proofs.Sending.{plain}
+use Rattle.mh_live.proofs.PublicLaws.{plain}
 use Rattle.std.specs.contracts.sync.atomic.AtomicU64 as AtomicU64
 
 pub word_sync : IsSync AtomicU64.the_row

@@ -25,8 +25,8 @@ struct Called<N: Name> {
     right: bool,
 }
 
-/// What a call with 1 gives after so many retargetings, which by turns make the tree the successor and the
-/// negation that it was.
+/// What a call with 1 gives after so many retargetings, which by turns make the tree the successor
+/// and the negation that it was.
 fn after(retargetings: u64) -> CallAnswer {
     if retargetings % 2 == 0 {
         given(-1, 1, retargetings)
@@ -35,8 +35,8 @@ fn after(retargetings: u64) -> CallAnswer {
     }
 }
 
-/// Calls once, and answers whether it was by the tree of the front that is named, which is none before what
-/// the pass had seen.
+/// Calls once, and answers whether it was by the tree of the front that is named, which is none
+/// before what the pass had seen.
 fn is_right<N: Name>(pass: &mut Pass<N>) -> bool {
     let seen = pass.front().len();
     match call(pass, 1) {

@@ -7,7 +7,8 @@ use mh_type::{Outcome, Value};
 use std::sync::Wait;
 use std::test::Fail;
 
-/// What a call gave: a whole number, or None for any other outcome; the steps; and the number of controls.
+/// What a call gave: a whole number, or None for any other outcome; the steps; and the number of
+/// controls.
 #[derive(Clone, Copy, Debug, PartialEq, Eq)]
 pub(crate) struct CallAnswer {
     value: Option<i32>,
@@ -82,8 +83,8 @@ pub(crate) fn learn<N: Name>(pass: &mut Pass<N>, receipt: &Receipt<N>) -> u64 {
     receipt.front().len()
 }
 
-/// Fails with what was expected, where it does not hold. A scenario ends so, and asserts nothing: each assertion beside
-/// passes that are owned makes the proof long.
+/// Fails with what was expected, where it does not hold. A scenario ends so, and asserts nothing:
+/// each assertion beside passes that are owned makes the proof long.
 pub(crate) fn ensure(holds: bool, expected: &str) -> Result<(), Fail> {
     if holds {
         Ok(())

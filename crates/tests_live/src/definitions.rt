@@ -88,7 +88,8 @@ fn points(alloc: Global) -> Result<Listing<Point>, Fail> {
     Ok(points)
 }
 
-/// Two points, and the guarded tree with a link for 1, that needs `a`, and one for 2, that needs both.
+/// Two points, and the guarded tree with a link for 1, that needs `a`, and one for 2, that needs
+/// both.
 fn pointed(alloc: Global) -> Result<Definition, Fail> {
     let mut links = Vec::new(alloc);
     links.push(link(alloc, 1, 3, &[0])?)?;

@@ -4,17 +4,17 @@ ghost use Rattle.std.specs.Prelude.{◌≡◌};
 
 use crate::calling::{CallAnswer, call, ensure, flush, given, learn, open_one};
 use crate::definitions::{negation, open_plain, successor, sum};
+use mh_base::Listing;
 use mh_cert::{CheckFault, Plan};
 use mh_core::{Linkage, Refusal, Reply, SharedPlan, SiteLinkage};
 use mh_live::{Live, Name, Opening, Pass, Receipt};
-use mh_network::Listing as Numbers;
-use mh_site::Listing;
 use std::alloc::Global;
 use std::marker::Brand;
 use std::sync::Wait;
 use std::test::Fail;
 
-/// What a call gives before two equal retargetings, and after both are learnt, of which the second is learnt first.
+/// What a call gives before two equal retargetings, and after both are learnt, of which the second
+/// is learnt first.
 fn retarget_twice<N: Name, R: Wait>(
     rt: &R,
     alloc: Global,
@@ -87,10 +87,10 @@ fn a_pass_may_answer_before_it_learns(rt: HostRuntime) -> Result<(), Fail> {
 /// The link 0, no point, and this value.
 fn plan(alloc: Global, value: i64) -> Result<SharedPlan, Fail> {
     let plan = Plan {
-        links: Numbers::from_vec(Vec::from_slice(alloc, &[0])?),
-        points: Numbers::from_vec(Vec::new(alloc)),
+        links: Listing::from_vec(Vec::from_slice(alloc, &[0])?),
+        points: Listing::from_vec(Vec::new(alloc)),
         value,
-        flow: Numbers::from_vec(Vec::new(alloc)),
+        flow: Listing::from_vec(Vec::new(alloc)),
     };
     Ok(SharedPlan::new(alloc, plan)?)
 }
@@ -156,7 +156,8 @@ fn an_installed_plan_is_run(rt: HostRuntime) -> Result<(), Fail> {
     Ok(())
 }
 
-/// Why a retargeting of no site is refused, one to a tree of another type, and an invalidation of no point.
+/// Why a retargeting of no site is refused, one to a tree of another type, and an invalidation of
+/// no point.
 fn refused_changes<N: Name, R: Wait>(
     rt: &R,
     alloc: Global,
@@ -168,8 +169,8 @@ fn refused_changes<N: Name, R: Wait>(
     Ok([site, tree, live.invalidate(rt, points).err()])
 }
 
-/// Why there is no problem of a snapshot that was not taken, no installation of a plan that was not published, and no publication
-/// of a plan with a wrong value.
+/// Why there is no problem of a snapshot that was not taken, no installation of a plan that was not
+/// published, and no publication of a plan with a wrong value.
 fn refused_plans<N: Name, R: Wait>(
     rt: &R,
     alloc: Global,
@@ -216,7 +217,8 @@ fn an_office_tells_what_it_refuses(rt: HostRuntime) -> Result<(), Fail> {
     Ok(())
 }
 
-/// A change, and a flush, a snapshot and a publication after it: how long the list of each receipt is.
+/// A change, and a flush, a snapshot and a publication after it: how long the list of each receipt
+/// is.
 fn fronts_after_a_change<N: Name, R: Wait>(
     rt: &R,
     alloc: Global,
@@ -235,7 +237,8 @@ fn fronts_after_a_change<N: Name, R: Wait>(
     ])
 }
 
-/// The fronts of four events, which fill the history; what a call gives then; and why a fifth event is refused.
+/// The fronts of four events, which fill the history; what a call gives then; and why a fifth event
+/// is refused.
 fn make_four_events<N: Name, R: Wait>(
     rt: &R,
     alloc: Global,

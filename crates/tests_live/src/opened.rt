@@ -45,7 +45,8 @@ fn call_each<N: Name>(pass: &mut Pass<N>) -> Answers {
     [call(pass, 1), call(pass, 1), call(pass, 1), call(pass, 3)]
 }
 
-/// What three calls with 1 give where the ledger has room for two hits, and one with 3; and the hits then.
+/// What three calls with 1 give where the ledger has room for two hits, and one with 3; and the
+/// hits then.
 fn calls_of_a_full_ledger<N: Name>(opening: Opening) -> Result<(Answers, Hits), Fail>
     requires name { opening.name ≡ N.book }
     requires definition { opening.definition ≡ N.definition }

@@ -127,7 +127,8 @@ fn works_and_settles<N: Name, R: Wait>(
     Ok(sums(&settled))
 }
 
-/// Why a settlement without a pass is refused, how many passes come back, and the sums when it is there.
+/// Why a settlement without a pass is refused, how many passes come back, and the sums when it is
+/// there.
 fn settles_with_all<N: Name, R: Wait>(
     rt: &R,
     alloc: Global,

@@ -1,4 +1,5 @@
-//! The first example of the README through two passes: seven events, which are all that the history may have.
+//! The first example of the README through two passes: seven events, which are all that the history
+//! may have.
 
 ghost use Rattle.std.specs.Prelude.{◌≡◌};
 

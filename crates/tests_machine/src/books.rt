@@ -4,7 +4,6 @@ use crate::making::{limits, link, linked_site, tree_of, two_points};
 use mh_cert::{CheckFault, Plan};
 use mh_core::{Book, Refusal, SharedPlan};
 use mh_ledger::Ledger;
-use mh_network::Listing as Numbers;
 use mh_site::{Definition, Link, Listing};
 use mh_type::Op;
 use std::alloc::Global;
@@ -39,10 +38,10 @@ fn open(alloc: Global) -> Result<(Book, Ledger), Fail> {
 /// The link, its point, this value, and all of the point's cost carried.
 fn plan(alloc: Global, value: i64) -> Result<SharedPlan, Fail> {
     let plan = Plan {
-        links: Numbers::from_vec(Vec::from_slice(alloc, &[0])?),
-        points: Numbers::from_vec(Vec::from_slice(alloc, &[0])?),
+        links: Listing::from_vec(Vec::from_slice(alloc, &[0])?),
+        points: Listing::from_vec(Vec::from_slice(alloc, &[0])?),
         value,
-        flow: Numbers::from_vec(Vec::from_slice(alloc, &[(0, 0, 5)])?),
+        flow: Listing::from_vec(Vec::from_slice(alloc, &[(0, 0, 5)])?),
     };
     Ok(SharedPlan::new(alloc, plan)?)
 }
@@ -123,7 +122,8 @@ fn open_with_a_snapshot(alloc: Global) -> Result<Book, Fail> {
     Ok(book)
 }
 
-/// What a book answers to a plan of a wrong value, to the right one, and to this for a snapshot that was not taken.
+/// What a book answers to a plan of a wrong value, to the right one, and to this for a snapshot
+/// that was not taken.
 fn answers_to_plans(alloc: Global) -> Result<[Result<usize, Refusal>; 3], Fail> {
     let mut book = open_with_a_snapshot(alloc)?;
     let wrong = book.publish(1, plan(alloc, 2)?);

@@ -2,8 +2,8 @@
 
 use crate::making::{link, linked_site, plain_site, tree_of, two_points};
 use mh_site::{
-    Control, Definition, Installation, KeptLinks, Link, Listing, Points, Relinking, Retargeting,
-    Site, World,
+    Control, Definition, Installation, KeptLinks, Link, Listing, Relinking, Retargeting, Site,
+    World,
 };
 use mh_tree::Prepared;
 use mh_type::{Kind, Op};
@@ -109,9 +109,10 @@ fn one_plain_site(alloc: Global) -> Result<Definition, Fail> {
     define(alloc, sites)
 }
 
-/// How many of the two points are valid first, and after an invalidation of the second and a retargeting; and the front then.
+/// How many of the two points are valid first, and after an invalidation of the second and a
+/// retargeting; and the front then.
 fn changes(alloc: Global) -> Result<[u64; 3], Fail> {
-    let points = Points::new(Vec::from_slice(alloc, &[1])?);
+    let points = Listing::from_vec(Vec::from_slice(alloc, &[1])?);
     let target = Retargeting::new(0, tree_of(alloc, Op::Ineg)?)?;
     let mut world = World::open(alloc, &one_plain_site(alloc)?)?;
     let before = valid_points(&world);

@@ -62,7 +62,8 @@ fn counts(ledger: &Ledger, link: usize) -> Option<(u64, u64)> {
     }
 }
 
-/// The totals of the links 0 and 1 of three workers after two hits of the link 1 by each, before and after their flushes.
+/// The totals of the links 0 and 1 of three workers after two hits of the link 1 by each, before
+/// and after their flushes.
 fn totals_around_flushes(alloc: Global) -> Result<[Option<u64>; 3], Fail> {
     let (mut totals, mut ledgers) = Totals::open(alloc, 2, 3, 10, 100)?;
     hit_each(&totals, &mut ledgers, 1);
@@ -79,7 +80,8 @@ fn a_total_is_the_sum_of_what_was_flushed(rt: HostRuntime) -> Result<(), Fail> {
     Ok(())
 }
 
-/// Whether the second of two flushes of two hits is refused where a total has room for three, and the total then.
+/// Whether the second of two flushes of two hits is refused where a total has room for three, and
+/// the total then.
 fn total_past_its_limit(alloc: Global) -> Result<(bool, Option<u64>), Fail> {
     let (mut totals, mut ledgers) = Totals::open(alloc, 1, 2, 10, 3)?;
     hit_each(&totals, &mut ledgers, 0);
@@ -98,7 +100,8 @@ fn a_flush_past_the_limit_is_refused(rt: HostRuntime) -> Result<(), Fail> {
     Ok(())
 }
 
-/// The hits of a ledger with room for five: after six, of which it refuses one, and after its flush and another.
+/// The hits of a ledger with room for five: after six, of which it refuses one, and after its flush
+/// and another.
 fn hits_of_a_full_ledger(alloc: Global) -> Result<[Option<(u64, u64)>; 2], Fail> {
     let (mut totals, mut ledgers) = Totals::open(alloc, 1, 1, 5, 100)?;
     let Some(mut ledger) = ledgers.pop() else {

@@ -66,7 +66,8 @@ fn call_int(machine: &mut Machine, event: Event) -> Option<i32> {
     int(&machine.step(event))
 }
 
-/// The workers of a machine; and how many calls it has, how many accepted events, and how many records.
+/// The workers of a machine; and how many calls it has, how many accepted events, and how many
+/// records.
 type Counts = (u32, [usize; 3]);
 
 fn counts(machine: &Machine) -> Counts {

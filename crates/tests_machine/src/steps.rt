@@ -1,9 +1,9 @@
-//! The steps of calls before and after an installation, on the first example of the README with two links: worked by hand.
+//! The steps of calls before and after an installation, on the first example of the README with two
+//! links: worked by hand.
 
 use crate::making::{limits, link, linked_site, two_points};
 use mh_cert::Plan;
 use mh_core::{Arguments, Event, Machine, Reply, SharedPlan};
-use mh_network::Listing as Numbers;
 use mh_site::{Definition, Link, Listing};
 use mh_tree::{Declared, Handle};
 use mh_type::{Kind, Op, Value};
@@ -44,13 +44,14 @@ fn definition(alloc: Global) -> Result<Definition, Fail> {
     Ok(made)
 }
 
-/// Both links for three calls of the first and nine of the second: they gain 9 each, and their points cost 12.
+/// Both links for three calls of the first and nine of the second: they gain 9 each, and their
+/// points cost 12.
 fn plan(alloc: Global) -> Result<SharedPlan, Fail> {
     let plan = Plan {
-        links: Numbers::from_vec(Vec::from_slice(alloc, &[0, 1])?),
-        points: Numbers::from_vec(Vec::from_slice(alloc, &[0, 1])?),
+        links: Listing::from_vec(Vec::from_slice(alloc, &[0, 1])?),
+        points: Listing::from_vec(Vec::from_slice(alloc, &[0, 1])?),
         value: 6,
-        flow: Numbers::from_vec(Vec::from_slice(alloc, &[(0, 0, 5), (1, 1, 7)])?),
+        flow: Listing::from_vec(Vec::from_slice(alloc, &[(0, 0, 5), (1, 1, 7)])?),
     };
     Ok(SharedPlan::new(alloc, plan)?)
 }
@@ -124,7 +125,8 @@ fn a_cache_takes_the_steps_of_its_tree(rt: HostRuntime) -> Result<(), Fail> {
     Ok(())
 }
 
-/// The steps of a call with 2 after the point 1 is invalid, and after another installation, which leaves its link out.
+/// The steps of a call with 2 after the point 1 is invalid, and after another installation, which
+/// leaves its link out.
 fn steps_after_an_invalidation(machine: &mut Machine, alloc: Global) -> Result<[u64; 2], Fail> {
     call_and_install(machine, alloc)?;
     let points = Listing::from_vec(Vec::from_slice(alloc, &[1])?);

@@ -1,4 +1,5 @@
-//! Tests of problems, plans, their checker and the planner: what no clause says, and each public call once with ample memory.
+//! Tests of problems, plans, their checker and the planner: what no clause says, and each public
+//! call once with ample memory.
 #![tactic(auto)]
 
 #[cfg(test)]

@@ -11,7 +11,8 @@ use std::sync::atomic::{AtomicU64, Ordering};
 use std::test::Fail;
 use std::thread::{Threads, yield_now};
 
-/// How often a gate looks for the others, and lets other threads run, before it goes on: some seconds.
+/// How often a gate looks for the others, and lets other threads run, before it goes on: some
+/// seconds.
 const TURNS: u64 = 10_000_000;
 
 /// Lets a worker go on when all have come, or after many turns, and counts those that saw all come.
@@ -59,7 +60,8 @@ fn links_to_a_point(
     Ok(Problem::new(alloc, &rows, costs)?)
 }
 
-/// How many links two workers plan and for which value, where each point costs so much, and the checker accepts the plan.
+/// How many links two workers plan and for which value, where each point costs so much, and the
+/// checker accepts the plan.
 fn planned_at<R: Threads + Sync>(rt: &R, alloc: Global, cost: u64) -> Result<(usize, i64), Fail> {
     let costs = vec![in alloc; cost; 1024]?;
     let problem = links_to_a_point(alloc, 4096, 4, costs.as_slice())?;
@@ -82,7 +84,8 @@ fn points_that_cost_more_are_left(rt: HostRuntime) -> Result<(), Fail> {
     Ok(())
 }
 
-/// How many of the workers see all of them at work at one time: each waits in its part for all the others.
+/// How many of the workers see all of them at work at one time: each waits in its part for all the
+/// others.
 fn meeting<R: Threads + Sync>(
     rt: &R,
     alloc: Global,

@@ -34,8 +34,8 @@ fn needs_of(alloc: Global, link: u32) -> Result<Vec<u32>, Fail> {
     Ok(needs)
 }
 
-/// A problem as large as there is: each of 4,096 links gains 8 and needs 8 points, and each of 1,024
-/// points costs 32 and is needed by 32 links.
+/// A problem as large as there is: each of 4,096 links gains 8 and needs 8 points, and each of
+/// 1,024 points costs 32 and is needed by 32 links.
 fn large_problem(alloc: Global) -> Result<Problem, Fail> {
     let mut links = Vec::new(alloc);
     for link in 0..4096u32 {

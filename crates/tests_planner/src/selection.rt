@@ -1,6 +1,7 @@
 //! Limits of problems.
 
-use mh_network::{LinkRow, Listing, Problem, ProblemFault, is_ascending};
+use mh_base::{Listing, is_ascending};
+use mh_network::{LinkRow, Problem, ProblemFault};
 use std::alloc::Global;
 use std::test::Fail;
 

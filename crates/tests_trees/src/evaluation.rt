@@ -12,7 +12,8 @@ fn at(alloc: Global, handle: &Handle, valid: bool, argument: i32) -> Result<Give
     walked(alloc, &[valid], handle, &[Value::Int(argument)])
 }
 
-/// What the example gives on 1, 2 and the greatest int, and then where its point is not valid on 1 and the least int.
+/// What the example gives on 1, 2 and the greatest int, and then where its point is not valid on 1
+/// and the least int.
 fn example_gives(alloc: Global) -> Result<[Given; 5], Fail> {
     let handle = example(alloc)?;
     Ok([

@@ -1,5 +1,6 @@
-//! Tests of values, types, trees, their evaluation and their specialisation: what no clause says, and each public call once with
-//! ample memory. A test asserts in a line what a scenario without assertions gave: CONTRIBUTING.md says why.
+//! Tests of values, types, trees, their evaluation and their specialisation: what no clause says,
+//! and each public call once with ample memory. A test asserts in a line what a scenario without
+//! assertions gave: CONTRIBUTING.md says why.
 #![tactic(auto)]
 
 #[cfg(test)]

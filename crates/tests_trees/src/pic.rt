@@ -38,7 +38,8 @@ fn checked_code(alloc: Global, base: &Declared, entries: &[Entry]) -> Result<Pre
     Ok(prepared_chain(alloc, &base, 0, entries)?)
 }
 
-/// Whether the example's point gives way to its target where it is needed, and nothing is made where another is.
+/// Whether the example's point gives way to its target where it is needed, and nothing is made
+/// where another is.
 fn points_that_give_way(alloc: Global) -> Result<(bool, bool), Fail> {
     let handle = example(alloc)?;
     let made = strip(alloc, handle.root(), &[0])?;
@@ -56,7 +57,8 @@ fn needed_points_give_way(rt: HostRuntime) -> Result<(), Fail> {
     Ok(())
 }
 
-/// What a tree begins with, as far as the tests ask; how large it is; and a number above all of its points.
+/// What a tree begins with, as far as the tests ask; how large it is; and a number above all of its
+/// points.
 #[derive(Clone, Copy, Debug, PartialEq, Eq)]
 enum Form {
     Drop(usize, usize),

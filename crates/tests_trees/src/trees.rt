@@ -6,7 +6,8 @@ use mh_type::Kind;
 use std::alloc::{AllocError, Global};
 use std::test::Fail;
 
-/// How deep and how large a tree is, a number above all of its points, and whether its type is written so.
+/// How deep and how large a tree is, a number above all of its points, and whether its type is
+/// written so.
 type Measures = (usize, usize, usize, bool);
 
 /// What a handle knows of its tree.
@@ -38,7 +39,8 @@ fn handles_keep_their_measures(rt: HostRuntime) -> Result<(), Fail> {
     Ok(())
 }
 
-/// Of another owner of the prepared example, after the first is gone; and of one that was made of prepared parts.
+/// Of another owner of the prepared example, after the first is gone; and of one that was made of
+/// prepared parts.
 fn prepared_measures(alloc: Global) -> Result<[Measures; 2], Fail> {
     let prepared = Prepared::new(&example(alloc)?)?;
     let other = prepared.share()?;

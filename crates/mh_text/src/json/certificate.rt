@@ -9,7 +9,8 @@ use std::alloc::{AllocError, Global};
 
 /// Appends a JSON number for each.
 fn push_counts(list: &mut Vec<Value>, numbers: &[u32]) -> Result<(), AllocError>
-    ensures value { OnOk result (map view list.new.items ≡ map view list.old.items ++ map count_data numbers.now) }
+    ensures value { OnOk result (map view list.new.items
+        ≡ map view list.old.items ++ map count_data numbers.now) }
 {
     for number in numbers {
         list.push(Value::from(*number))?;
@@ -40,7 +41,8 @@ fn push_rows(
     list: &mut Vec<Value>,
     flow: &[(u32, u32, u64)],
 ) -> Result<(), AllocError>
-    ensures value { OnOk result (map view list.new.items ≡ map view list.old.items ++ map row_data flow.now) }
+    ensures value { OnOk result (map view list.new.items
+        ≡ map view list.old.items ++ map row_data flow.now) }
 {
     for row in flow {
         list.push(row_value(alloc, row)?)?;

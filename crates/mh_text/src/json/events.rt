@@ -1,11 +1,10 @@
 //! The steps of a script.
 ghost use Rattle.std.specs.Prelude.{◌≡◌, [], ◌∷◌, ◌++◌, map, IfErr, OnOk};
-ghost use Rattle.mh_text.specs.declared.fault.TextFault.TheVariants as text;
 ghost use Rattle.serde_json.specs.View.{view};
-ghost use Rattle.mh_text.specs.Gives.{Gives, GivesNumbered, GivesUpTo, IsOfInput};
+ghost use Rattle.mh_text.specs.Gives.{Gives, GivesNumbered, GivesUpTo, IsOfInput, no_memory};
 ghost use Rattle.mh_text.specs.Script.{call_from, flush_from, target_from, invalidate_from, snapshot_from, offer_from, install_from, plan_from, event_named, step_named, step_of, steps_of, IsNext};
 
-use crate::fault::{Fault, ReadFault, TextFault};
+use crate::fault::{Fault, InputFault, TextFault};
 use crate::json::declarations::Declarations;
 use crate::json::plan::read_plan_value;
 use crate::json::points::read_named_points;
@@ -19,11 +18,11 @@ use mh_site::Listing;
 use serde_json::Value;
 use std::alloc::Global;
 
-fn read_call(alloc: Global, declared: &Declarations, args: &[Value]) -> Result<Event, ReadFault>
+fn read_call(alloc: Global, declared: &Declarations, args: &[Value]) -> Result<Event, InputFault>
     ensures value { Gives (λ x. x) result (call_from declared.now (map view args.now)) }
 {
     let [worker, name, values] = args else {
-        return Err(ReadFault::BadShape);
+        return Err(InputFault::BadShape);
     };
     let worker = number(worker)?;
     let site = declared.site_number(text(name)?);
@@ -36,51 +35,51 @@ fn read_call(alloc: Global, declared: &Declarations, args: &[Value]) -> Result<E
     })
 }
 
-fn read_flush(args: &[Value]) -> Result<Event, ReadFault>
+fn read_flush(args: &[Value]) -> Result<Event, InputFault>
     ensures value { Gives (λ x. x) result (flush_from (map view args.now)) }
 {
     let [worker] = args else {
-        return Err(ReadFault::BadShape);
+        return Err(InputFault::BadShape);
     };
     let worker = number(worker)?;
     Ok(Event::Flush { worker })
 }
 
-fn read_target(alloc: Global, declared: &Declarations, args: &[Value]) -> Result<Event, ReadFault>
+fn read_target(alloc: Global, declared: &Declarations, args: &[Value]) -> Result<Event, InputFault>
     ensures value { Gives (λ x. x) result (target_from declared.now (map view args.now)) }
 {
     let [name, tree] = args else {
-        return Err(ReadFault::BadShape);
+        return Err(InputFault::BadShape);
     };
     let site = declared.site_number(text(name)?);
     let tree = read_declared(alloc, &declared.scope, tree)?;
     Ok(Event::Target { site, tree })
 }
 
-fn read_invalidate(alloc: Global, scope: &Scope, args: &[Value]) -> Result<Event, ReadFault>
+fn read_invalidate(alloc: Global, scope: &Scope, args: &[Value]) -> Result<Event, InputFault>
     ensures value { Gives (λ x. x) result (invalidate_from scope.now.points (map view args.now)) }
 {
     let [names] = args else {
-        return Err(ReadFault::BadShape);
+        return Err(InputFault::BadShape);
     };
     let points = read_named_points(alloc, scope, names)?;
     Ok(Event::Invalidate { points })
 }
 
-fn read_snapshot(args: &[Value]) -> Result<Event, ReadFault>
+fn read_snapshot(args: &[Value]) -> Result<Event, InputFault>
     ensures value { Gives (λ x. x) result (snapshot_from (map view args.now)) }
 {
     let [] = args else {
-        return Err(ReadFault::BadShape);
+        return Err(InputFault::BadShape);
     };
     Ok(Event::Snapshot)
 }
 
-fn read_offer(alloc: Global, args: &[Value]) -> Result<Event, ReadFault>
+fn read_offer(alloc: Global, args: &[Value]) -> Result<Event, InputFault>
     ensures value { Gives (λ x. x) result (offer_from (map view args.now)) }
 {
     let [snapshot, plan] = args else {
-        return Err(ReadFault::BadShape);
+        return Err(InputFault::BadShape);
     };
     let snapshot = number(snapshot)? as usize;
     let plan = read_plan_value(alloc, plan)?;
@@ -88,21 +87,21 @@ fn read_offer(alloc: Global, args: &[Value]) -> Result<Event, ReadFault>
     Ok(Event::Publish { snapshot, plan })
 }
 
-fn read_install(args: &[Value]) -> Result<Event, ReadFault>
+fn read_install(args: &[Value]) -> Result<Event, InputFault>
     ensures value { Gives (λ x. x) result (install_from (map view args.now)) }
 {
     let [plan] = args else {
-        return Err(ReadFault::BadShape);
+        return Err(InputFault::BadShape);
     };
     let plan = number(plan)? as usize;
     Ok(Event::Install { plan })
 }
 
-fn read_plan_step(args: &[Value]) -> Result<Step, ReadFault>
+fn read_plan_step(args: &[Value]) -> Result<Step, InputFault>
     ensures value { Gives (λ x. x) result (plan_from (map view args.now)) }
 {
     let [snapshot] = args else {
-        return Err(ReadFault::BadShape);
+        return Err(InputFault::BadShape);
     };
     let snapshot = number(snapshot)? as usize;
     Ok(Step::Plan { snapshot })
@@ -114,7 +113,7 @@ fn read_event(
     declared: &Declarations,
     word: &str,
     args: &[Value],
-) -> Result<Event, ReadFault>
+) -> Result<Event, InputFault>
     ensures value { Gives (λ x. x) result (event_named declared.now word.now (map view args.now)) }
 {
     match word {
@@ -125,7 +124,7 @@ fn read_event(
         "snapshot" => read_snapshot(args),
         "offer" => read_offer(alloc, args),
         "install" => read_install(args),
-        _ => Err(ReadFault::BadShape),
+        _ => Err(InputFault::BadShape),
     }
 }
 
@@ -135,7 +134,7 @@ fn read_named(
     declared: &Declarations,
     word: &str,
     args: &[Value],
-) -> Result<Step, ReadFault>
+) -> Result<Step, InputFault>
     ensures value { Gives (λ x. x) result (step_named declared.now word.now (map view args.now)) }
 {
     if word == "plan" {
@@ -145,17 +144,16 @@ fn read_named(
     Ok(Step::Ask(event))
 }
 
-fn read_step(alloc: Global, declared: &Declarations, value: &Value) -> Result<Step, ReadFault>
+fn read_step(alloc: Global, declared: &Declarations, value: &Value) -> Result<Step, InputFault>
     ensures value { Gives (λ x. x) result (step_of declared.now (view value.now)) }
 {
     let [head, args @ ..] = list(value)? else {
-        return Err(ReadFault::BadShape);
+        return Err(InputFault::BadShape);
     };
     read_named(alloc, declared, text(head)?, args)
 }
 
 /// The step of this number, from 1.
-#[tactic(auto, using(crate::proofs::OfInput::told_of_input))]
 fn read_numbered(
     alloc: Global,
     declared: &Declarations,
@@ -177,12 +175,12 @@ fn read_numbered(
 /// One step more, of this number.
 fn push_step(steps: &mut Vec<Step>, step: Step, at: u64) -> Result<(), Fault>
     ensures ok { OnOk result (steps.new.items ≡ steps.old.items ++ step ∷ []) }
-    ensures memory { IfErr result (λ e. e ≡ record { kind = text.NoMemory; at = at }) }
+    ensures memory { IfErr result (λ e. e ≡ record { kind = no_memory; at = at }) }
 {
     match steps.push(step) {
         Ok(()) => Ok(()),
         Err(_) => Err(Fault {
-            kind: TextFault::NoMemory,
+            kind: TextFault::Input(InputFault::NoMemory),
             at,
         }),
     }

@@ -4,7 +4,7 @@ ghost use Rattle.serde_json.specs.View.{view};
 ghost use Rattle.mh_text.specs.Gives.{Gives};
 ghost use Rattle.mh_text.specs.Trees.{part, constant_from, identity_from, op_from, ref_from};
 
-use crate::fault::ReadFault;
+use crate::fault::InputFault;
 use crate::json::scope::Scope;
 use crate::json::shape::text;
 use crate::json::values::{read_constant, read_kind, read_op};
@@ -17,11 +17,11 @@ pub(crate) fn read_leaf_constant(
     alloc: Global,
     scope: &Scope,
     args: &[Value],
-) -> Result<Handle, ReadFault>
+) -> Result<Handle, InputFault>
     ensures value { Gives (λ x. x) result (constant_from (map (part scope.now) args.now)) }
 {
     let [kind, value] = args else {
-        return Err(ReadFault::BadShape);
+        return Err(InputFault::BadShape);
     };
     let kind = read_kind(kind)?;
     let value = read_constant(alloc, kind, value)?;
@@ -33,11 +33,11 @@ pub(crate) fn read_identity(
     alloc: Global,
     scope: &Scope,
     args: &[Value],
-) -> Result<Handle, ReadFault>
+) -> Result<Handle, InputFault>
     ensures value { Gives (λ x. x) result (identity_from (map (part scope.now) args.now)) }
 {
     let [kind] = args else {
-        return Err(ReadFault::BadShape);
+        return Err(InputFault::BadShape);
     };
     Ok(Handle::identity(alloc, read_kind(kind)?)?)
 }
@@ -47,21 +47,21 @@ pub(crate) fn read_operation(
     alloc: Global,
     scope: &Scope,
     args: &[Value],
-) -> Result<Handle, ReadFault>
+) -> Result<Handle, InputFault>
     ensures value { Gives (λ x. x) result (op_from (map (part scope.now) args.now)) }
 {
     let [name] = args else {
-        return Err(ReadFault::BadShape);
+        return Err(InputFault::BadShape);
     };
     Ok(Handle::op(alloc, read_op(name)?)?)
 }
 
 /// A shared tree that stands earlier.
-pub(crate) fn read_ref(scope: &Scope, args: &[Value]) -> Result<Handle, ReadFault>
+pub(crate) fn read_ref(scope: &Scope, args: &[Value]) -> Result<Handle, InputFault>
     ensures value { Gives (λ x. x) result (ref_from scope.now (map (part scope.now) args.now)) }
 {
     let [name] = args else {
-        return Err(ReadFault::BadShape);
+        return Err(InputFault::BadShape);
     };
-    scope.shared(text(name)?)
+    scope.tree_named(text(name)?)
 }

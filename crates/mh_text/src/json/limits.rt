@@ -4,13 +4,13 @@ ghost use Rattle.serde_json.specs.View.{view};
 ghost use Rattle.mh_text.specs.Gives.{Gives};
 ghost use Rattle.mh_text.specs.Script.{limit_of, limits_made, limits_in, limits_of};
 
-use crate::fault::ReadFault;
+use crate::fault::InputFault;
 use crate::json::shape::{MOST, count};
 use mh_core::{LARGEST_LEDGER, LARGEST_TOTAL, LONGEST_HISTORY, Limits};
 use serde_json::Value;
 
 /// A limit, which is the greatest where it is absent.
-fn read_limit(limits: &Value, key: &str, greatest: u64) -> Result<u64, ReadFault>
+fn read_limit(limits: &Value, key: &str, greatest: u64) -> Result<u64, InputFault>
     ensures value { Gives (λ x. x) result (limit_of key.now greatest (view limits.now)) }
 {
     match limits.get(key) {
@@ -20,17 +20,17 @@ fn read_limit(limits: &Value, key: &str, greatest: u64) -> Result<u64, ReadFault
 }
 
 /// The limits, each in its range.
-fn limits(history: u64, ledger: u64, total: u64) -> Result<Limits, ReadFault>
+fn limits(history: u64, ledger: u64, total: u64) -> Result<Limits, InputFault>
     ensures value { Gives (λ x. x) result (limits_made history ledger total) }
 {
-    Limits::new(history, ledger, total).ok_or(ReadFault::BadShape)
+    Limits::new(history, ledger, total).ok_or(InputFault::BadShape)
 }
 
-fn read_object(value: &Value) -> Result<Limits, ReadFault>
+fn read_object(value: &Value) -> Result<Limits, InputFault>
     ensures value { Gives (λ x. x) result (limits_in (view value.now)) }
 {
     if !value.is_object() {
-        return Err(ReadFault::BadShape);
+        return Err(InputFault::BadShape);
     }
     let history = read_limit(value, "history", LONGEST_HISTORY)?;
     let ledger = read_limit(value, "ledger", LARGEST_LEDGER)?;
@@ -39,7 +39,7 @@ fn read_object(value: &Value) -> Result<Limits, ReadFault>
 }
 
 /// The limits of a script: `limits` may be absent.
-pub(crate) fn read_limits(script: &Value) -> Result<Limits, ReadFault>
+pub(crate) fn read_limits(script: &Value) -> Result<Limits, InputFault>
     ensures value { Gives (λ x. x) result (limits_of (view script.now)) }
 {
     match script.get("limits") {

@@ -4,7 +4,7 @@ ghost use Rattle.serde_json.specs.View.{view};
 ghost use Rattle.mh_text.specs.Gives.{Gives};
 ghost use Rattle.mh_text.specs.Script.{link_of, links_of};
 
-use crate::fault::ReadFault;
+use crate::fault::InputFault;
 use crate::json::points::read_named_points;
 use crate::json::scope::Scope;
 use crate::json::shape::{MOST, count, each, list, member};
@@ -20,7 +20,7 @@ fn read_link(
     scope: &Scope,
     kind: Option<Kind>,
     value: &Value,
-) -> Result<Link, ReadFault>
+) -> Result<Link, InputFault>
     ensures value { Gives (λ x. x) result (link_of scope.now.points kind (view value.now)) }
 {
     let when = read_value(alloc, kind, member(value, "when")?)?;
@@ -39,7 +39,7 @@ pub(crate) fn read_links(
     scope: &Scope,
     kind: Option<Kind>,
     site: &Value,
-) -> Result<Listing<Link>, ReadFault>
+) -> Result<Listing<Link>, InputFault>
     ensures value { Gives (λ x. x) result (links_of scope.now.points kind (view site.now)) }
 {
     let Some(links) = site.get("links") else {

@@ -4,8 +4,8 @@ ghost use Rattle.serde_json.specs.View.{view};
 ghost use Rattle.mh_text.specs.Gives.{Gives, GivesAt, IsOfInput, at_place};
 ghost use Rattle.mh_text.specs.Plans.{signed_of, flow_row_from, flow_row_of, flow_of, plan_of, plan_at, plan_of_input};
 
-use crate::fault::{Fault, ReadFault};
-use crate::json::problem::{listed, read_numbers};
+use crate::fault::{Fault, InputFault};
+use crate::json::problem::read_numbers;
 use crate::json::read_json;
 use crate::json::shape::{count, each, list, member, number, part};
 use mh_cert::Plan;
@@ -17,18 +17,18 @@ use std::alloc::Global;
 const MOST_AMOUNT: u64 = u64::MAX;
 
 /// A whole number of 64 bits with a sign.
-fn read_signed(value: &Value) -> Result<i64, ReadFault>
+fn read_signed(value: &Value) -> Result<i64, InputFault>
     ensures value { Gives (λ x. x) result (signed_of (view value.now)) }
 {
-    value.as_i64().ok_or(ReadFault::BadShape)
+    value.as_i64().ok_or(InputFault::BadShape)
 }
 
 /// A link, a point, and an amount.
-fn read_parts(parts: &[Value]) -> Result<(u32, u32, u64), ReadFault>
+fn read_parts(parts: &[Value]) -> Result<(u32, u32, u64), InputFault>
     ensures value { Gives (λ x. x) result (flow_row_from (map view parts.now)) }
 {
     let [link, point, amount] = parts else {
-        return Err(ReadFault::BadShape);
+        return Err(InputFault::BadShape);
     };
     let link = number(link)?;
     let point = number(point)?;
@@ -36,20 +36,20 @@ fn read_parts(parts: &[Value]) -> Result<(u32, u32, u64), ReadFault>
     Ok((link, point, amount))
 }
 
-fn read_flow_row(value: &Value) -> Result<(u32, u32, u64), ReadFault>
+fn read_flow_row(value: &Value) -> Result<(u32, u32, u64), InputFault>
     ensures value { Gives (λ x. x) result (flow_row_of (view value.now)) }
 {
     read_parts(list(value)?)
 }
 
-fn read_flow(alloc: Global, value: &Value) -> Result<Listing<(u32, u32, u64)>, ReadFault>
+fn read_flow(alloc: Global, value: &Value) -> Result<Listing<(u32, u32, u64)>, InputFault>
     ensures value { Gives (λ x. x) result (flow_of (view value.now)) }
 {
-    Ok(listed(each(alloc, list(value)?, |row| read_flow_row(row))?))
+    each(alloc, list(value)?, |row| read_flow_row(row))
 }
 
 /// The plan that a value is.
-pub(crate) fn read_plan_value(alloc: Global, value: &Value) -> Result<Plan, ReadFault>
+pub(crate) fn read_plan_value(alloc: Global, value: &Value) -> Result<Plan, InputFault>
     ensures value { Gives (λ x. x) result (plan_of (view value.now)) }
 {
     let links = read_numbers(alloc, member(value, "links")?)?;
@@ -65,9 +65,9 @@ pub(crate) fn read_plan_value(alloc: Global, value: &Value) -> Result<Plan, Read
 }
 
 /// The plan that a value, or what it has at a key, is.
-#[tactic(auto, using(crate::proofs::OfInput::told_of_input))]
 pub(crate) fn read_plan_at(alloc: Global, value: &Value, key: Option<&str>) -> Result<Plan, Fault>
-    ensures value { GivesAt (λ x. x) result (at_place 0 (plan_at (option_map (λ k. k.now) key.entry) (view value.now))) }
+    ensures value { GivesAt (λ x. x) result
+        (at_place 0 (plan_at (option_map (λ k. k.now) key.entry) (view value.now))) }
     ensures kind { IfErr result (λ e. IsOfInput e.kind) }
 {
     Ok(read_plan_value(alloc, part(value, key)?)?)
@@ -80,7 +80,8 @@ pub(crate) fn read_plan_at(alloc: Global, value: &Value, key: Option<&str>) -> R
 /// the value has 64 bits with a sign. The first fault is told, at 0: the input's length, its JSON,
 /// and then BadShape where a part is missing, of another form, or out of its range.
 pub fn read_plan(alloc: Global, input: &[u8], member: Option<&str>) -> Result<Plan, Fault>
-    ensures value { GivesAt (λ x. x) result (plan_of_input (option_map (λ k. k.now) member.entry) input.now) }
+    ensures value { GivesAt (λ x. x) result
+        (plan_of_input (option_map (λ k. k.now) member.entry) input.now) }
     ensures kind { IfErr result (λ e. IsOfInput e.kind) }
 {
     read_plan_at(alloc, &read_json(alloc, input)?, member)

@@ -4,7 +4,7 @@ ghost use Rattle.serde_json.specs.View.{view};
 ghost use Rattle.mh_text.specs.Gives.{Gives};
 ghost use Rattle.mh_text.specs.Script.{point_of, points_of, point_names_of, named_point_of, named_points_of};
 
-use crate::fault::ReadFault;
+use crate::fault::InputFault;
 use crate::json::names::Names;
 use crate::json::scope::Scope;
 use crate::json::shape::{MOST, count, each, list, member, text};
@@ -12,7 +12,7 @@ use mh_site::{Listing, Name, Point};
 use serde_json::Value;
 use std::alloc::{AllocError, Global};
 
-fn read_one(alloc: Global, value: &Value) -> Result<Point, ReadFault>
+fn read_one(alloc: Global, value: &Value) -> Result<Point, InputFault>
     ensures value { Gives (λ x. x) result (point_of (view value.now)) }
 {
     let name = Name::new(alloc, text(member(value, "name")?)?)?;
@@ -21,7 +21,7 @@ fn read_one(alloc: Global, value: &Value) -> Result<Point, ReadFault>
 }
 
 /// The points of a definition, each its name and its cost.
-pub(crate) fn read_points(alloc: Global, definition: &Value) -> Result<Listing<Point>, ReadFault>
+pub(crate) fn read_points(alloc: Global, definition: &Value) -> Result<Listing<Point>, InputFault>
     ensures value { Gives (λ x. x) result (points_of (view definition.now)) }
 {
     let points = list(member(definition, "points")?)?;
@@ -39,7 +39,7 @@ pub(crate) fn point_names(alloc: Global, points: &[Point]) -> Result<Names, Allo
     Ok(names)
 }
 
-fn read_named_point(scope: &Scope, value: &Value) -> Result<u32, ReadFault>
+fn read_named_point(scope: &Scope, value: &Value) -> Result<u32, InputFault>
     ensures value { Gives (λ x. x) result (named_point_of scope.now.points (view value.now)) }
 {
     Ok(scope.point_number(text(value)?))
@@ -50,7 +50,7 @@ pub(crate) fn read_named_points(
     alloc: Global,
     scope: &Scope,
     value: &Value,
-) -> Result<Listing<u32>, ReadFault>
+) -> Result<Listing<u32>, InputFault>
     ensures value { Gives (λ x. x) result (named_points_of scope.now.points (view value.now)) }
 {
     each(alloc, list(value)?, |name| read_named_point(scope, name))

@@ -6,7 +6,7 @@ ghost use Rattle.mh_text.specs.Gives.{Gives, IsOfInput, at_place};
 ghost use Rattle.mh_text.specs.Problems.{eligible_where, row_of, rows_of, rows_at, rows_of_input, MakesProblem};
 ghost use Rattle.mh_text.specs.Shape.{counts_of};
 
-use crate::fault::{Fault, ReadFault};
+use crate::fault::{Fault, InputFault};
 use crate::json::read_json;
 use crate::json::shape::{MOST, count, each, list, member, number, part, version};
 use mh_network::{LinkRow, Listing, Problem};
@@ -20,37 +20,31 @@ pub struct ProblemRows {
     pub costs: Listing<u64>,
 }
 
-/// The same list, as problems and plans have it.
-pub(crate) fn listed<T>(items: mh_site::Listing<T>) -> Listing<T>
-    ensures value { result ≡ items }
-{
-    Listing::from_vec(items.into_vec())
-}
-
 /// The numbers of links or points in a list.
-pub(crate) fn read_numbers(alloc: Global, value: &Value) -> Result<Listing<u32>, ReadFault>
+pub(crate) fn read_numbers(alloc: Global, value: &Value) -> Result<Listing<u32>, InputFault>
     ensures value { Gives (λ x. x) result (counts_of (2 ^ 32 - 1) (view value.now)) }
 {
-    Ok(listed(each(alloc, list(value)?, |item| number(item))?))
+    each(alloc, list(value)?, |item| number(item))
 }
 
-fn read_costs(alloc: Global, value: &Value) -> Result<Listing<u64>, ReadFault>
+fn read_costs(alloc: Global, value: &Value) -> Result<Listing<u64>, InputFault>
     ensures value { Gives (λ x. x) result (counts_of (2 ^ 63 - 1) (view value.now)) }
 {
-    Ok(listed(each(alloc, list(value)?, |item| count(item, MOST))?))
+    each(alloc, list(value)?, |item| count(item, MOST))
 }
 
 /// Whether a link may be chosen, which it may where nothing is said.
-fn read_eligible(link: &Value) -> Result<bool, ReadFault>
-    ensures value { Gives (λ x. x) result (eligible_where (get (codes "eligible") (view link.now))) }
+fn read_eligible(link: &Value) -> Result<bool, InputFault>
+    ensures value { Gives (λ x. x) result
+        (eligible_where (get (codes "eligible") (view link.now))) }
 {
     match link.get("eligible") {
-        Some(eligible) => eligible.as_bool().ok_or(ReadFault::BadShape),
+        Some(eligible) => eligible.as_bool().ok_or(InputFault::BadShape),
         None => Ok(true),
     }
 }
 
-fn read_row(alloc: Global, link: &Value) -> Result<LinkRow, ReadFault>
+fn read_row(alloc: Global, link: &Value) -> Result<LinkRow, InputFault>
     ensures value { Gives (λ x. x) result (row_of (view link.now)) }
 {
     let gain = count(member(link, "gain")?, MOST)?;
@@ -63,43 +57,43 @@ fn read_row(alloc: Global, link: &Value) -> Result<LinkRow, ReadFault>
     })
 }
 
-fn read_rows(alloc: Global, problem: &Value) -> Result<ProblemRows, ReadFault>
+fn read_rows(alloc: Global, problem: &Value) -> Result<ProblemRows, InputFault>
     ensures value { Gives (λ x. x) result (rows_of (view problem.now)) }
 {
     version(problem)?;
     let costs = read_costs(alloc, member(problem, "costs")?)?;
     let links = list(member(problem, "links")?)?;
-    let links = listed(each(alloc, links, |link| read_row(alloc, link))?);
+    let links = each(alloc, links, |link| read_row(alloc, link))?;
     Ok(ProblemRows { links, costs })
 }
 
 /// The rows that a value, or what it has at a key, says.
-fn read_rows_at(alloc: Global, value: &Value, key: Option<&str>) -> Result<ProblemRows, ReadFault>
-    ensures value { Gives (λ x. x) result (rows_at (option_map (λ k. k.now) key.entry) (view value.now)) }
+fn read_rows_at(alloc: Global, value: &Value, key: Option<&str>) -> Result<ProblemRows, InputFault>
+    ensures value { Gives (λ x. x) result
+        (rows_at (option_map (λ k. k.now) key.entry) (view value.now)) }
 {
     read_rows(alloc, part(value, key)?)
 }
 
 /// The problem of rows that were read.
-#[tactic(auto, using(crate::proofs::OfInput::told_of_input))]
 fn make(alloc: Global, rows: &ProblemRows) -> Result<Problem, Fault>
     ensures value { MakesProblem (Ok rows.now) result }
     ensures kind { IfErr result (λ e. IsOfInput e.kind) }
 {
     match Problem::new(alloc, rows.links.as_slice(), rows.costs.as_slice()) {
         Ok(problem) => Ok(problem),
-        Err(cause) => Err(Fault::from(ReadFault::from(cause))),
+        Err(cause) => Err(Fault::from(InputFault::from(cause))),
     }
 }
 
 /// The problem that a value, or what it has at a key, is.
-#[tactic(auto, using(crate::proofs::OfInput::told_of_input))]
 pub(crate) fn read_problem_at(
     alloc: Global,
     value: &Value,
     key: Option<&str>,
 ) -> Result<Problem, Fault>
-    ensures value { MakesProblem (at_place 0 (rows_at (option_map (λ k. k.now) key.entry) (view value.now))) result }
+    ensures value { MakesProblem (at_place 0
+        (rows_at (option_map (λ k. k.now) key.entry) (view value.now))) result }
     ensures kind { IfErr result (λ e. IsOfInput e.kind) }
 {
     let rows = read_rows_at(alloc, value, key)?;
@@ -110,10 +104,11 @@ pub(crate) fn read_problem_at(
 ///
 /// A problem is `{"version":1,"costs":[N..],"links":[{"gain":N,"eligible":true,"needs":[N..]}..]}`,
 /// where `eligible` may be absent, which is true. Numbers are 0 to 2^63 - 1, those of points in
-/// `needs` 0 to 2^32 - 1. The first fault is told, at 0: the input's length, its JSON, the shapes of
-/// the version, the costs and the links in order, and then what `Problem::new` refuses.
+/// `needs` 0 to 2^32 - 1. The first fault is told, at 0: the input's length, its JSON, the shapes
+/// of the version, the costs and the links in order, and then what `Problem::new` refuses.
 pub fn read_problem(alloc: Global, input: &[u8], member: Option<&str>) -> Result<Problem, Fault>
-    ensures value { MakesProblem (rows_of_input (option_map (λ k. k.now) member.entry) input.now) result }
+    ensures value { MakesProblem (rows_of_input (option_map (λ k. k.now) member.entry) input.now)
+        result }
     ensures kind { IfErr result (λ e. IsOfInput e.kind) }
 {
     read_problem_at(alloc, &read_json(alloc, input)?, member)

@@ -4,7 +4,7 @@ ghost use Rattle.mh_text.specs.Gives.{Gives};
 ghost use Rattle.mh_text.specs.Shared.{without_shared, with_shared};
 ghost use Rattle.mh_text.specs.Trees.{point_place, shared_named};
 
-use crate::fault::ReadFault;
+use crate::fault::InputFault;
 use crate::json::names::Names;
 use mh_site::{Listing, Name};
 use mh_tree::Handle;
@@ -41,9 +41,9 @@ impl Scope {
     }
 
     /// Puts a shared tree last.
-    pub(crate) fn add(&mut self, shared: Shared) -> Result<(), ReadFault>
+    pub(crate) fn add(&mut self, shared: Shared) -> Result<(), InputFault>
         ensures value { OnOk result (self.new ≡ with_shared self.old shared) }
-        ensures refused { IfErr result (λ e. e ≡ ReadFault.NoMemory) }
+        ensures refused { IfErr result (λ e. e ≡ InputFault.NoMemory) }
     {
         self.names.add(shared.name.as_str())?;
         self.trees.push(shared.tree)?;
@@ -58,12 +58,12 @@ impl Scope {
     }
 
     /// Another owner of the shared tree of a name.
-    pub(crate) fn shared(&self, name: &str) -> Result<Handle, ReadFault>
+    pub(crate) fn tree_named(&self, name: &str) -> Result<Handle, InputFault>
         ensures value { Gives (λ x. x) result (shared_named self.now name.now) }
     {
         match self.trees.as_slice().get(self.names.place(name)) {
             Some(tree) => Ok(tree.share()?),
-            None => Err(ReadFault::UnknownShared),
+            None => Err(InputFault::UnknownShared),
         }
     }
 }

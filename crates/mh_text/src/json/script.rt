@@ -5,7 +5,7 @@ ghost use Rattle.mh_text.specs.Gives.{Gives, GivesUpTo, IsOfInput};
 ghost use Rattle.mh_text.specs.Script.{declarations_of, workers_of, step_list_of, schedule_of, script_of, IsNextOf, IsReachedBy, IsReached};
 ghost use Rattle.mh_text.specs.Output.{script_of_input, IsReachedIn};
 
-use crate::fault::{Fault, ReadFault};
+use crate::fault::{Fault, InputFault};
 use crate::json::declarations::Declarations;
 use crate::json::events::read_steps;
 use crate::json::limits::read_limits;
@@ -24,7 +24,7 @@ use std::alloc::Global;
 pub(crate) const MOST_WORKERS: usize = 64;
 
 /// What a run needs.
-#[derive(Drop)]
+#[derive(Debug, Drop)]
 pub struct Script {
     pub definition: Definition,
     pub workers: u32,
@@ -41,7 +41,7 @@ pub struct Schedule {
 }
 
 /// What a script declares.
-fn read_declarations(alloc: Global, value: &Value) -> Result<Declarations, ReadFault>
+fn read_declarations(alloc: Global, value: &Value) -> Result<Declarations, InputFault>
     ensures value { Gives (λ x. x) result (declarations_of (view value.now)) }
 {
     let definition = member(value, "definition")?;
@@ -59,17 +59,16 @@ fn read_declarations(alloc: Global, value: &Value) -> Result<Declarations, ReadF
     })
 }
 
-fn read_workers(value: &Value) -> Result<u32, ReadFault>
+fn read_workers(value: &Value) -> Result<u32, InputFault>
     ensures value { Gives (λ x. x) result (workers_of (view value.now)) }
 {
     let workers = count(member(value, "workers")?, MOST_WORKERS as u64)?;
     if workers == 0 {
-        return Err(ReadFault::BadShape);
+        return Err(InputFault::BadShape);
     }
     Ok(workers as u32)
 }
 
-#[tactic(auto, using(crate::proofs::OfInput::told_of_input))]
 fn read_step_list(
     alloc: Global,
     declared: &Declarations,
@@ -84,7 +83,6 @@ fn read_step_list(
 }
 
 /// What is asked of the sites that are declared.
-#[tactic(auto, using(crate::proofs::OfInput::told_of_input))]
 fn read_schedule(alloc: Global, declared: &Declarations, value: &Value) -> Result<Schedule, Fault>
     ensures value { GivesUpTo (IsReachedBy declared.now (view value.now)) result
         (schedule_of declared.now (view value.now)) }
@@ -101,7 +99,6 @@ fn read_schedule(alloc: Global, declared: &Declarations, value: &Value) -> Resul
 }
 
 /// The script that a JSON value holds, or its first fault in the order of reading.
-#[tactic(auto, using(crate::proofs::OfInput::told_of_input))]
 fn read_script_value(alloc: Global, value: &Value) -> Result<Script, Fault>
     ensures value { GivesUpTo (IsReached (view value.now)) result (script_of (view value.now)) }
     ensures kind { IfErr result (λ e. IsOfInput e.kind) }

@@ -4,7 +4,7 @@ ghost use Rattle.serde_json.specs.View.{view};
 ghost use Rattle.mh_text.specs.Gives.{Gives};
 ghost use Rattle.mh_text.specs.Script.{place_or_none, key_of, key_kind as kind_of_key, site_of, sites_of, site_names_of};
 
-use crate::fault::ReadFault;
+use crate::fault::InputFault;
 use crate::json::links::read_links;
 use crate::json::names::Names;
 use crate::json::scope::Scope;
@@ -17,7 +17,7 @@ use serde_json::Value;
 use std::alloc::{AllocError, Global};
 
 /// A place, or none where the value is null.
-fn read_place_or_none(value: &Value) -> Result<Option<usize>, ReadFault>
+fn read_place_or_none(value: &Value) -> Result<Option<usize>, InputFault>
     ensures value { Gives (λ x. x) result (place_or_none (view value.now)) }
 {
     if value.is_null() {
@@ -27,7 +27,7 @@ fn read_place_or_none(value: &Value) -> Result<Option<usize>, ReadFault>
 }
 
 /// The key place of a site, which may be absent or null.
-fn read_key(site: &Value) -> Result<Option<usize>, ReadFault>
+fn read_key(site: &Value) -> Result<Option<usize>, InputFault>
     ensures value { Gives (λ x. x) result (key_of (view site.now)) }
 {
     match site.get("key") {
@@ -43,7 +43,7 @@ fn key_kind(method_type: &MethodType, key: Option<usize>) -> Option<Kind>
     kind_at(method_type.parameters(), key?)
 }
 
-fn read_one(alloc: Global, scope: &Scope, value: &Value) -> Result<Site, ReadFault>
+fn read_one(alloc: Global, scope: &Scope, value: &Value) -> Result<Site, InputFault>
     ensures value { Gives (λ x. x) result (site_of scope.now (view value.now)) }
 {
     let name = Name::new(alloc, text(member(value, "name")?)?)?;
@@ -65,7 +65,7 @@ pub(crate) fn read_sites(
     alloc: Global,
     scope: &Scope,
     definition: &Value,
-) -> Result<Listing<Site>, ReadFault>
+) -> Result<Listing<Site>, InputFault>
     ensures value { Gives (λ x. x) result (sites_of scope.now (view definition.now)) }
 {
     let sites = list(member(definition, "sites")?)?;

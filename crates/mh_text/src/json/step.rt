@@ -5,7 +5,7 @@ ghost use Rattle.mh_text.specs.Steps.{number_named, number_in};
 use mh_core::Event;
 
 /// One step of a script.
-#[derive(Drop)]
+#[derive(Debug, Drop)]
 pub enum Step {
     /// The machine is asked this.
     Ask(Event),
@@ -15,8 +15,8 @@ pub enum Step {
 }
 
 impl Step {
-    /// The number that the step names, from 1: of the snapshot that a plan is for, or of the plan that is
-    /// installed; 0 where it names none.
+    /// The number that the step names, from 1: of the snapshot that a plan is for, or of the plan
+    /// that is installed; 0 where it names none.
     pub fn number(&self) -> usize
         ensures value { result ≡ number_named self.now }
     {

@@ -6,7 +6,7 @@ ghost use Rattle.mh_text.specs.Gives.{Gives};
 ghost use Rattle.mh_text.specs.Shape.{each_of};
 ghost use Rattle.mh_text.specs.Trees.{part, tree_of, declared_of, filter_of, filters_of, form_named, insert_from, drop_from, permute_from, filter_from, return_from, fold_from, guard_from, point_from};
 
-use crate::fault::ReadFault;
+use crate::fault::InputFault;
 use crate::json::leaves::{read_identity, read_leaf_constant, read_operation, read_ref};
 use crate::json::scope::Scope;
 use crate::json::shape::{each, list, place, text};
@@ -25,11 +25,11 @@ fn kinds_from(kinds: &[Kind], place: usize) -> &[Kind]
 }
 
 #[cycle(tree)]
-fn read_insert(alloc: Global, scope: &Scope, args: &[Value]) -> Result<Handle, ReadFault>
+fn read_insert(alloc: Global, scope: &Scope, args: &[Value]) -> Result<Handle, InputFault>
     ensures value { Gives (λ x. x) result (insert_from (map (part scope.now) args.now)) }
 {
     let [target, position, values] = args else {
-        return Err(ReadFault::BadShape);
+        return Err(InputFault::BadShape);
     };
     let target = read_tree(alloc, scope, target)?;
     let position = place(position)?;
@@ -39,11 +39,11 @@ fn read_insert(alloc: Global, scope: &Scope, args: &[Value]) -> Result<Handle, R
 }
 
 #[cycle(tree)]
-fn read_drop(alloc: Global, scope: &Scope, args: &[Value]) -> Result<Handle, ReadFault>
+fn read_drop(alloc: Global, scope: &Scope, args: &[Value]) -> Result<Handle, InputFault>
     ensures value { Gives (λ x. x) result (drop_from (map (part scope.now) args.now)) }
 {
     let [target, position, kinds] = args else {
-        return Err(ReadFault::BadShape);
+        return Err(InputFault::BadShape);
     };
     let target = read_tree(alloc, scope, target)?;
     let position = place(position)?;
@@ -52,11 +52,11 @@ fn read_drop(alloc: Global, scope: &Scope, args: &[Value]) -> Result<Handle, Rea
 }
 
 #[cycle(tree)]
-fn read_permute(alloc: Global, scope: &Scope, args: &[Value]) -> Result<Handle, ReadFault>
+fn read_permute(alloc: Global, scope: &Scope, args: &[Value]) -> Result<Handle, InputFault>
     ensures value { Gives (λ x. x) result (permute_from (map (part scope.now) args.now)) }
 {
     let [target, new_type, reorder] = args else {
-        return Err(ReadFault::BadShape);
+        return Err(InputFault::BadShape);
     };
     let target = read_tree(alloc, scope, target)?;
     let new_type = read_type(new_type)?;
@@ -65,11 +65,11 @@ fn read_permute(alloc: Global, scope: &Scope, args: &[Value]) -> Result<Handle, 
 }
 
 #[cycle(tree)]
-fn read_filter(alloc: Global, scope: &Scope, args: &[Value]) -> Result<Handle, ReadFault>
+fn read_filter(alloc: Global, scope: &Scope, args: &[Value]) -> Result<Handle, InputFault>
     ensures value { Gives (λ x. x) result (filter_from (map (part scope.now) args.now)) }
 {
     let [target, position, filters] = args else {
-        return Err(ReadFault::BadShape);
+        return Err(InputFault::BadShape);
     };
     let target = read_tree(alloc, scope, target)?;
     let position = place(position)?;
@@ -82,11 +82,11 @@ fn read_filters(
     alloc: Global,
     scope: &Scope,
     value: &Value,
-) -> Result<Listing<Option<Handle>>, ReadFault>
+) -> Result<Listing<Option<Handle>>, InputFault>
     ensures value { Gives (λ x. x) result (filters_of scope.now (view value.now)) }
 {
     let Value::Array(items) = value else {
-        return Err(ReadFault::BadShape);
+        return Err(InputFault::BadShape);
     };
     let mut filters = Vec::new(alloc);
     for item in items.as_slice() {
@@ -100,7 +100,7 @@ fn read_filter_or_none(
     alloc: Global,
     scope: &Scope,
     value: &Value,
-) -> Result<Option<Handle>, ReadFault>
+) -> Result<Option<Handle>, InputFault>
     ensures value { Gives (λ x. x) result (filter_of scope.now (view value.now)) }
 {
     if value.is_null() {
@@ -110,11 +110,11 @@ fn read_filter_or_none(
 }
 
 #[cycle(tree)]
-fn read_filter_return(alloc: Global, scope: &Scope, args: &[Value]) -> Result<Handle, ReadFault>
+fn read_filter_return(alloc: Global, scope: &Scope, args: &[Value]) -> Result<Handle, InputFault>
     ensures value { Gives (λ x. x) result (return_from (map (part scope.now) args.now)) }
 {
     let [target, filter] = args else {
-        return Err(ReadFault::BadShape);
+        return Err(InputFault::BadShape);
     };
     let target = read_tree(alloc, scope, target)?;
     let filter = read_tree(alloc, scope, filter)?;
@@ -122,11 +122,11 @@ fn read_filter_return(alloc: Global, scope: &Scope, args: &[Value]) -> Result<Ha
 }
 
 #[cycle(tree)]
-fn read_fold(alloc: Global, scope: &Scope, args: &[Value]) -> Result<Handle, ReadFault>
+fn read_fold(alloc: Global, scope: &Scope, args: &[Value]) -> Result<Handle, InputFault>
     ensures value { Gives (λ x. x) result (fold_from (map (part scope.now) args.now)) }
 {
     let [target, combiner] = args else {
-        return Err(ReadFault::BadShape);
+        return Err(InputFault::BadShape);
     };
     let target = read_tree(alloc, scope, target)?;
     let combiner = read_tree(alloc, scope, combiner)?;
@@ -134,11 +134,11 @@ fn read_fold(alloc: Global, scope: &Scope, args: &[Value]) -> Result<Handle, Rea
 }
 
 #[cycle(tree)]
-fn read_guard(alloc: Global, scope: &Scope, args: &[Value]) -> Result<Handle, ReadFault>
+fn read_guard(alloc: Global, scope: &Scope, args: &[Value]) -> Result<Handle, InputFault>
     ensures value { Gives (λ x. x) result (guard_from (map (part scope.now) args.now)) }
 {
     let [test, target, fallback] = args else {
-        return Err(ReadFault::BadShape);
+        return Err(InputFault::BadShape);
     };
     let test = read_tree(alloc, scope, test)?;
     let target = read_tree(alloc, scope, target)?;
@@ -147,11 +147,11 @@ fn read_guard(alloc: Global, scope: &Scope, args: &[Value]) -> Result<Handle, Re
 }
 
 #[cycle(tree)]
-fn read_branches(alloc: Global, scope: &Scope, args: &[Value]) -> Result<Handle, ReadFault>
+fn read_branches(alloc: Global, scope: &Scope, args: &[Value]) -> Result<Handle, InputFault>
     ensures value { Gives (λ x. x) result (point_from scope.now (map (part scope.now) args.now)) }
 {
     let [name, target, fallback] = args else {
-        return Err(ReadFault::BadShape);
+        return Err(InputFault::BadShape);
     };
     let point = scope.point_number(text(name)?);
     let target = read_tree(alloc, scope, target)?;
@@ -161,8 +161,9 @@ fn read_branches(alloc: Global, scope: &Scope, args: &[Value]) -> Result<Handle,
 
 /// What a word heads.
 #[cycle(tree)]
-fn read_form(alloc: Global, scope: &Scope, word: &str, args: &[Value]) -> Result<Handle, ReadFault>
-    ensures value { Gives (λ x. x) result (form_named scope.now word.now (map (part scope.now) args.now)) }
+fn read_form(alloc: Global, scope: &Scope, word: &str, args: &[Value]) -> Result<Handle, InputFault>
+    ensures value { Gives (λ x. x) result
+        (form_named scope.now word.now (map (part scope.now) args.now)) }
 {
     match word {
         "const" => read_leaf_constant(alloc, scope, args),
@@ -177,20 +178,20 @@ fn read_form(alloc: Global, scope: &Scope, word: &str, args: &[Value]) -> Result
         "fold" => read_fold(alloc, scope, args),
         "guard" => read_guard(alloc, scope, args),
         "point" => read_branches(alloc, scope, args),
-        _ => Err(ReadFault::BadShape),
+        _ => Err(InputFault::BadShape),
     }
 }
 
 /// A tree by its form, over the names that it may use.
 #[cycle(tree)]
-pub(crate) fn read_tree(alloc: Global, scope: &Scope, value: &Value) -> Result<Handle, ReadFault>
+pub(crate) fn read_tree(alloc: Global, scope: &Scope, value: &Value) -> Result<Handle, InputFault>
     ensures value { Gives (λ x. x) result (tree_of scope.now (view value.now)) }
 {
     let Value::Array(items) = value else {
-        return Err(ReadFault::BadShape);
+        return Err(InputFault::BadShape);
     };
     let [head, args @ ..] = items.as_slice() else {
-        return Err(ReadFault::BadShape);
+        return Err(InputFault::BadShape);
     };
     read_form(alloc, scope, text(head)?, args)
 }
@@ -200,7 +201,7 @@ pub(crate) fn read_declared(
     alloc: Global,
     scope: &Scope,
     value: &Value,
-) -> Result<Declared, ReadFault>
+) -> Result<Declared, InputFault>
     ensures value { Gives (λ x. x) result (declared_of scope.now (view value.now)) }
 {
     Ok(Declared::new(&read_tree(alloc, scope, value)?)?)

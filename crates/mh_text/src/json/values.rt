@@ -4,7 +4,7 @@ ghost use Rattle.serde_json.specs.View.{view};
 ghost use Rattle.mh_text.specs.Gives.{Gives};
 ghost use Rattle.mh_text.specs.Values.{kind_of, type_of, op_of, long_of, is_int, text_value, value_of_kind, value_by_form, value_for, values_for};
 
-use crate::fault::ReadFault;
+use crate::fault::InputFault;
 use crate::json::shape::text;
 use mh_site::Listing;
 use mh_type::{Kind, MethodType, Op, Text, TypeFault, Value};
@@ -12,31 +12,31 @@ use serde_json::Value as Json;
 use std::alloc::Global;
 
 /// The kind of a name.
-pub(crate) fn read_kind(value: &Json) -> Result<Kind, ReadFault>
+pub(crate) fn read_kind(value: &Json) -> Result<Kind, InputFault>
     ensures value { Gives (λ x. x) result (kind_of (view value.now)) }
 {
-    Kind::from_name(text(value)?).ok_or(ReadFault::BadShape)
+    Kind::from_name(text(value)?).ok_or(InputFault::BadShape)
 }
 
 /// The method type of a text.
-pub(crate) fn read_type(value: &Json) -> Result<MethodType, ReadFault>
+pub(crate) fn read_type(value: &Json) -> Result<MethodType, InputFault>
     ensures value { Gives (λ x. x) result (type_of (view value.now)) }
 {
     Ok(MethodType::parse(text(value)?)?)
 }
 
 /// The operation of a name.
-pub(crate) fn read_op(value: &Json) -> Result<Op, ReadFault>
+pub(crate) fn read_op(value: &Json) -> Result<Op, InputFault>
     ensures value { Gives (λ x. x) result (op_of (view value.now)) }
 {
-    Op::from_name(text(value)?).ok_or(ReadFault::BadShape)
+    Op::from_name(text(value)?).ok_or(InputFault::BadShape)
 }
 
 /// A whole number of 64 bits with a sign.
-fn read_long(value: &Json) -> Result<i64, ReadFault>
+fn read_long(value: &Json) -> Result<i64, InputFault>
     ensures value { Gives (λ x. x) result (long_of (view value.now)) }
 {
-    value.as_i64().ok_or(ReadFault::BadValue)
+    value.as_i64().ok_or(InputFault::BadValue)
 }
 
 /// The same number in 32 bits, where it fits.
@@ -47,39 +47,39 @@ fn int(number: i64) -> Option<i32>
 }
 
 /// A text of at most 65,536 bytes of printable ASCII.
-fn read_text(alloc: Global, bytes: &str) -> Result<Value, ReadFault>
+fn read_text(alloc: Global, bytes: &str) -> Result<Value, InputFault>
     ensures value { Gives (λ x. x) result (text_value bytes.now) }
 {
     match Text::new(alloc, bytes) {
         Ok(text) => Ok(Value::Text(text)),
-        Err(TypeFault::NoMemory) => Err(ReadFault::NoMemory),
-        Err(_) => Err(ReadFault::BadValue),
+        Err(TypeFault::NoMemory) => Err(InputFault::NoMemory),
+        Err(_) => Err(InputFault::BadValue),
     }
 }
 
 /// A value of a kind.
-pub(crate) fn read_constant(alloc: Global, kind: Kind, value: &Json) -> Result<Value, ReadFault>
+pub(crate) fn read_constant(alloc: Global, kind: Kind, value: &Json) -> Result<Value, InputFault>
     ensures value { Gives (λ x. x) result (value_of_kind kind (view value.now)) }
 {
     match kind {
         Kind::Int => match int(read_long(value)?) {
             Some(number) => Ok(Value::Int(number)),
-            None => Err(ReadFault::BadValue),
+            None => Err(InputFault::BadValue),
         },
         Kind::Long => Ok(Value::Long(read_long(value)?)),
         Kind::Boolean => match value.as_bool() {
             Some(truth) => Ok(Value::Boolean(truth)),
-            None => Err(ReadFault::BadValue),
+            None => Err(InputFault::BadValue),
         },
         Kind::Text => match value.as_str() {
             Some(bytes) => read_text(alloc, bytes),
-            None => Err(ReadFault::BadValue),
+            None => Err(InputFault::BadValue),
         },
     }
 }
 
 /// A value by its own form.
-fn read_by_form(alloc: Global, value: &Json) -> Result<Value, ReadFault>
+fn read_by_form(alloc: Global, value: &Json) -> Result<Value, InputFault>
     ensures value { Gives (λ x. x) result (value_by_form (view value.now)) }
 {
     if let Some(bytes) = value.as_str() {
@@ -100,7 +100,7 @@ pub(crate) fn read_value(
     alloc: Global,
     kind: Option<Kind>,
     value: &Json,
-) -> Result<Value, ReadFault>
+) -> Result<Value, InputFault>
     ensures value { Gives (λ x. x) result (value_for kind (view value.now)) }
 {
     let Some(kind) = kind else {
@@ -108,7 +108,7 @@ pub(crate) fn read_value(
     };
     match read_constant(alloc, kind, value) {
         Ok(constant) => Ok(constant),
-        Err(ReadFault::NoMemory) => Err(ReadFault::NoMemory),
+        Err(InputFault::NoMemory) => Err(InputFault::NoMemory),
         Err(_) => read_by_form(alloc, value),
     }
 }
@@ -125,7 +125,7 @@ pub(crate) fn read_values(
     alloc: Global,
     kinds: &[Kind],
     values: &[Json],
-) -> Result<Listing<Value>, ReadFault>
+) -> Result<Listing<Value>, InputFault>
     ensures value { Gives (λ x. x) result (values_for kinds.now (map view values.now)) }
 {
     let mut read = Vec::new(alloc);

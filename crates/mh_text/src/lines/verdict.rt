@@ -1,9 +1,9 @@
 //! What a check finds of a plan.
 ghost use Rattle.std.specs.Prelude.{◌≡◌, string_bytes, IfOk, IfErr};
-ghost use Rattle.mh_text.specs.declared.fault.TextFault.TheVariants as text;
+ghost use Rattle.mh_text.specs.Gives.{no_memory};
 ghost use Rattle.mh_text.specs.Checks.{IsFound, verdict_line};
 
-use crate::fault::{Fault, TextFault};
+use crate::fault::{Fault, InputFault};
 use crate::streams::claim::Claim;
 use mh_cert::{CheckFault, check};
 use std::alloc::{AllocError, Global};
@@ -20,11 +20,11 @@ pub enum Verdict {
 /// What is found of the plan of a problem.
 pub(crate) fn judge(alloc: Global, claim: &Claim) -> Result<Verdict, Fault>
     ensures found { IfOk result (IsFound claim.now.problem claim.now.plan) }
-    ensures memory { IfErr result (λ e. e ≡ record { kind = text.NoMemory; at = 0 }) }
+    ensures memory { IfErr result (λ e. e ≡ record { kind = no_memory; at = 0 }) }
 {
     match check(alloc, &claim.problem, &claim.plan) {
         Ok(()) => Ok(Verdict::Accepted),
-        Err(CheckFault::NoMemory) => Err(Fault::from(TextFault::NoMemory)),
+        Err(CheckFault::NoMemory) => Err(Fault::from(InputFault::NoMemory)),
         Err(cause) => Ok(Verdict::Refused(cause)),
     }
 }

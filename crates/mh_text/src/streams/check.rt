@@ -1,9 +1,8 @@
 //! Checks of plans: bytes in, a line out.
 ghost use Rattle.std.specs.Prelude.{◌≡◌, ◌⊎◌, IfOk, IfErr, OnOk, IfSome, MatchResult};
 ghost use Rattle.std.specs.Io.KnownBytes.{Appends, Keeps};
-ghost use Rattle.mh_text.specs.declared.fault.TextFault.TheVariants as text;
 ghost use Rattle.mh_text.specs.Bytes.{HasFailed};
-ghost use Rattle.mh_text.specs.Gives.{IsEndOf};
+ghost use Rattle.mh_text.specs.Gives.{no_memory, IsEndOf};
 ghost use Rattle.mh_text.specs.Output.{outside};
 ghost use Rattle.mh_text.specs.Checks.{IsVerdict, IsCutOff, FailsCheck, verdict_line};
 
@@ -21,8 +20,10 @@ fn write_verdict<W: Write>(
     writer: &mut Watched<W>,
 ) -> Result<(), Fault>
     ensures line { MatchResult result
-        (λ _. Appends (W.contents writer.old.inner) (W.contents writer.new.inner) (verdict_line verdict))
-        (λ e. (Keeps (W.contents writer.old.inner) (W.contents writer.new.inner) × (e ≡ outside text.NoMemory))
+        (λ _. Appends (W.contents writer.old.inner) (W.contents writer.new.inner)
+        (verdict_line verdict)) (λ e.
+        (Keeps (W.contents writer.old.inner) (W.contents writer.new.inner)
+        × (e ≡ outside no_memory))
         ⊎ IsCutOff (W.contents writer.old.inner) (W.contents writer.new.inner)
         (HasFailed writer.old.failures writer.new.failures) e verdict) }
     ensures kept { OnOk result (writer.new.failures ≡ writer.old.failures) }
@@ -35,20 +36,23 @@ fn write_verdict<W: Write>(
 /// Checks the plan that the reader gives beside its problem, writes a line of what is found, and
 /// answers it: `accepted`, or `refused`, the number and the name of the first part that is wrong.
 ///
-/// The input is a JSON object with a problem at the key `problem` (see `read_problem`) and a plan at
-/// the key `plan` (see `read_plan`). It is read to its end, or to the first byte past 1,048,576. The
-/// problem is read and made before the plan is looked at. A fault in the input, or of memory, writes
-/// nothing. A failing write leaves a beginning of the line, and is told at 0.
+/// The input is a JSON object with a problem at the key `problem` (see `read_problem`) and a plan
+/// at the key `plan` (see `read_plan`). It is read to its end, or to the first byte past 1,048,576.
+/// The problem is read and made before the plan is looked at. A fault in the input, or of memory,
+/// writes nothing. A failing write leaves a beginning of the line, and is told at 0.
 pub fn check_bytes<R: Read, W: Write>(
     alloc: Global,
     reader: &mut Watched<R>,
     writer: &mut Watched<W>,
 ) -> Result<Verdict, Fault>
-    ensures ok { IfOk result (λ verdict. IfSome (R.remaining reader.old.inner) (λ input. IsVerdict input verdict)
-        × Appends (W.contents writer.old.inner) (W.contents writer.new.inner) (verdict_line verdict)) }
+    ensures ok { IfOk result (λ verdict. IfSome (R.remaining reader.old.inner)
+        (λ input. IsVerdict input verdict)
+        × Appends (W.contents writer.old.inner) (W.contents writer.new.inner)
+        (verdict_line verdict)) }
     ensures failed { IfErr result (FailsCheck (R.remaining reader.old.inner)
         (W.contents writer.old.inner) (W.contents writer.new.inner)
-        (HasFailed reader.old.failures reader.new.failures) (HasFailed writer.old.failures writer.new.failures)) }
+        (HasFailed reader.old.failures reader.new.failures)
+        (HasFailed writer.old.failures writer.new.failures)) }
     ensures told { IfErr result (λ e. IsEndOf (HasFailed reader.old.failures reader.new.failures)
         (HasFailed writer.old.failures writer.new.failures) e.kind) }
     ensures reads { OnOk result (reader.new.failures ≡ reader.old.failures) }

@@ -1,10 +1,9 @@
 //! A problem and a plan, which is claimed to be best.
 ghost use Rattle.std.specs.Prelude.{◌≡◌, ◌⊎◌, Some, codes, IfOk, IfErr, OnOk, IfSome};
 ghost use Rattle.serde_json.specs.View.{view};
-ghost use Rattle.mh_text.specs.declared.fault.TextFault.TheVariants as text;
 ghost use Rattle.mh_text.specs.Bytes.{HasFailed};
 ghost use Rattle.mh_text.specs.Checks.{Holds, IsFirstOf, IsClaim, IsClaimFault};
-ghost use Rattle.mh_text.specs.Gives.{at_place, IsEndOf, IsOfInput};
+ghost use Rattle.mh_text.specs.Gives.{at_place, no_memory, IsEndOf, IsOfInput};
 ghost use Rattle.mh_text.specs.Output.{IsUnread, outside};
 ghost use Rattle.mh_text.specs.Plans.{plan_at};
 ghost use Rattle.mh_text.specs.Problems.{rows_at};
@@ -30,9 +29,13 @@ pub struct Claim {
 
 /// The problem and then the plan of a value, each at its key.
 fn read_parts(alloc: Global, value: &Value) -> Result<Claim, Fault>
-    ensures ok { IfOk result (λ claim. Holds (at_place 0 (rows_at (Some (codes "problem")) (view value.now))) (at_place 0 (plan_at (Some (codes "plan")) (view value.now))) claim.problem claim.plan) }
+    ensures ok { IfOk result (λ claim. Holds
+        (at_place 0 (rows_at (Some (codes "problem")) (view value.now)))
+        (at_place 0 (plan_at (Some (codes "plan")) (view value.now))) claim.problem claim.plan) }
     ensures kind { IfErr result (λ e. IsOfInput e.kind) }
-    ensures failed { IfErr result (λ e. (e ≡ outside text.NoMemory) ⊎ IsFirstOf (at_place 0 (rows_at (Some (codes "problem")) (view value.now))) (at_place 0 (plan_at (Some (codes "plan")) (view value.now))) e) }
+    ensures failed { IfErr result (λ e. (e ≡ outside no_memory)
+        ⊎ IsFirstOf (at_place 0 (rows_at (Some (codes "problem")) (view value.now)))
+        (at_place 0 (plan_at (Some (codes "plan")) (view value.now))) e) }
 {
     let problem = read_problem_at(alloc, value, Some("problem"))?;
     let plan = read_plan_at(alloc, value, Some("plan"))?;
@@ -43,18 +46,20 @@ fn read_parts(alloc: Global, value: &Value) -> Result<Claim, Fault>
 fn read_claim(alloc: Global, input: &[u8]) -> Result<Claim, Fault>
     ensures ok { IfOk result (λ claim. IsClaim input.now claim.problem claim.plan) }
     ensures kind { IfErr result (λ e. IsOfInput e.kind) }
-    ensures failed { IfErr result (λ e. (e ≡ outside text.NoMemory) ⊎ IsClaimFault input.now e) }
+    ensures failed { IfErr result (λ e. (e ≡ outside no_memory) ⊎ IsClaimFault input.now e) }
 {
     read_parts(alloc, &read_json(alloc, input)?)
 }
 
 /// The problem and the plan that the reader gives.
 pub(crate) fn read_whole<R: Read>(alloc: Global, reader: &mut Watched<R>) -> Result<Claim, Fault>
-    ensures ok { IfOk result (λ claim. IfSome (R.remaining reader.old.inner) (λ input. IsClaim input claim.problem claim.plan)) }
+    ensures ok { IfOk result (λ claim. IfSome (R.remaining reader.old.inner)
+        (λ input. IsClaim input claim.problem claim.plan)) }
     ensures kept { OnOk result (reader.new.failures ≡ reader.old.failures) }
     ensures failed { IfErr result (IsUnread IsClaimFault (R.remaining reader.old.inner)
         (HasFailed reader.old.failures reader.new.failures)) }
-    ensures told { IfErr result (λ e. IsEndOf (HasFailed reader.old.failures reader.new.failures) ⊥ e.kind) }
+    ensures told { IfErr result (λ e. IsEndOf (HasFailed reader.old.failures reader.new.failures) ⊥
+        e.kind) }
 {
     let input = read_input(alloc, reader)?;
     read_claim(alloc, &input)

@@ -1,9 +1,10 @@
 //! The whole input.
 ghost use Rattle.std.specs.Prelude.{◌≡◌, ◌<◌, ◌≤◌, ◌⊎◌, length, IfOk, IfErr, OnOk, OnErr, IfSome, IsErrOf};
 ghost use Rattle.mh_text.specs.Bytes.{HasFailed, most_bytes};
+ghost use Rattle.mh_text.specs.Gives.{no_memory, too_long};
 ghost use Rattle.std.specs.Io.KnownBytes.{Consumes};
 
-use crate::fault::TextFault;
+use crate::fault::{InputFault, TextFault};
 use crate::streams::watched::Watched;
 use std::alloc::Global;
 use std::io::Read;
@@ -16,12 +17,16 @@ pub(crate) fn read_input<R: Read>(
     alloc: Global,
     reader: &mut Watched<R>,
 ) -> Result<Vec<u8>, TextFault>
-    ensures ok { IfOk result (λ input. IfSome (R.remaining reader.old.inner) (λ bytes. input.items ≡ bytes)) }
+    ensures ok { IfOk result (λ input. IfSome (R.remaining reader.old.inner) (λ bytes. input.items
+        ≡ bytes)) }
     ensures short { IfOk result (λ input. length input.items ≤ most_bytes) }
-    ensures long { IsErrOf result TextFault.TooLong → IfSome (R.remaining reader.old.inner) (λ bytes. most_bytes < length bytes) }
+    ensures long { IsErrOf result too_long
+        → IfSome (R.remaining reader.old.inner) (λ bytes. most_bytes < length bytes) }
     ensures kept { OnOk result (reader.new.failures ≡ reader.old.failures) }
-    ensures failed { IsErrOf result TextFault.ReadFailed → HasFailed reader.old.failures reader.new.failures }
-    ensures kinds { IfErr result (λ e. (e ≡ TextFault.NoMemory) ⊎ (e ≡ TextFault.TooLong) ⊎ (e ≡ TextFault.ReadFailed)) }
+    ensures failed { IsErrOf result TextFault.ReadFailed
+        → HasFailed reader.old.failures reader.new.failures }
+    ensures kinds { IfErr result (λ e. (e ≡ no_memory) ⊎ (e ≡ too_long)
+        ⊎ (e ≡ TextFault.ReadFailed)) }
 {
     let mut input = Vec::new(alloc);
     let mut buffer = [0u8; 8192];
@@ -34,5 +39,5 @@ pub(crate) fn read_input<R: Read>(
         }
         input.extend_from_slice(&part[..n])?;
     }
-    Err(TextFault::TooLong)
+    Err(TextFault::Input(InputFault::TooLong))
 }

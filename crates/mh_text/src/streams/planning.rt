@@ -1,9 +1,8 @@
 //! Planning: a problem in, its plan out.
 ghost use Rattle.std.specs.Prelude.{◌≡◌, ◌<◌, ◌≤◌, ◌++◌, ◌⊎◌, ℕ, List, true, string_bytes, IfOk, IfErr, OnOk, IfSome, MatchResult};
 ghost use Rattle.std.specs.Io.KnownBytes.{Appends};
-ghost use Rattle.mh_text.specs.declared.fault.TextFault.TheVariants as text;
 ghost use Rattle.mh_text.specs.Bytes.{HasFailed};
-ghost use Rattle.mh_text.specs.Gives.{IsEndOf, IsOfInput};
+ghost use Rattle.mh_text.specs.Gives.{no_memory, IsEndOf, IsOfInput};
 ghost use Rattle.mh_text.specs.Output.{IsUnread, outside};
 ghost use Rattle.mh_text.specs.Planning.{IsProblemInput, IsProblemFault, IsPlanOf, IsPlanned, IsCutShort, FailsPlan, line_where, lines_for};
 ghost use Rattle.mh_text.specs.Script.{most_workers};
@@ -36,18 +35,20 @@ pub struct PlanOptions {
 fn read_bytes(alloc: Global, input: &[u8]) -> Result<Problem, Fault>
     ensures ok { IfOk result (λ problem. IsProblemInput input.now problem) }
     ensures kind { IfErr result (λ e. IsOfInput e.kind) }
-    ensures failed { IfErr result (λ e. (e ≡ outside text.NoMemory) ⊎ IsProblemFault input.now e) }
+    ensures failed { IfErr result (λ e. (e ≡ outside no_memory) ⊎ IsProblemFault input.now e) }
 {
     read_problem(alloc, input, None)
 }
 
 /// The problem that the reader gives.
 fn read_whole<R: Read>(alloc: Global, reader: &mut Watched<R>) -> Result<Problem, Fault>
-    ensures ok { IfOk result (λ problem. IfSome (R.remaining reader.old.inner) (λ input. IsProblemInput input problem)) }
+    ensures ok { IfOk result (λ problem. IfSome (R.remaining reader.old.inner)
+        (λ input. IsProblemInput input problem)) }
     ensures kept { OnOk result (reader.new.failures ≡ reader.old.failures) }
     ensures failed { IfErr result (IsUnread IsProblemFault (R.remaining reader.old.inner)
         (HasFailed reader.old.failures reader.new.failures)) }
-    ensures told { IfErr result (λ e. IsEndOf (HasFailed reader.old.failures reader.new.failures) ⊥ e.kind) }
+    ensures told { IfErr result (λ e. IsEndOf (HasFailed reader.old.failures reader.new.failures) ⊥
+        e.kind) }
 {
     let input = read_input(alloc, reader)?;
     read_bytes(alloc, &input)
@@ -55,7 +56,8 @@ fn read_whole<R: Read>(alloc: Global, reader: &mut Watched<R>) -> Result<Problem
 
 /// The line of a text, where it is asked for.
 fn push_line(out: &mut String, line: &str) -> Result<(), AllocError>
-    ensures value { OnOk result (string_bytes out.new ≡ string_bytes out.old ++ line_where true line.now) }
+    ensures value { OnOk result (string_bytes out.new
+        ≡ string_bytes out.old ++ line_where true line.now) }
 {
     out.push_str(line)?;
     out.push('\n')?;
@@ -70,7 +72,8 @@ fn render(
     plan: &Plan,
     phases: &[u64],
 ) -> Result<String, AllocError>
-    ensures value { IfOk result (λ s. string_bytes s ≡ lines_for options problem.now plan.now phases.now) }
+    ensures value { IfOk result (λ s. string_bytes s
+        ≡ lines_for options problem.now plan.now phases.now) }
 {
     let mut lines = String::new(alloc);
     push_line(&mut lines, plan_line(alloc, plan)?.as_str())?;
@@ -93,7 +96,7 @@ fn plan_problem<T: Threads + Sync>(
     requires some { 0 < options.workers }
     requires few { options.workers ≤ most_workers }
     ensures planned { IfOk result (λ s. IsPlanOf options problem.now (string_bytes s)) }
-    ensures memory { IfErr result (λ e. e ≡ outside text.NoMemory) }
+    ensures memory { IfErr result (λ e. e ≡ outside no_memory) }
 {
     let (plan, phases) = plan_counted(rt, alloc, problem, options.workers, &OpenGate)?;
     Ok(render(alloc, options, problem, &plan, &phases)?)
@@ -102,22 +105,24 @@ fn plan_problem<T: Threads + Sync>(
 /// Writes the lines, or a beginning of them where a write fails, which is told at 0.
 pub fn write_lines<W: Write>(lines: String, writer: &mut Watched<W>) -> Result<(), Fault>
     ensures lines { MatchResult result
-        (λ _. Appends (W.contents writer.old.inner) (W.contents writer.new.inner) (string_bytes lines))
-        (λ e. IsCutShort (W.contents writer.old.inner) (W.contents writer.new.inner)
-        (HasFailed writer.old.failures writer.new.failures) e (string_bytes lines)) }
+        (λ _. Appends (W.contents writer.old.inner) (W.contents writer.new.inner)
+        (string_bytes lines)) (λ e. IsCutShort (W.contents writer.old.inner)
+        (W.contents writer.new.inner) (HasFailed writer.old.failures writer.new.failures) e
+        (string_bytes lines)) }
     ensures kept { OnOk result (writer.new.failures ≡ writer.old.failures) }
 {
     writer.write_all(lines.as_bytes())?;
     Ok(())
 }
 
-/// Plans the problem that the reader gives, and writes the line of its plan: the best links, the fewest
-/// where several sets are best, by `plan_line`; then the certificate, by `plan_json`, and `phases`, the
-/// number of phases of all parts' flows, `bound` and the sum of their bounds, where they are asked for.
+/// Plans the problem that the reader gives, and writes the line of its plan: the best links, the
+/// fewest where several sets are best, by `plan_line`; then the certificate, by `plan_json`, and
+/// `phases`, the number of phases of all parts' flows, `bound` and the sum of their bounds, where
+/// they are asked for.
 ///
 /// The input is a problem (see `read_problem`). It is read to its end, or to the first byte past
-/// 1,048,576. A fault in the input, or of memory, writes nothing. A failing write leaves a beginning
-/// of the lines, and is told at 0.
+/// 1,048,576. A fault in the input, or of memory, writes nothing. A failing write leaves a
+/// beginning of the lines, and is told at 0.
 pub fn plan_bytes<T: Threads + Sync, R: Read, W: Write>(
     rt: &T,
     alloc: Global,
@@ -127,11 +132,13 @@ pub fn plan_bytes<T: Threads + Sync, R: Read, W: Write>(
 ) -> Result<(), Fault>
     requires some { 0 < options.workers }
     requires few { options.workers ≤ most_workers }
-    ensures ok { OnOk result (IfSome (R.remaining reader.old.inner) (λ input. (text : List ℕ) × IsPlanned options input text
+    ensures ok { OnOk result (IfSome (R.remaining reader.old.inner) (λ input. (text : List ℕ)
+        × IsPlanned options input text
         × Appends (W.contents writer.old.inner) (W.contents writer.new.inner) text)) }
     ensures failed { IfErr result (FailsPlan options (R.remaining reader.old.inner)
         (W.contents writer.old.inner) (W.contents writer.new.inner)
-        (HasFailed reader.old.failures reader.new.failures) (HasFailed writer.old.failures writer.new.failures)) }
+        (HasFailed reader.old.failures reader.new.failures)
+        (HasFailed writer.old.failures writer.new.failures)) }
     ensures told { IfErr result (λ e. IsEndOf (HasFailed reader.old.failures reader.new.failures)
         (HasFailed writer.old.failures writer.new.failures) e.kind) }
     ensures reads { OnOk result (reader.new.failures ≡ reader.old.failures) }

@@ -8,7 +8,7 @@ ghost use Rattle.mh_text.specs.Lines.{line_of};
 ghost use Rattle.mh_text.specs.Steps.{Told, Takes};
 ghost use Rattle.mh_text.specs.Output.{script_of_input, first, AppendsRun, EndsIn, EndsEarly, EndsReading, IsUnread, Failed, IsEnd};
 
-use crate::fault::{Fault, TextFault};
+use crate::fault::{Fault, InputFault, TextFault};
 use crate::json::script::{Script, read_script};
 use crate::json::step::Step;
 use crate::lines::line;
@@ -31,14 +31,17 @@ fn write_line<W: Write>(
     writer: &mut Watched<W>,
 ) -> Result<(), Fault>
     ensures line { MatchResult result
-        (λ _. Appends (W.contents writer.old.inner) (W.contents writer.new.inner) (line_of definition.now (named, reply.now)))
-        (λ e. (e.at ≡ at) × AppendsFront (W.contents writer.old.inner) (W.contents writer.new.inner) (line_of definition.now (named, reply.now))) }
-    ensures kind { IfErr result (λ e. IsEnd (HasFailed writer.old.failures writer.new.failures) e.kind) }
+        (λ _. Appends (W.contents writer.old.inner) (W.contents writer.new.inner)
+        (line_of definition.now (named, reply.now))) (λ e. (e.at ≡ at)
+        × AppendsFront (W.contents writer.old.inner) (W.contents writer.new.inner)
+        (line_of definition.now (named, reply.now))) }
+    ensures kind { IfErr result (λ e. IsEnd (HasFailed writer.old.failures writer.new.failures)
+        e.kind) }
     ensures kept { OnOk result (writer.new.failures ≡ writer.old.failures) }
 {
     let Ok(text) = line(alloc, definition, named, reply) else {
         return Err(Fault {
-            kind: TextFault::NoMemory,
+            kind: TextFault::Input(InputFault::NoMemory),
             at,
         });
     };
@@ -57,12 +60,15 @@ fn write_step<T: Threads + Sync, W: Write>(
     at: u64,
     writer: &mut Watched<W>,
 ) -> Result<(), Fault>
-    ensures step { (told : Told) × Takes machine.old.setting machine.old.history step told machine.new.history
-        × MatchResult result
-        (λ _. Appends (W.contents writer.old.inner) (W.contents writer.new.inner) (line_of machine.old.setting.definition told))
-        (λ e. (e.at ≡ at) × AppendsFront (W.contents writer.old.inner) (W.contents writer.new.inner) (line_of machine.old.setting.definition told)) }
+    ensures step { (told : Told) × Takes machine.old.setting machine.old.history step told
+        machine.new.history × MatchResult result
+        (λ _. Appends (W.contents writer.old.inner) (W.contents writer.new.inner)
+        (line_of machine.old.setting.definition told)) (λ e. (e.at ≡ at)
+        × AppendsFront (W.contents writer.old.inner) (W.contents writer.new.inner)
+        (line_of machine.old.setting.definition told)) }
     ensures setting { machine.new.setting ≡ machine.old.setting }
-    ensures kind { IfErr result (λ e. IsEnd (HasFailed writer.old.failures writer.new.failures) e.kind) }
+    ensures kind { IfErr result (λ e. IsEnd (HasFailed writer.old.failures writer.new.failures)
+        e.kind) }
     ensures kept { OnOk result (writer.new.failures ≡ writer.old.failures) }
 {
     let named = step.number();
@@ -79,10 +85,13 @@ fn run_steps<T: Threads + Sync, W: Write>(
     steps: Vec<Step>,
     writer: &mut Watched<W>,
 ) -> Result<(), Fault>
-    ensures ok { OnOk result (AppendsRun machine steps.items (W.contents writer.old.inner) (W.contents writer.new.inner)) }
-    ensures kind { IfErr result (λ e. IsEnd (HasFailed writer.old.failures writer.new.failures) e.kind) }
+    ensures ok { OnOk result (AppendsRun machine steps.items (W.contents writer.old.inner)
+        (W.contents writer.new.inner)) }
+    ensures kind { IfErr result (λ e. IsEnd (HasFailed writer.old.failures writer.new.failures)
+        e.kind) }
     ensures kept { OnOk result (writer.new.failures ≡ writer.old.failures) }
-    ensures ends { IfErr result (λ e. EndsIn machine steps.items e.at (W.contents writer.old.inner) (W.contents writer.new.inner)) }
+    ensures ends { IfErr result (λ e. EndsIn machine steps.items e.at (W.contents writer.old.inner)
+        (W.contents writer.new.inner)) }
 {
     let mut machine = machine;
     let mut at = 0;
@@ -93,15 +102,18 @@ fn run_steps<T: Threads + Sync, W: Write>(
     Ok(())
 }
 
-/// The script that the reader gives, or its first fault in the order of reading (see `read_script`).
+/// The script that the reader gives, or its first fault in the order of reading (see
+/// `read_script`).
 ///
 /// The input is read to its end, or to the first byte past 1,048,576.
 pub fn read_script_from<R: Read>(alloc: Global, reader: &mut Watched<R>) -> Result<Script, Fault>
-    ensures ok { IfOk result (λ script. IfSome (R.remaining reader.old.inner) (λ input. script_of_input input ≡ Ok script)) }
+    ensures ok { IfOk result (λ script. IfSome (R.remaining reader.old.inner)
+        (λ input. script_of_input input ≡ Ok script)) }
     ensures kept { OnOk result (reader.new.failures ≡ reader.old.failures) }
     ensures failed { IfErr result (IsUnread EndsReading (R.remaining reader.old.inner)
         (HasFailed reader.old.failures reader.new.failures)) }
-    ensures told { IfErr result (λ e. IsEndOf (HasFailed reader.old.failures reader.new.failures) ⊥ e.kind) }
+    ensures told { IfErr result (λ e. IsEndOf (HasFailed reader.old.failures reader.new.failures) ⊥
+        e.kind) }
 {
     let input = read_input(alloc, reader)?;
     read_script(alloc, &input)
@@ -114,10 +126,11 @@ fn run_script<T: Threads + Sync, W: Write>(
     script: Script,
     writer: &mut Watched<W>,
 ) -> Result<(), Fault>
-    ensures ok { OnOk result (AppendsRun (first script) script.steps (W.contents writer.old.inner) (W.contents writer.new.inner)) }
+    ensures ok { OnOk result (AppendsRun (first script) script.steps (W.contents writer.old.inner)
+        (W.contents writer.new.inner)) }
     ensures kept { OnOk result (writer.new.failures ≡ writer.old.failures) }
-    ensures failed { IfErr result (EndsEarly script (W.contents writer.old.inner) (W.contents writer.new.inner)
-        (HasFailed writer.old.failures writer.new.failures)) }
+    ensures failed { IfErr result (EndsEarly script (W.contents writer.old.inner)
+        (W.contents writer.new.inner) (HasFailed writer.old.failures writer.new.failures)) }
 {
     let Script {
         definition,
@@ -143,10 +156,12 @@ pub fn run_bytes<T: Threads + Sync, R: Read, W: Write>(
 ) -> Result<(), Fault>
     ensures ok { OnOk result (IfSome (R.remaining reader.old.inner) (λ input. (script : Script)
         × (script_of_input input ≡ Ok script)
-        × AppendsRun (first script) script.steps (W.contents writer.old.inner) (W.contents writer.new.inner))) }
+        × AppendsRun (first script) script.steps (W.contents writer.old.inner)
+        (W.contents writer.new.inner))) }
     ensures failed { IfErr result (λ e. Failed (R.remaining reader.old.inner)
         (W.contents writer.old.inner) (W.contents writer.new.inner)
-        (HasFailed reader.old.failures reader.new.failures) (HasFailed writer.old.failures writer.new.failures) e) }
+        (HasFailed reader.old.failures reader.new.failures)
+        (HasFailed writer.old.failures writer.new.failures) e) }
     ensures told { IfErr result (λ e. IsEndOf (HasFailed reader.old.failures reader.new.failures)
         (HasFailed writer.old.failures writer.new.failures) e.kind) }
     ensures reads { OnOk result (reader.new.failures ≡ reader.old.failures) }

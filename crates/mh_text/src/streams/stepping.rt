@@ -37,7 +37,8 @@ fn publish<T: Threads + Sync>(
     machine: &mut Machine,
     snapshot: usize,
 ) -> Reply
-    ensures step { Answers machine.old.setting machine.old.history (ask_plan snapshot) result machine.new.history }
+    ensures step { Answers machine.old.setting machine.old.history
+        (ask_plan snapshot) result machine.new.history }
     ensures setting { machine.new.setting ≡ machine.old.setting }
 {
     match make_plan(rt, alloc, machine, snapshot) {
@@ -53,8 +54,11 @@ fn make_plan<T: Threads + Sync>(
     machine: &Machine,
     snapshot: usize,
 ) -> Result<SharedPlan, Refusal>
-    ensures best { IfOk result (λ plan. IsBestFor machine.now.setting machine.now.history snapshot plan) }
-    ensures refused { IfErr result (λ told. IsUnplanned machine.now.setting machine.now.history snapshot (Reply.Refused told)) }
+    ensures best { IfOk result (λ plan. IsBestFor machine.now.setting machine.now.history snapshot
+        plan) }
+    ensures refused { IfErr result
+        (λ told. IsUnplanned machine.now.setting machine.now.history snapshot
+        (Reply.Refused told)) }
 {
     let problem = machine.book().problem(snapshot)?;
     let workers = (machine.workers() as usize).clamp(1, MOST_WORKERS);

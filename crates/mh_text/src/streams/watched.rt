@@ -8,11 +8,11 @@ use std::io::{Error, ErrorKind, Read, Write};
 
 /// A reader or a writer, and how often it has failed since it was put in here.
 ///
-/// A read, a write or a flush that gives an error is a failure, and so is a write that takes none of
-/// its bytes. One that a signal interrupted (`ErrorKind::Interrupted`) is tried again, as by
+/// A read, a write or a flush that gives an error is a failure, and so is a write that takes none
+/// of its bytes. One that a signal interrupted (`ErrorKind::Interrupted`) is tried again, as by
 /// `std::io::Write::write_all`, and is none. The count is private, so that it tells of calls that
 /// were made; it begins again at 0 after 2^64 - 1.
-#[derive(Drop)]
+#[derive(Debug, Drop)]
 pub struct Watched<T> {
     pub inner: T,
     failures: u64,
@@ -48,7 +48,8 @@ fn is_interrupted(error: &Error) -> bool {
 /// One read, which is tried again where a signal interrupts it.
 fn read_once<R: Read>(reader: &mut R, buffer: &mut [u8]) -> Result<usize, TextFault>
     ensures bound { IfOk result (λ n. n ≤ length buffer.new) }
-    ensures bytes { ReadConsumes (R.remaining reader.old) (R.remaining reader.new) result buffer.new }
+    ensures bytes { ReadConsumes (R.remaining reader.old)
+        (R.remaining reader.new) result buffer.new }
     ensures fault { IfErr result (λ e. e ≡ TextFault.ReadFailed) }
 {
     for _ in 0..u64::MAX {
@@ -83,7 +84,8 @@ impl<R: Read> Watched<R> {
     /// One read.
     pub fn read(&mut self, buffer: &mut [u8]) -> Result<usize, TextFault>
         ensures bound { IfOk result (λ n. n ≤ length buffer.new) }
-        ensures bytes { ReadConsumes (R.remaining self.old.inner) (R.remaining self.new.inner) result buffer.new }
+        ensures bytes { ReadConsumes (R.remaining self.old.inner)
+            (R.remaining self.new.inner) result buffer.new }
         ensures kept { OnOk result (self.new.failures ≡ self.old.failures) }
         ensures failed { OnErr result (self.new.failures ≡ one_more self.old.failures) }
         ensures fault { IfErr result (λ e. e ≡ TextFault.ReadFailed) }
@@ -101,8 +103,10 @@ impl<R: Read> Watched<R> {
 impl<W: Write> Watched<W> {
     /// Writes the bytes, up to the first write that fails or takes none.
     pub fn write_all(&mut self, bytes: &[u8]) -> Result<(), TextFault>
-        ensures ok { OnOk result (Appends (W.contents self.old.inner) (W.contents self.new.inner) bytes.now) }
-        ensures begun { AppendsFront (W.contents self.old.inner) (W.contents self.new.inner) bytes.now }
+        ensures ok { OnOk result (Appends (W.contents self.old.inner)
+            (W.contents self.new.inner) bytes.now) }
+        ensures begun { AppendsFront (W.contents self.old.inner)
+            (W.contents self.new.inner) bytes.now }
         ensures kept { OnOk result (self.new.failures ≡ self.old.failures) }
         ensures failed { OnErr result (self.new.failures ≡ one_more self.old.failures) }
         ensures fault { IfErr result (λ e. e ≡ TextFault.WriteFailed) }

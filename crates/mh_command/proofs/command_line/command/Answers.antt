@@ -2,7 +2,7 @@ use Rattle.std.proofs.Common.{inl, inr, refl, subst, map}
 use Rattle.std.proofs.KnownBytes.{Keeps-refl}
 use Rattle.clap.specs.declared.error.kind.ErrorKind.TheVariants.{DisplayHelp, DisplayVersion}
 use Rattle.mh_text.specs.Output.{outside}
-use Rattle.mh_text.specs.declared.fault.TextFault.TheVariants.{NoMemory}
+use Rattle.mh_text.specs.Gives.{no_memory}
 use Rattle.mh_command.specs.CommandLine.{IsReply}
 use Rattle.mh_command.proofs.CommandLines.{asks_help, asks_version}
 use Rattle.mh_command.proofs.Ends.{nothing_done}
@@ -23,7 +23,7 @@ returns-in-Ok-None-clause-version g c = λ is. absurd (c.in-Ok-None.ensures.refu
 pub returns-in-Err-clause-stopped : goal.returns-in-Err-clause-stopped
 returns-in-Err-clause-stopped g c = λ request is large.
     let memory = c.reply.ensures.memory (c.in-Err.ensures.taken request is) in
-    rw (memory.1, memory.2) (outside NoMemory, inl (nothing_done request _ _ _ _), inr (inr (memory.0, (Keeps-refl _, refl))))
+    rw (memory.1, memory.2) (outside no_memory, inl (nothing_done request _ _ _ _), inr (inr (memory.0, (Keeps-refl _, refl))))
 
 pub returns-in-Err-clause-replied : goal.returns-in-Err-clause-replied
 returns-in-Err-clause-replied g c = λ kind faulty. (

@@ -3,9 +3,10 @@ use Rattle.mh_eval.specs.Entered.{EntersPlain}
 use Rattle.mh_tree.specs.Handle.{TypedTree}
 use Rattle.mh_tree.specs.Limits.{point_bound}
 use Rattle.mh_site.specs.Worlds.{WorldState, state_at}
-use Rattle.mh_core.specs.Records.{valid_points}
+use Rattle.mh_core.specs.Records.{environment}
 use Rattle.mh_core.proofs.Calls.{reads, answered}
 use Rattle.mh_core.proofs.accepting.evaluate_call.Goals as goal
+use Rattle.mh_tree.specs.Environment.{with_points}
 
 pub base-requires : goal.base-requires
 base-requires c =
@@ -48,5 +49,5 @@ returns-in-Err-clause-memory c = λ plain.
     let r = reads b c.args.site c.world-world.ensures.book c.requires.inside in
     let tree = c.prepared-linked.ensures.value ∙ ap (λ (w : WorldState). (state_at w c.args.site).linked) c.world-world.ensures.value ∙ r.table in
     let valid = c.valid-valid.ensures.value ∙ ap (λ (w : WorldState). w.valid) c.world-world.ensures.value ∙ r.points in
-    let here = subst (λ (t : TypedTree). EntersPlain (valid_points b.definition b.records) t.tree a) (sym tree) plain in
-    c.in-Err.ensures.memory (subst (λ (v : List Bool). EntersPlain v c.prepared-linked.result.now.tree a) (sym valid) here)
+    let here = subst (λ (t : TypedTree). EntersPlain (environment b.definition b.records) t.tree a) (sym tree) plain in
+    c.in-Err.ensures.memory (subst (λ (v : List Bool). EntersPlain (with_points v) c.prepared-linked.result.now.tree a) (sym valid) here)

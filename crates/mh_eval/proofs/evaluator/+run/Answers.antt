@@ -10,47 +10,46 @@ use Rattle.mh_tree.specs.TreeOf.{tree_of, filter_trees}
 use Rattle.mh_tree.specs.declared.node.Node.{Node}
 use Rattle.std.specs.declared.alloc.Global.{Global}
 use Rattle.std.specs.declared.sync.Arc.{Arc}
-use Rattle.mh_tree.proofs.Trees.{tree_of_filter}
-use Rattle.mh_tree.proofs.Effort.{effort, total_effort}
-use Rattle.mh_tree.proofs.LeadingArguments.{filtered_length}
+use Rattle.mh_tree.proofs.PublicLaws.{tree_of_filter, effort, total_effort, filtered_length}
 use Rattle.mh_eval.proofs.Extending.{top_of, one_copy}
 use Rattle.mh_eval.proofs.FilterRuns.{runs_filters, target_runs}
 use Rattle.mh_eval.proofs.FilterWalks.{filter_refused, filter_ends, filter_goes_on, present_ends, present_goes}
 use Rattle.mh_eval.proofs.Walks.{ends, still_answered, tree_of_identity, tree_of_operation, one_effort, insert_walks, insert_refused, discard_walks, discard_refused, permute_walks, permute_refused, return_goes, fold_ends, fold_goes, guard_ends, guard_goes, fold_refused, return_refused, point_walks, one_runs, one_of, one_size, within, sixteen_runs, first_sixteen, identity_walks, operation_walks}
 use Rattle.mh_eval.proofs.evaluator.+run.Goals as goal
+use Rattle.mh_tree.specs.Environment.{with_points}
 
 pub run_insert-returns-in_default-clause-walked : goal.run_insert-returns-in_default-clause-walked
 run_insert-returns-in_default-clause-walked t c =
-    insert_refused c.args.valid.now (tree_of c.args.target.now) c.args.position c.args.values.now (drop c.args.from c.args.stack.now.items) _ c.requires.can_run c.args.stack.now.items _ _ _ c.in_default.field-0 (omega (arith, c.requires.narrow, c.requires.inside, length-drop c.args.from c.args.stack.now.items)) c.in_default.ensures.extends
+    insert_refused (with_points c.args.valid.now) (tree_of c.args.target.now) c.args.position c.args.values.now (drop c.args.from c.args.stack.now.items) _ c.requires.can_run c.args.stack.now.items _ _ _ c.in_default.field-0 (omega (arith, c.requires.narrow, c.requires.inside, length-drop c.args.from c.args.stack.now.items)) c.in_default.ensures.extends
 
 pub run_insert-returns-clause-walked : goal.run_insert-returns-clause-walked
 run_insert-returns-clause-walked t c =
     let old = c.args.stack.now.items in
     let whole : c.len-base.result ≡ length old = search rules in
     let top = top_of old _ _ c.len-base.result whole c.in-Ok.ensures.extends.value in
-    insert_walks c.args.valid.now (tree_of c.args.target.now) c.args.position c.args.values.now (drop c.args.from old) _ c.requires.can_run _ _ _ _ _ _ (rw (top) at c.run_above-answer.ensures.walked) (omega (arith, whole)) c.in-Ok.ensures.extends.room
+    insert_walks (with_points c.args.valid.now) (tree_of c.args.target.now) c.args.position c.args.values.now (drop c.args.from old) _ c.requires.can_run _ _ _ _ _ _ (rw (top) at c.run_above-answer.ensures.walked) (omega (arith, whole)) c.in-Ok.ensures.extends.room
 
 pub run_drop-returns-in_default-clause-walked : goal.run_drop-returns-in_default-clause-walked
 run_drop-returns-in_default-clause-walked t c =
-    discard_refused c.args.valid.now (tree_of c.args.target.now) c.args.position c.args.kinds.now (drop c.args.from c.args.stack.now.items) _ c.requires.can_run c.args.stack.now.items _ _ _ c.in_default.field-0 (omega (arith, c.requires.narrow, c.requires.inside, length-drop c.args.from c.args.stack.now.items)) c.in_default.ensures.extends
+    discard_refused (with_points c.args.valid.now) (tree_of c.args.target.now) c.args.position c.args.kinds.now (drop c.args.from c.args.stack.now.items) _ c.requires.can_run c.args.stack.now.items _ _ _ c.in_default.field-0 (omega (arith, c.requires.narrow, c.requires.inside, length-drop c.args.from c.args.stack.now.items)) c.in_default.ensures.extends
 
 pub run_drop-returns-clause-walked : goal.run_drop-returns-clause-walked
 run_drop-returns-clause-walked t c =
     let old = c.args.stack.now.items in
     let whole : c.len-base.result ≡ length old = search rules in
     let top = top_of old _ _ c.len-base.result whole c.in-Ok.ensures.extends.value in
-    discard_walks c.args.valid.now (tree_of c.args.target.now) c.args.position c.args.kinds.now (drop c.args.from old) _ c.requires.can_run _ _ _ _ _ _ (rw (top) at c.run_above-answer.ensures.walked) (omega (arith, whole)) c.in-Ok.ensures.extends.room
+    discard_walks (with_points c.args.valid.now) (tree_of c.args.target.now) c.args.position c.args.kinds.now (drop c.args.from old) _ c.requires.can_run _ _ _ _ _ _ (rw (top) at c.run_above-answer.ensures.walked) (omega (arith, whole)) c.in-Ok.ensures.extends.room
 
 pub run_permute-returns-in_default-clause-walked : goal.run_permute-returns-in_default-clause-walked
 run_permute-returns-in_default-clause-walked t c =
-    permute_refused c.args.valid.now (tree_of c.args.target.now) c.args.new_type.now c.args.reorder.now (drop c.args.from c.args.stack.now.items) _ c.requires.can_run c.args.stack.now.items _ _ _ c.in_default.field-0 c.in_default.ensures.extends
+    permute_refused (with_points c.args.valid.now) (tree_of c.args.target.now) c.args.new_type.now c.args.reorder.now (drop c.args.from c.args.stack.now.items) _ c.requires.can_run c.args.stack.now.items _ _ _ c.in_default.field-0 c.in_default.ensures.extends
 
 pub run_permute-returns-clause-walked : goal.run_permute-returns-clause-walked
 run_permute-returns-clause-walked t c =
     let old = c.args.stack.now.items in
     let whole : c.len-base.result ≡ length old = search rules in
     let top = top_of old _ _ c.len-base.result whole c.in-Ok.ensures.extends.value in
-    permute_walks c.args.valid.now (tree_of c.args.target.now) c.args.new_type.now c.args.reorder.now (drop c.args.from old) _ c.requires.can_run _ _ _ _ _ _ (rw (top) at c.run_above-answer.ensures.walked) (omega (arith, whole)) c.in-Ok.ensures.extends.room
+    permute_walks (with_points c.args.valid.now) (tree_of c.args.target.now) c.args.new_type.now c.args.reorder.now (drop c.args.from old) _ c.requires.can_run _ _ _ _ _ _ (rw (top) at c.run_above-answer.ensures.walked) (omega (arith, whole)) c.in-Ok.ensures.extends.room
 
 pub run-returns-in-Identity-clause-walked : goal.run-returns-in-Identity-clause-walked
 run-returns-in-Identity-clause-walked t c =
@@ -62,12 +61,12 @@ run-returns-in-Identity-clause-walked t c =
     let zero : c.args.from + 0 ≡ c.args.from = omega arith in
     let is : c.index.result.now ≡ argument (drop c.args.from old) 0 =
     c.index.ensures ∙ get_or_default old c.args.from c.index.result.now (Boolean false) inside ∙ sym (get_or-drop c.args.from old 0 (Boolean false) ∙ ap (argument old) zero) in
-    rw e (identity_walks c.args.valid.now c.in-Identity.field-0 (drop c.args.from old) _ _ _ _ _ runs is c.share-in-Identity.ensures.value c.share-in-Identity.ensures.quiet)
+    rw e (identity_walks (with_points c.args.valid.now) c.in-Identity.field-0 (drop c.args.from old) _ _ _ _ _ runs is c.share-in-Identity.ensures.value c.share-in-Identity.ensures.quiet)
 
 pub run-returns-in-Operation-clause-walked : goal.run-returns-in-Operation-clause-walked
 run-returns-in-Operation-clause-walked t c =
     let e : tree_of c.args.node.now ≡ operation c.in-Operation.op = ap tree_of c.in-Operation.is ∙ tree_of_operation c.in-Operation.op in
-    rw e (operation_walks c.args.valid.now c.in-Operation.op (drop c.args.from c.args.stack.now.items) _ _ _ (rw (c.arguments_from.ensures.value) at c.run_operation.ensures.value) c.run_operation.ensures.quiet)
+    rw e (operation_walks (with_points c.args.valid.now) c.in-Operation.op (drop c.args.from c.args.stack.now.items) _ _ _ (rw (c.arguments_from.ensures.value) at c.run_operation.ensures.value) c.run_operation.ensures.quiet)
 
 pub run_above-run-answer-requires : goal.run_above-run-answer-requires
 run_above-run-answer-requires t c =
@@ -115,7 +114,7 @@ run_filter-returns-in_default-clause-walked t c =
     let fs = filters_of (filter_trees c.args.filters.now) in
     let whole : c.len-base.result ≡ length old = search rules in
     let copied : drop c.args.from (take c.len-base.result old) ≡ a = ap (drop c.args.from) (ap (λ n. take n old) whole ∙ take-length old) in
-    filter_refused c.args.valid.now (tree_of c.args.target.now) c.args.position fs a _ c.requires.can_run old _ _ _ _ c.in_default.field-0 copied (omega (arith, c.requires.narrow, c.requires.inside, length-drop c.args.from old)) c.in_default.ensures.extends
+    filter_refused (with_points c.args.valid.now) (tree_of c.args.target.now) c.args.position fs a _ c.requires.can_run old _ _ _ _ c.in_default.field-0 copied (omega (arith, c.requires.narrow, c.requires.inside, length-drop c.args.from old)) c.in_default.ensures.extends
 
 pub run_filter-run_filters-passed-requires : goal.run_filter-run_filters-passed-requires
 run_filter-run_filters-passed-requires t c =
@@ -141,7 +140,7 @@ run_filter-returns-in-Err-clause-walked t c =
     let many = ap (λ l. length l) c.in-Ok.ensures.extends.value ∙ length-append old (drop c.args.from (take c.len-base.result old)) in
     let width = ap (λ l. length l) copied in
     let passed = rw (frame, c.in-Err.is) at c.run_filters-passed.ensures.passed in
-    filter_ends c.args.valid.now (tree_of c.args.target.now) c.args.position fs a _ c.requires.can_run c.in-Err.answer _ _ _ _ passed _ _
+    filter_ends (with_points c.args.valid.now) (tree_of c.args.target.now) c.args.position fs a _ c.requires.can_run c.in-Err.answer _ _ _ _ passed _ _
     (omega (arith, many, width, c.requires.narrow, c.requires.inside, length-drop c.args.from old)) c.in-Ok.ensures.extends.room
 
 pub run_filter-run_above-answer-requires : goal.run_filter-run_above-answer-requires
@@ -175,7 +174,7 @@ run_filter-returns-clause-walked t c =
     let many = ap (λ l. length l) c.in-Ok.ensures.extends.value ∙ length-append old (drop c.args.from (take c.len-base.result old)) in
     let width = ap (λ l. length l) copied in
     let passed = rw (frame, c.in_default-passed.is) at c.run_filters-passed.ensures.passed in
-    filter_goes_on c.args.valid.now (tree_of c.args.target.now) c.args.position fs a _ c.requires.can_run _ _ _ _ _ passed _ _ _ _ _ _ c.run_above-answer.ensures.walked
+    filter_goes_on (with_points c.args.valid.now) (tree_of c.args.target.now) c.args.position fs a _ c.requires.can_run _ _ _ _ _ passed _ _ _ _ _ _ c.run_above-answer.ensures.walked
     (omega (arith, whole)) (omega (arith, c.in-Ok.ensures.extends.room, c.run_filters-passed.ensures.room))
 
 pub run_filter_return-returns-in_default-clause-walked : goal.run_filter_return-returns-in_default-clause-walked
@@ -183,7 +182,7 @@ run_filter_return-returns-in_default-clause-walked t c =
     let a = drop c.args.from c.args.stack.now.items in
     let same = c.run-first.ensures.stack in
     let many = ap (λ l. length l) same in
-    return_refused c.args.valid.now (tree_of c.args.target.now) (tree_of c.args.last.now) a _ c.requires.can_run _ _ _ _ c.run-first.ensures.walked c.in-Ok.value (sym c.in-Ok.ensures.value) c.run-first.new.stack.items _ _ _ c.in_default.field-0
+    return_refused (with_points c.args.valid.now) (tree_of c.args.target.now) (tree_of c.args.last.now) a _ c.requires.can_run _ _ _ _ c.run-first.ensures.walked c.in-Ok.value (sym c.in-Ok.ensures.value) c.run-first.new.stack.items _ _ _ c.in_default.field-0
     (c.in_default.ensures.extends) (omega (arith, many)) c.run-first.ensures.room
 
 pub run_filter_return-returns-clause-walked : goal.run_filter_return-returns-clause-walked
@@ -193,19 +192,19 @@ run_filter_return-returns-clause-walked t c =
     let many = ap (λ l. length l) same in
     let whole : c.len-base.result ≡ length c.run-first.new.stack.items = search rules in
     let top = top_of c.run-first.new.stack.items _ _ c.len-base.result whole c.in-Ok-put.ensures.extends.value in
-    return_goes c.args.valid.now (tree_of c.args.target.now) (tree_of c.args.last.now) a _ c.requires.can_run _ _ _ _ c.run-first.ensures.walked c.in-Ok.value (sym c.in-Ok.ensures.value) _ _ _ _
+    return_goes (with_points c.args.valid.now) (tree_of c.args.target.now) (tree_of c.args.last.now) a _ c.requires.can_run _ _ _ _ c.run-first.ensures.walked c.in-Ok.value (sym c.in-Ok.ensures.value) _ _ _ _
     (rw (top) at c.run_above-answer.ensures.walked) (omega (arith, many, whole)) (omega (arith, c.run-first.ensures.room, c.in-Ok-put.ensures.extends.room))
 
 pub run_fold-returns-in-Err-clause-walked : goal.run_fold-returns-in-Err-clause-walked
 run_fold-returns-in-Err-clause-walked t c =
-    fold_ends c.args.valid.now (tree_of c.args.target.now) (tree_of c.args.combiner.now) (drop c.args.from c.args.stack.now.items) _ c.requires.can_run _ _ _ _ c.run-first.ensures.walked c.in-Err.answer (sym c.in-Err.ensures.value)
+    fold_ends (with_points c.args.valid.now) (tree_of c.args.target.now) (tree_of c.args.combiner.now) (drop c.args.from c.args.stack.now.items) _ c.requires.can_run _ _ _ _ c.run-first.ensures.walked c.in-Err.answer (sym c.in-Err.ensures.value)
 
 pub run_fold-returns-in_default-clause-walked : goal.run_fold-returns-in_default-clause-walked
 run_fold-returns-in_default-clause-walked t c =
     let a = drop c.args.from c.args.stack.now.items in
     let same = c.run-first.ensures.stack in
     let many = ap (λ l. length l) same in
-    fold_refused c.args.valid.now (tree_of c.args.target.now) (tree_of c.args.combiner.now) a _ c.requires.can_run _ _ _ _ c.run-first.ensures.walked c.in-Ok.value (sym c.in-Ok.ensures.value) c.run-first.new.stack.items _ _ _ c.in_default.field-0
+    fold_refused (with_points c.args.valid.now) (tree_of c.args.target.now) (tree_of c.args.combiner.now) a _ c.requires.can_run _ _ _ _ c.run-first.ensures.walked c.in-Ok.value (sym c.in-Ok.ensures.value) c.run-first.new.stack.items _ _ _ c.in_default.field-0
     (rw (ap (drop c.args.from) same) at c.in_default.ensures.extends) (omega (arith, c.requires.narrow, c.requires.inside, length-drop c.args.from c.args.stack.now.items)) (omega (arith, many)) c.run-first.ensures.room
 
 pub run_fold-returns-clause-walked : goal.run_fold-returns-clause-walked
@@ -215,17 +214,17 @@ run_fold-returns-clause-walked t c =
     let many = ap (λ l. length l) same in
     let whole : c.len-base.result ≡ length c.run-first.new.stack.items = search rules in
     let top = top_of c.run-first.new.stack.items _ _ c.len-base.result whole c.in-Ok-put_first.ensures.extends.value ∙ ap (λ l. c.in-Ok.value ∷ drop c.args.from l) same in
-    fold_goes c.args.valid.now (tree_of c.args.target.now) (tree_of c.args.combiner.now) a _ c.requires.can_run _ _ _ _ c.run-first.ensures.walked c.in-Ok.value (sym c.in-Ok.ensures.value) _ _ _ _
+    fold_goes (with_points c.args.valid.now) (tree_of c.args.target.now) (tree_of c.args.combiner.now) a _ c.requires.can_run _ _ _ _ c.run-first.ensures.walked c.in-Ok.value (sym c.in-Ok.ensures.value) _ _ _ _
     (rw (top) at c.run_above-answer.ensures.walked) (omega (arith, many, whole)) (omega (arith, c.run-first.ensures.room, c.in-Ok-put_first.ensures.extends.room))
 
 pub run_guard-returns-in-Err-clause-walked : goal.run_guard-returns-in-Err-clause-walked
 run_guard-returns-in-Err-clause-walked t c =
-    guard_ends c.args.valid.now (tree_of c.args.test.now) (tree_of c.args.target.now) (tree_of c.args.fallback.now) (drop c.args.from c.args.stack.now.items) _ c.requires.can_run _ _ _ _ c.run-choice.ensures.walked c.in-Err.answer (sym c.in-Err.ensures.value)
+    guard_ends (with_points c.args.valid.now) (tree_of c.args.test.now) (tree_of c.args.target.now) (tree_of c.args.fallback.now) (drop c.args.from c.args.stack.now.items) _ c.requires.can_run _ _ _ _ c.run-choice.ensures.walked c.in-Err.answer (sym c.in-Err.ensures.value)
 
 pub run_guard-returns-clause-walked : goal.run_guard-returns-clause-walked
 run_guard-returns-clause-walked t c =
     let branch = c.branch_by-branch.ensures.value ∙ ap (λ q. one_of q (tree_of c.args.target.now) (tree_of c.args.fallback.now)) c.holds.ensures.value in
-    guard_goes c.args.valid.now (tree_of c.args.test.now) (tree_of c.args.target.now) (tree_of c.args.fallback.now) (drop c.args.from c.args.stack.now.items) _ c.requires.can_run _ _ _ _ c.run-choice.ensures.walked c.in-Ok.value (sym c.in-Ok.ensures.value) _ _ _ _
+    guard_goes (with_points c.args.valid.now) (tree_of c.args.test.now) (tree_of c.args.target.now) (tree_of c.args.fallback.now) (drop c.args.from c.args.stack.now.items) _ c.requires.can_run _ _ _ _ c.run-choice.ensures.walked c.in-Ok.value (sym c.in-Ok.ensures.value) _ _ _ _
     (rw (branch, c.run-choice.ensures.stack) at c.run-answer.ensures.walked) (omega arith) c.run-choice.ensures.room
 
 pub run_place-returns-in-Err-clause-placed : goal.run_place-returns-in-Err-clause-placed
@@ -247,7 +246,7 @@ pub run_point-run-answer-requires : goal.run_point-run-answer-requires
 run_point-run-answer-requires t c =
     let x = tree_of c.args.target.now in
     let y = tree_of c.args.fallback.now in
-    let valid = is_valid c.args.valid.now c.args.point in
+    let valid = is_valid (with_points c.args.valid.now) c.args.point in
     let branch : tree_of c.branch_by-branch.result.now ≡ one_of valid x y = c.branch_by-branch.ensures.value in
     let runs = c.requires.can_run in (
       omega (arith, ap effort branch, one_effort valid x y),
@@ -258,7 +257,7 @@ pub run_point-overflow_add-result : goal.run_point-overflow_add-result
 run_point-overflow_add-result t c =
     let x = tree_of c.args.target.now in
     let y = tree_of c.args.fallback.now in
-    let valid = is_valid c.args.valid.now c.args.point in
+    let valid = is_valid (with_points c.args.valid.now) c.args.point in
     let branch : tree_of c.branch_by-branch.result.now ≡ one_of valid x y = c.branch_by-branch.ensures.value in
     omega (arith, c.run-answer.ensures.walked.few, ap size branch, one_size valid x y, c.requires.can_run.small)
 
@@ -266,18 +265,18 @@ pub run_point-returns-clause-walked : goal.run_point-returns-clause-walked
 run_point-returns-clause-walked t c =
     let x = tree_of c.args.target.now in
     let y = tree_of c.args.fallback.now in
-    let valid = is_valid c.args.valid.now c.args.point in
+    let valid = is_valid (with_points c.args.valid.now) c.args.point in
     let branch : tree_of c.branch_by-branch.result.now ≡ one_of valid x y = c.branch_by-branch.ensures.value in
-    point_walks c.args.valid.now c.args.point x y (drop c.args.from c.args.stack.now.items) _ _ _ _ _ _ (rw (branch) at c.run-answer.ensures.walked) (omega arith) (omega arith)
+    point_walks (with_points c.args.valid.now) c.args.point x y (drop c.args.from c.args.stack.now.items) _ _ _ _ _ _ (rw (branch) at c.run-answer.ensures.walked) (omega arith) (omega arith)
 
 pub run_present-returns-in-Err-clause-passed : goal.run_present-returns-in-Err-clause-passed
 run_present-returns-in-Err-clause-passed t c =
-    present_ends c.args.valid.now (tree_of c.args.node.now) (filters_of (filter_trees c.args.rest.now)) c.args.base c.args.position c.args.stack.now.items _ _ _ _ c.requires.fits
+    present_ends (with_points c.args.valid.now) (tree_of c.args.node.now) (filters_of (filter_trees c.args.rest.now)) c.args.base c.args.position c.args.stack.now.items _ _ _ _ c.requires.fits
     c.in-Err.answer _ (rw (c.in-Err.is) at c.run_place-placed.ensures.placed)
 
 pub run_present-returns-clause-passed : goal.run_present-returns-clause-passed
 run_present-returns-clause-passed t c =
     let placed = rw (c.in_default.is) at c.run_place-placed.ensures.placed in
     let many = ap (λ l. length l) placed.value.2 in
-    present_goes c.args.valid.now (tree_of c.args.node.now) (filters_of (filter_trees c.args.rest.now)) c.args.base c.args.position c.args.stack.now.items _ _ _ _ c.requires.fits
+    present_goes (with_points c.args.valid.now) (tree_of c.args.node.now) (filters_of (filter_trees c.args.rest.now)) c.args.base c.args.position c.args.stack.now.items _ _ _ _ c.requires.fits
     _ _ _ _ _ _ placed c.run_filters-passed.ensures.passed (omega (arith, many, length-set c.args.stack.now.items (c.args.base + c.args.position) (argument c.run_place-placed.new.stack.items (c.args.base + c.args.position)))) c.run_place-placed.ensures.room

@@ -5,6 +5,7 @@ use Rattle.mh_eval.specs.Quiet.{IsQuiet, deep}
 use Rattle.mh_tree.specs.Running.{run_code, code_steps, weight}
 use Rattle.mh_tree.specs.Scoped.{IsScoped}
 use Rattle.mh_eval.proofs.running.+run_on.Given as goal
+use Rattle.mh_tree.specs.Environment.{with_points}
 
 -- what is left to do: four for each level, and one to three for the call that has entered a piece
 abbrev pub decreases-run_on : goal.decreases-run_on
@@ -17,7 +18,10 @@ abbrev pub decreases-enter_bind : goal.decreases-enter_bind
 decreases-enter_bind l = 4 * height (code_of l.first.now) + 4
 
 abbrev pub decreases-enter_branch : goal.decreases-enter_branch
-decreases-enter_branch l = 4 * height (code_of l.test.now) + 3
+decreases-enter_branch l = 4 * height (code_of l.test.now) + 4
+
+abbrev pub decreases-answer_piece : goal.decreases-answer_piece
+decreases-answer_piece l = 4 * height (code_of l.code.now) + 3
 
 abbrev pub decreases-push_first : goal.decreases-push_first
 decreases-push_first l = 4 * height (code_of l.first.now) + 3
@@ -30,13 +34,13 @@ abbrev pub invariant-run_on-loop-next : goal.invariant-run_on-loop-next
 invariant-run_on-loop-next l =
     record {
       kept : take l.depth l.stack.items ≡ l.initial.stack.items;
-      outcome : run_code l.valid (code_of l.node) l.arguments l.stack.items ≡ run_code l.valid (code_of l.code) l.arguments l.initial.stack.items;
-      steps : l.total + code_steps l.valid (code_of l.node) l.arguments l.stack.items ≡ l.before + code_steps l.valid (code_of l.code) l.arguments l.initial.stack.items;
+      outcome : run_code (with_points l.valid) (code_of l.node) l.arguments l.stack.items ≡ run_code (with_points l.valid) (code_of l.code) l.arguments l.initial.stack.items;
+      steps : l.total + code_steps (with_points l.valid) (code_of l.node) l.arguments l.stack.items ≡ l.before + code_steps (with_points l.valid) (code_of l.code) l.arguments l.initial.stack.items;
       few : l.total + weight (code_of l.node) ≤ l.before + weight (code_of l.code);
       scoped : IsScoped (length l.valid) (length l.arguments) (length l.stack.items) (code_of l.node);
       lower : height (code_of l.node) ≤ height (code_of l.code);
       room : vec_capacity l.initial.stack ≤ vec_capacity l.stack;
-      quiet : IsQuiet l.valid (code_of l.code) l.arguments l.initial.stack.items → IsQuiet l.valid (code_of l.node) l.arguments l.stack.items;
+      quiet : IsQuiet (with_points l.valid) (code_of l.code) l.arguments l.initial.stack.items → IsQuiet (with_points l.valid) (code_of l.node) l.arguments l.stack.items;
       shallow : length l.stack.items + deep (code_of l.node) ≤ length l.initial.stack.items + deep (code_of l.code);
       small : l.before + weight (code_of l.code) ≤ 262144;
       whole : l.depth ≡ length l.initial.stack.items;

@@ -1,7 +1,7 @@
 use denote.Exit.{no}
 use denote.Param.{param}
 use denote.Param.Send.{param_send, param_sync, arg_send, sendable}
-use Rattle.mh_live.proofs.Sending.{live_sync, pass_send}
+use Rattle.mh_live.proofs.PublicLaws.{live_sync, pass_send}
 use Rattle.mh_stress.proofs.Sending.{call_sync}
 use Rattle.mh_stress.proofs.threads.work.Goals as goal
 

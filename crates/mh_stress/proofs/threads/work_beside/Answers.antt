@@ -4,7 +4,7 @@ use Rattle.std.proofs.Crossing as crossing
 use Rattle.std.proofs.alloc.Global.TheSendSync as global
 use Rattle.std.proofs.option.Option.TheSendSync as option
 use Rattle.std.proofs.vec.Vec.TheSendSync as vec
-use Rattle.mh_live.proofs.Sending.{live_sync, pass_send}
+use Rattle.mh_live.proofs.PublicLaws.{live_sync, pass_send}
 use Rattle.mh_stress.proofs.Sending.{call_sync}
 use Rattle.mh_stress.proofs.threads.work_beside.Goals as goal
 

@@ -4,7 +4,7 @@ use Rattle.std.proofs.Crossing as crossing
 use Rattle.std.proofs.alloc.Global.TheSendSync as global
 use Rattle.std.proofs.option.Option.TheSendSync as option
 use Rattle.std.proofs.vec.Vec.TheSendSync as vec
-use Rattle.mh_live.proofs.Sending.{pass_send}
+use Rattle.mh_live.proofs.PublicLaws.{pass_send}
 use Rattle.tests_live.proofs.Sending.{word_sync}
 use Rattle.tests_live.proofs.beside.call_beside.Goals as goal
 

@@ -3,7 +3,7 @@ use denote.Param.{param}
 use denote.Param.Send.{IsSend, IsSync, param_send, param_sync, arg_send, sendable}
 use denote.RattleType.{RattleType}
 use Rattle.mh_live.specs.declared.front.Name.{Ghosts}
-use Rattle.mh_live.proofs.Sending.{pass_send, plain}
+use Rattle.mh_live.proofs.PublicLaws.{pass_send, plain}
 use Rattle.tests_live.proofs.Sending.{word_sync}
 use Rattle.tests_live.specs.contracts.beside.Called as Called
 use Rattle.tests_live.proofs.beside.call_in_threads.Goals as goal

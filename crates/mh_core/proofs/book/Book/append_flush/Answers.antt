@@ -5,7 +5,7 @@ use Rattle.mh_core.specs.Books.{BookState, IsBook}
 use Rattle.mh_core.specs.BookViews.{book_state}
 use Rattle.mh_core.specs.Records.{hits_in}
 use Rattle.mh_core.specs.Rows.{tests}
-use Rattle.mh_core.specs.Tests.{Passes}
+use Rattle.mh_base.specs.Tests.{Passes}
 use Rattle.mh_core.proofs.Deciding.{sure}
 use Rattle.mh_core.proofs.Growing.{book_grows}
 use Rattle.mh_core.proofs.Standing.{fits_room, flushed_totals}

@@ -8,7 +8,7 @@ use Rattle.mh_core.specs.BookViews.{book_state}
 use Rattle.mh_core.specs.Installations.{PublishedPlan}
 use Rattle.mh_core.specs.PlanTables.{plans_of}
 use Rattle.mh_core.specs.Rows.{tests}
-use Rattle.mh_core.specs.Tests.{Passes}
+use Rattle.mh_base.specs.Tests.{Passes}
 use Rattle.mh_core.proofs.Growing.{book_grows, totals_stay}
 use Rattle.mh_core.proofs.Worlds.{newest_push}
 use Rattle.mh_core.proofs.book.Book.append_publish.Goals as goal

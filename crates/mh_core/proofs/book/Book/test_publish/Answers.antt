@@ -4,7 +4,8 @@ use Rattle.mh_core.specs.declared.refusal.Refusal.TheVariants.{HistoryFull}
 use Rattle.mh_core.specs.BookViews.{book_state}
 use Rattle.mh_core.specs.Limits.{most_plans}
 use Rattle.mh_core.specs.Records.{plans}
-use Rattle.mh_core.specs.Tests.{Refuses, no_more, only, test}
+use Rattle.mh_base.specs.Tests.{Refuses, only, test}
+use Rattle.mh_core.specs.Refusals.{memory_last}
 use Rattle.mh_core.proofs.Deciding.{below}
 use Rattle.mh_core.proofs.PlanTables.{plans_now}
 use Rattle.mh_core.proofs.PlanTests.{plan_matches, plan_refused}
@@ -24,7 +25,7 @@ returns-then-is_full-clause-refuses c =
     let b = c.args.self.now in
     let count = plans_now (book_state c.self.inside) b c.self.inside.plans.items c.self.invariant c.self.view_is refl in
     let matching = plan_matches b.definition b.records c.args.snapshot c.args.plan.now _ _ c.in_ok-problem.ensures.value c.plan.ensures.value c.in_ok-test_plan.ensures.matching in
-    let full : Refuses (test ((length b.records + c.args.calls < b.limits.history) × (plans b.records < most_plans)) (only HistoryFull) no_more) HistoryFull = elim c.then-is_full.branch [
+    let full : Refuses (test ((length b.records + c.args.calls < b.limits.history) × (plans b.records < most_plans)) (only HistoryFull) memory_last) HistoryFull = elim c.then-is_full.branch [
       | then-is_full-via-then-is_full w ↦ inl (λ room. omega (arith, c.is_full.ensures.decides.0 w.if-is_full.true, room.0), refl)
       | then-is_full-via-else-is_full+then-len-ge-MOST_PLANS w ↦ inl (λ room. omega (arith, room.1, w.if-len-ge-MOST_PLANS.true, w.len.ensures, c.self.inside.plans.ok.0, count), refl)
     ] in

@@ -6,7 +6,7 @@ use Rattle.mh_core.specs.declared.event.Event.TheVariants.{Call}
 use Rattle.mh_core.specs.Books.{AreLedgers, IsMachine}
 use Rattle.mh_core.specs.Histories.{joined}
 use Rattle.mh_core.specs.Legal.{HasRoom, MachineState, tests}
-use Rattle.mh_core.specs.Tests.{Passes}
+use Rattle.mh_base.specs.Tests.{Passes}
 use Rattle.mh_core.proofs.Joined.{joined_length}
 use Rattle.mh_core.proofs.Ledgered.{unflushed_length}
 use Rattle.mh_core.proofs.Machines.{machine_calls}

@@ -3,7 +3,7 @@ use Rattle.std.specs.Prelude.{OnOk, IfErr}
 use Rattle.mh_core.specs.declared.event.Event.{Event}
 use Rattle.mh_core.specs.declared.record.Record.TheVariants.{Targeted, Invalidated, Snapped, Published, Installed}
 use Rattle.mh_core.specs.Legal.{tests}
-use Rattle.mh_core.specs.Tests.{Passes, Refuses}
+use Rattle.mh_base.specs.Tests.{Passes, Refuses}
 use Rattle.mh_core.proofs.Machines.{err_asked, ok_asked}
 use Rattle.mh_core.proofs.machine.Machine.test.Goals as goal
 

@@ -8,7 +8,7 @@ use Rattle.mh_core.specs.Hits.{moved}
 use Rattle.mh_core.specs.Legal.{MachineState, tests}
 use Rattle.mh_core.specs.Records.{hits_in}
 use Rattle.mh_core.specs.Rows as rows
-use Rattle.mh_core.specs.Tests.{Passes, Refuses, Tests}
+use Rattle.mh_base.specs.Tests.{Passes, Refuses, Tests}
 use Rattle.mh_core.proofs.Machines.{flush_is, passes_same, passes_there, refuses_same, refuses_there}
 use Rattle.mh_core.proofs.machine.Machine.test_flush.Goals as goal
 
@@ -19,7 +19,7 @@ count : (c : goal.After-test_flush) → c.len.result ≡ length c.self.inside.ca
 count c = c.len.ensures.value
 
 -- the tests that the book made
-abbrev row : goal.After-test_flush → Tests
+abbrev row : goal.After-test_flush → Tests Refusal
 row c =
     let b = c.self.inside.book in
     let l = c.index-ledger.result.now in

@@ -3,7 +3,8 @@ use Rattle.mh_site.specs.declared.point.Point.{Point}
 use Rattle.mh_site.specs.declared.site.Site.{Site}
 use Rattle.mh_site.specs.Definitions.{definition_fault, site_in_order}
 use Rattle.mh_site.specs.Lawful.{IsDefinition}
-use Rattle.mh_site.specs.Links.{AreNumbers}
+use Rattle.mh_site.specs.Links.{AreNumbers, IsNumbered}
+use Rattle.mh_site.specs.declared.definition.Parts.{Parts}
 use Rattle.mh_site.proofs.Lawful.{lawful}
 use Rattle.mh_site.proofs.definition.Definition.new.Goals as goal
 
@@ -14,10 +15,14 @@ made ps tested ss others kept h same alike e =
     let none : definition_fault ps ss ≡ None = sym (ap (λ xs. definition_fault xs ss) same) ∙ (sym (ap (λ xs. definition_fault tested xs) alike) ∙ h) in
     subst (λ xs. IsDefinition record { points = ps; sites = xs }) (sym e) (lawful ps ss none)
 
+-- what a definition keeps, of its parts
+abbrev Keeps : Parts → Type 0
+Keeps p = IsNumbered record { points = p.points; sites = p.sites } p.numbering.firsts.items p.numbering.homes.items
+
 pub invariant_of-result : goal.invariant_of-result
 invariant_of-result c =
     let same = c.from_vec-sites.ensures.value in
-    record {
+    subst Keeps (sym c.in_ok-parts.ensures.value) record {
       lawful = made c.args.points _ c.args.sites _ _ c.in_ok-test.ensures.value c.as_slice.ensures.value c.as_slice-2.ensures.value
           (same ∙ (c.order_sites.ensures.value ∙ ap (map site_in_order) c.into_vec-sites.ensures.value));
       numbers = subst (λ (ss : List Site). AreNumbers ss c.in_ok-numbering.numbering.firsts.items c.in_ok-numbering.numbering.homes.items) (c.deref.ensures.value ∙ sym same) c.in_ok-numbering.ensures.value;

@@ -1,14 +1,16 @@
 use Rattle.std.proofs.Common.{◌≤◌, ◌<◌, ◌+◌, length, slice_index_or, ap, sym, subst, ◌∙◌}
 use Rattle.mh_site.specs.Defined.{DefinitionData, no_link, site_at}
+use Rattle.mh_site.specs.Kept.{kept_definition}
 use Rattle.mh_site.specs.Links.{first_link, links, site_of}
 use Rattle.mh_site.proofs.Numbers.{home, home_at}
 use Rattle.mh_site.proofs.definition.Definition.site_of.Goals as goal
 
 pub returns-clause-value : goal.returns-clause-value
 returns-clause-value c =
-    let d = c.self.inside in
+    let d = kept_definition c.self.inside in
     let h = subst (λ (x : DefinitionData). c.args.link < length (links x)) (sym c.self.view_is) c.requires.inside in
-    c.index.ensures ∙ (ap (λ ns. slice_index_or ns c.args.link c.index.result.now) c.self.invariant.numbers.home
+    let homes = ap (λ p. p.numbering.homes.items) c.deref.ensures ∙ c.self.invariant.numbers.home in
+    c.index.ensures ∙ (ap (λ ns. slice_index_or ns c.args.link c.index.result.now) homes
     ∙ (home_at d.sites (length d.sites) c.args.link c.index.result.now (length d.sites, no_link) h ∙ ap (λ (x : DefinitionData). site_of x c.args.link) c.self.view_is))
 
 pub returns-clause-known : goal.returns-clause-known

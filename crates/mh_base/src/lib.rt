@@ -1,0 +1,26 @@
+//! What all crates of a runtime for dynamic calls stand on: lists that contracts see as the list of
+//! their items, want of memory, tests in an order, and tests of lists of numbers.
+//!
+//! Where a value is refused, its tests stand in an order, and the first that fails is told:
+//!
+//! ```
+//! use mh_base::{are_below, demand, is_ascending};
+//!
+//! fn first_fault(rows: &[u32]) -> Result<(), &'static str> {
+//!     demand(are_below(rows, 4), "past the last")?;
+//!     demand(is_ascending(rows), "not in order")
+//! }
+//! ```
+#![tactic(auto)]
+
+mod display;
+mod listing;
+mod memory;
+mod numbers;
+mod order;
+
+pub use display::Numbers;
+pub use listing::Listing;
+pub use memory::NoMemory;
+pub use numbers::{are_below, is_ascending};
+pub use order::demand;

@@ -1,0 +1,80 @@
+//! The rules of a problem's rows and costs, in the order in which they are tested.
+
+ghost use Rattle.std.specs.Prelude.{◌≡◌, ◌↔◌, ◌≤◌, ◌<◌, ◌^◌, IsTrue, MatchResult, All, length, nat_le, true, false, sum};
+ghost use Rattle.std.specs.List.{sum_by};
+ghost use Rattle.std.specs.List.Sorted.{IsStrictlyIncreasing};
+ghost use Rattle.mh_network.specs.Problems.{kept_gain, problem_tests};
+ghost use Rattle.mh_base.specs.Tests.{Passes, Refuses};
+ghost use Rattle.mh_network.specs.Limits.{most_needs, greatest_sum};
+
+use crate::fault::ProblemFault;
+use crate::link_row::LinkRow;
+use mh_base::{are_below, demand, is_ascending};
+
+/// The most links of a problem.
+pub const MOST_LINKS: usize = 4096;
+
+/// The most points of a problem.
+pub const MOST_POINTS: usize = 1024;
+
+/// The most needs of a link.
+pub const MOST_NEEDS: usize = 8;
+
+/// The greatest sum of gains, and of costs.
+pub const GREATEST_SUM: u64 = 1 << 62;
+
+// All tests, in order.
+#[tactic(auto, using(crate::proofs::Kept::kept_gains, crate::proofs::Kept::kept_costs))]
+pub(crate) fn test(rows: &[LinkRow], costs: &[u64]) -> Result<(), ProblemFault>
+    ensures value { MatchResult result (λ _. Passes (problem_tests rows.now costs.now))
+        (λ e. Refuses (problem_tests rows.now costs.now) e) }
+{
+    demand(rows.len() <= MOST_LINKS, ProblemFault::TooManyLinks)?;
+    demand(costs.len() <= MOST_POINTS, ProblemFault::TooManyPoints)?;
+    demand(need_few(rows), ProblemFault::TooManyNeeds)?;
+    demand(need_known(rows, costs.len()), ProblemFault::NeedOutOfRange)?;
+    demand(need_in_order(rows), ProblemFault::NeedsNotAscending)?;
+    demand(gains_fit(rows), ProblemFault::GainTooLarge)?;
+    demand(costs_fit(costs), ProblemFault::CostTooLarge)
+}
+
+fn need_few(rows: &[LinkRow]) -> bool
+    ensures value { IsTrue result ↔ All (λ r. length r.needs ≤ most_needs) rows.now }
+{
+    rows.iter()
+        .all(|row| row.needs.as_slice().len() <= MOST_NEEDS)
+}
+
+fn need_known(rows: &[LinkRow], points: usize) -> bool
+    ensures value { IsTrue result ↔ All (λ r. All (λ p. p < points) r.needs) rows.now }
+{
+    rows.iter()
+        .all(|row| are_below(row.needs.as_slice(), points))
+}
+
+fn need_in_order(rows: &[LinkRow]) -> bool
+    ensures value { IsTrue result ↔ All (λ r. IsStrictlyIncreasing r.needs) rows.now }
+{
+    rows.iter().all(|row| is_ascending(row.needs.as_slice()))
+}
+
+// Whether the gains that count fit. The sum stops at 2^64 - 1, so that nothing wraps.
+fn gains_fit(rows: &[LinkRow]) -> bool
+    ensures value { result ≡ nat_le (sum_by kept_gain rows.now) greatest_sum }
+{
+    let mut sum: u64 = 0;
+    for row in rows {
+        sum = sum.saturating_add(row.kept_gain());
+    }
+    sum <= GREATEST_SUM
+}
+
+fn costs_fit(costs: &[u64]) -> bool
+    ensures value { result ≡ nat_le (sum costs.now) greatest_sum }
+{
+    let mut sum: u64 = 0;
+    for cost in costs {
+        sum = sum.saturating_add(*cost);
+    }
+    sum <= GREATEST_SUM
+}

@@ -1,9 +1,0 @@
-use Rattle.std.proofs.Common.{◌≡◌, ◌≤◌, filter, length, take}
-use Rattle.mh_text.specs.Lines.{is_skipped}
-use Rattle.mh_text.proofs.lines.count_skipped.Given as goal
-
-abbrev pub invariant-loop-site : goal.invariant-loop-site
-invariant-loop-site l = record {
-  value : l.count ≡ length (filter is_skipped (take l.site-index l.sites));
-  few : l.count ≤ l.site-index;
-}
