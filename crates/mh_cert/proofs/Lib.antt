@@ -1,4 +1,2 @@
-mod Matching
 mod Orders
-pub mod PublicLaws
 mod Within

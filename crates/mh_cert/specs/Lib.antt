@@ -1,3 +1,4 @@
 pub mod Display
-pub mod Plans
 pub mod Ends
+pub mod Laws
+pub mod Plans

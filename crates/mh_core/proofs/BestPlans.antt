@@ -3,10 +3,10 @@ use Rattle.std.proofs.Common.{◌++◌, ◌∷◌, [], ℕ, List, subst}
 use Rattle.mh_network.specs.declared.link_row.LinkRow.{LinkRow}
 use Rattle.mh_network.specs.Problems.{IsProblem, problem_of}
 use Rattle.mh_network.specs.Selection.{IsBest, member}
-use Rattle.mh_network.proofs.PublicLaws.{tested_problem}
+use Rattle.mh_network.specs.Laws.{tested_problem}
 use Rattle.mh_cert.specs.Plans.{Matches}
 use Rattle.mh_cert.specs.declared.plan.Plan.{Plan}
-use Rattle.mh_cert.proofs.PublicLaws.{best_by_match}
+use Rattle.mh_cert.specs.Laws.{best_by_match}
 use Rattle.mh_site.specs.Defined.{DefinitionData}
 use Rattle.mh_site.specs.Lawful.{IsDefinition}
 use Rattle.mh_core.specs.declared.record.Record.{Record}
@@ -16,8 +16,8 @@ use Rattle.mh_core.specs.Limits.{LimitsData, IsLimits}
 use Rattle.mh_core.specs.Problems.{problem_after, problem_at}
 use Rattle.mh_core.specs.Records.{past}
 use Rattle.mh_core.specs.Snapshots.{snapshot_of}
-use Rattle.mh_core.proofs.PastSnapshots.{past_legal, rows_same, WasLegal}
-use Rattle.mh_core.proofs.ProblemRows.{costs_of, rows_in, rows_pass}
+use Rattle.mh_core.specs.Laws.PastSnapshots.{past_legal, rows_same, WasLegal}
+use Rattle.mh_core.specs.Laws.ProblemRows.{costs_of, rows_in, rows_pass}
 use Rattle.mh_core.proofs.Standing.{makes_problem}
 
 problem_lawful : (d : DefinitionData) (l : LimitsData) (g : List Record) → IsDefinition d → IsLimits l → WasLegal d l g → IsProblem (problem_after d g)

@@ -16,14 +16,14 @@ use Rattle.mh_site.specs.declared.link.Link.{Link}
 use Rattle.mh_site.specs.Defined.{DefinitionData, no_link, no_site, site_at}
 use Rattle.mh_site.specs.Lawful.{IsDefinition, IsLink}
 use Rattle.mh_site.specs.Links.{first_link, link_at, links}
-use Rattle.mh_site.proofs.PublicLaws.{before_within, numbered}
+use Rattle.mh_site.specs.Laws.{before_within, numbered}
 use Rattle.mh_core.specs.declared.record.Record.{Record}
 use Rattle.mh_core.specs.Books.{Legal}
 use Rattle.mh_core.specs.Installations.{before_key, cached, chosen, entry, own_links, plan_at, usable}
 use Rattle.mh_core.specs.Limits.{LimitsData}
 use Rattle.mh_core.specs.Problems.{is_eligible}
 use Rattle.mh_core.specs.Records.{base}
-use Rattle.mh_core.proofs.Worlds.{base_suits}
+use Rattle.mh_core.specs.Laws.Worlds.{base_suits}
 
 -- a link of a site, by its number among all
 pub record IsOwn (d : DefinitionData) (s j : ℕ) : Type 0 where

@@ -15,8 +15,8 @@ use Rattle.mh_core.specs.Books.{BookState, IsBook}
 use Rattle.mh_core.specs.Installations.{kept, linked}
 use Rattle.mh_core.specs.Legal.{answer_of_call}
 use Rattle.mh_core.specs.Records.{base, environment, is_valid, valid_points}
-use Rattle.mh_core.proofs.Caches.{cache_bound, cache_mean, kept_lawful}
-use Rattle.mh_core.proofs.Worlds.{world_sites, read, valid_is, base_suits}
+use Rattle.mh_core.specs.Laws.Caches.{cache_bound, cache_mean, kept_lawful}
+use Rattle.mh_core.specs.Laws.Worlds.{world_sites, read, valid_is, base_suits}
 use Rattle.mh_tree.specs.Environment.{Environment, with_points}
 
 module _ (b : BookState) (s : ℕ) where

@@ -9,7 +9,7 @@ use Rattle.mh_core.specs.Histories.{records}
 use Rattle.mh_core.specs.Hits.{flushed_calls, hits, total_calls, moved, unflushed, unflushed_hits}
 use Rattle.mh_core.specs.Records.{hits_of, total}
 use Rattle.mh_core.proofs.HitCounts.{hits_counted}
-use Rattle.mh_core.proofs.Numbered.{at_number}
+use Rattle.mh_core.specs.Laws.Numbered.{at_number}
 
 module _ (d : DefinitionData) (j : ℕ) where
   -- only which workers flush later matters

@@ -15,7 +15,7 @@ use Rattle.mh_core.specs.Replayed.{world}
 use Rattle.mh_core.specs.Rows.{tests}
 use Rattle.mh_core.specs.Snapshots.{SnapshotState, snapshots_of}
 use Rattle.mh_base.specs.Tests.{Passes}
-use Rattle.mh_core.proofs.Worlds.{world_front, newest_push}
+use Rattle.mh_core.specs.Laws.Worlds.{world_front, newest_push}
 
 pub book_room : (b : BookState) → IsBook b → b.world.front + 1 < 18446744073709551616
 book_room b is =

@@ -18,7 +18,7 @@ use Rattle.mh_site.specs.Definitions.{all_differ, same_key}
 use Rattle.mh_site.specs.Lawful.{IsDefinition}
 use Rattle.mh_site.specs.Links.{first_link, link_at, links, site_of}
 use Rattle.mh_type.specs.Values.{same_truth, same_value}
-use Rattle.mh_site.proofs.PublicLaws.{home, numbered, left_true, right_true, left_false, right_false, not_true}
+use Rattle.mh_site.specs.Laws.{home, numbered, left_true, right_true, left_false, right_false, not_true}
 use Rattle.mh_core.specs.Hits.{argument_at, hits}
 
 -- values that are the same are equal

@@ -23,10 +23,10 @@ use Rattle.mh_core.specs.Problems.{IsTaken, is_eligible}
 use Rattle.mh_core.specs.Records.{numbers, past, version}
 use Rattle.mh_core.specs.Snapshots.{SnapshotState}
 use Rattle.mh_core.specs.Tables.{are_valid}
-use Rattle.mh_core.proofs.PastSnapshots.{eligible_same}
-use Rattle.mh_core.proofs.PlanTables.{plan_read, was_tested}
+use Rattle.mh_core.specs.Laws.PastSnapshots.{eligible_same}
+use Rattle.mh_core.specs.Laws.PlanTables.{plan_read, was_tested}
 use Rattle.mh_core.proofs.Standing.{kept_read, valid_now}
-use Rattle.mh_core.proofs.Worlds.{read, site_after, world_sites}
+use Rattle.mh_core.specs.Laws.Worlds.{read, site_after, world_sites}
 
 -- ---- what a book has now
 pub state_now : (b : BookState) (s : ℕ) → IsBook b → s < length b.definition.sites → state_at b.world s ≡ site_after b.definition b.records s

@@ -13,7 +13,7 @@ use Rattle.mh_core.specs.declared.event.Event.TheVariants.{Call, Flush}
 use Rattle.mh_core.specs.Books.{AreLedgers, BookState}
 use Rattle.mh_core.specs.Hits.{hits, unflushed, unflushed_hits}
 use Rattle.mh_core.specs.Limits.{LimitsData}
-use Rattle.mh_core.proofs.Numbered.{at_number, same_numbers}
+use Rattle.mh_core.specs.Laws.Numbered.{at_number, same_numbers}
 
 -- ---- what a worker's numbers are
 pub unflushed_length : (d : DefinitionData) (h : List Event) (w : ℕ) → length (unflushed_hits d h w) ≡ length (links d)

@@ -1,6 +1,5 @@
 mod BestPlans
 mod CachedLinks
-mod Caches
 mod Calls
 mod Changing
 mod CountedHits
@@ -11,16 +10,8 @@ mod HitCounts
 mod HitLinks
 mod InstalledLinks
 mod Joined
-mod LawfulLinks
 mod Ledgered
 mod Machines
-mod Numbered
-mod PastSnapshots
-mod PlanTables
 mod PlanTests
-mod ProblemRows
-pub mod PublicLaws
 mod Runs
 mod Standing
-mod StandingTrees
-mod Worlds

@@ -5,7 +5,7 @@ use Rattle.std.specs.Prelude.{reverse}
 use Rattle.std.proofs.lemmas.List.{ext_get_or, length-reverse, reverse-reverse}
 use Rattle.std.proofs.lemmas.List.FromFn.{length-map-range_with_len}
 use Rattle.mh_ledger.specs.Ledgers.{at, flushed_into, HasRoom, LedgerState, TotalsState}
-use Rattle.mh_ledger.proofs.PublicLaws.{length-added}
+use Rattle.mh_ledger.specs.Laws.{length-added}
 use Rattle.mh_network.specs.Problems.{kept_gain, problem_of, sum_of_gains}
 use Rattle.mh_site.specs.Defined.{DefinitionData}
 use Rattle.mh_site.specs.Lawful.{IsDefinition}
@@ -20,10 +20,10 @@ use Rattle.mh_core.specs.Records.{hits_in, numbers, past, snapshots, total, vali
 use Rattle.mh_core.specs.Rows.{TotalsFit}
 use Rattle.mh_core.specs.Snapshots.{SnapshotState, snapshot_of, snapshots_of}
 use Rattle.mh_core.proofs.HitCounts.{hits_counted}
-use Rattle.mh_core.proofs.Numbered.{all_numbers, at_number, same_numbers}
-use Rattle.mh_core.proofs.PastSnapshots.{WasLegal, gains_same, kept_at, past_legal, problem_same, snapshots_count, total_within}
-use Rattle.mh_core.proofs.ProblemRows.{costs_of, rows_in}
-use Rattle.mh_core.proofs.Worlds.{read, valid_is}
+use Rattle.mh_core.specs.Laws.Numbered.{all_numbers, at_number, same_numbers}
+use Rattle.mh_core.specs.Laws.PastSnapshots.{WasLegal, gains_same, kept_at, past_legal, problem_same, snapshots_count, total_within}
+use Rattle.mh_core.specs.Laws.ProblemRows.{costs_of, rows_in}
+use Rattle.mh_core.specs.Laws.Worlds.{read, valid_is}
 
 -- ---- room for a flush
 pub room_fits : (b : BookState) (l : LedgerState) → IsBook b → HasRoom b.totals l → TotalsFit b.definition b.limits b.records (hits_in l.unflushed)

@@ -38,3 +38,4 @@ pub use Rattle.mh_type.specs.Values
 pub use Rattle.mh_type.specs.declared.kind.Kind
 pub use Rattle.mh_type.specs.declared.outcome.Outcome
 pub use Rattle.mh_type.specs.declared.value.Value
+pub mod Laws

@@ -6,7 +6,7 @@ use Rattle.mh_tree.specs.Arity.{arity}
 use Rattle.mh_tree.specs.Meaning.{◌>>=◌, mean, steps, after, choose, choose_steps}
 use Rattle.mh_tree.specs.Tree.{Tree, fold, guard}
 use Rattle.mh_tree.specs.Widths.{CanRun}
-use Rattle.mh_tree.proofs.PublicLaws.{mean_leading, steps_leading}
+use Rattle.mh_tree.specs.Laws.{mean_leading, steps_leading}
 use Rattle.mh_tree.specs.Environment.{Environment}
 
 pub shorter : (ks kinds : List Kind) → ks ≡ take (length ks) kinds → length ks ≤ length kinds

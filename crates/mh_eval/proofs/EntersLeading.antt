@@ -13,7 +13,7 @@ use Rattle.mh_tree.specs.Arity.{arity}
 use Rattle.mh_tree.specs.Meaning.{mean, filtered, argument, put_in, taken_out, is_valid}
 use Rattle.mh_tree.specs.Tree.{Tree, Filters, constant, identity, operation, insert, discard, permute, filter, filter_return, fold, guard, point, no_more, absent, present}
 use Rattle.mh_tree.specs.Typing.{IsTyped}
-use Rattle.mh_tree.proofs.PublicLaws.{same_count, filter_count as count, counted, argument_more, put_in_more, taken_out_more, reordered_more, with_more, filtered_more, filtered_length, mean_more, leading, enough}
+use Rattle.mh_tree.specs.Laws.{same_count, filter_count as count, counted, argument_more, put_in_more, taken_out_more, reordered_more, with_more, filtered_more, filtered_length, mean_more, leading, enough}
 use Rattle.mh_eval.specs.Entered.{WithValue, Chosen, OneOf, WithArguments, EntersPlain, FiltersPlain}
 use Rattle.mh_tree.specs.Environment.{Environment}
 

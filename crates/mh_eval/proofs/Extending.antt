@@ -5,7 +5,7 @@ use Rattle.std.proofs.lemmas.List.{append_assoc, take-append-drop, append-nil, g
 use Rattle.mh_type.specs.declared.value.Value.{Value}
 use Rattle.mh_type.specs.declared.value.Value.TheVariants.{Boolean}
 use Rattle.mh_tree.specs.Meaning.{argument, put_in, taken_out}
-use Rattle.mh_tree.proofs.PublicLaws.{argument_more}
+use Rattle.mh_tree.specs.Laws.{argument_more}
 use Rattle.mh_eval.specs.Quiet.{NoTexts}
 use Rattle.mh_eval.specs.Frames.{Extends}
 use Rattle.mh_eval.proofs.QuietTrees.{texts_at, texts_take, texts_drop}

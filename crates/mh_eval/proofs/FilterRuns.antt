@@ -9,7 +9,7 @@ use Rattle.mh_type.specs.declared.outcome.Throw.{Throw}
 use Rattle.mh_type.specs.declared.outcome.Outcome.TheVariants.{Thrown}
 use Rattle.mh_tree.specs.Meaning.{mean, steps, filtered, filter_steps, with_arguments, after_filters}
 use Rattle.mh_tree.specs.Widths.{CanRun, CanFilter}
-use Rattle.mh_tree.proofs.PublicLaws.{as_few, as_many}
+use Rattle.mh_tree.specs.Laws.{as_few, as_many}
 use Rattle.mh_tree.specs.Environment.{Environment}
 
 can_filter : (fs : Filters) (old new : List Kind) (p w n : ℕ) → AreTyped fs old new → p + length old ≤ w → greatest_bound fs ≤ n → total_size fs ≤ 262144 → CanFilter fs p w n

@@ -11,7 +11,7 @@ use Rattle.mh_type.specs.Kinds.{kind_of}
 use Rattle.mh_tree.specs.Meaning.{mean, steps, filtered, filter_steps, with_value, after, argument}
 use Rattle.mh_tree.specs.Tree.{Tree, Filters, filter, no_more, absent, present}
 use Rattle.mh_tree.specs.Widths.{CanRun, CanFilter}
-use Rattle.mh_tree.proofs.PublicLaws.{argument_more, filtered_more, with_more, same_count, filter_count as count, counted}
+use Rattle.mh_tree.specs.Laws.{argument_more, filtered_more, with_more, same_count, filter_count as count, counted}
 use Rattle.mh_eval.specs.Answers.{Ran}
 use Rattle.mh_eval.specs.Entered.{EntersPlain, FiltersPlain, IsPlainKind, WithArguments}
 use Rattle.mh_eval.specs.Frames.{Extends}

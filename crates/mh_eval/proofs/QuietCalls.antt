@@ -11,7 +11,7 @@ use Rattle.mh_tree.specs.Meaning.{mean, steps}
 use Rattle.mh_tree.specs.Prepared.{handle_code}
 use Rattle.mh_tree.specs.Running.{run_code, code_steps, weight}
 use Rattle.mh_tree.specs.declared.operand.Operand.TheVariants.{Argument}
-use Rattle.mh_tree.proofs.PublicLaws.{call_count as count, call_means, call_costs, call_small, reads_arguments}
+use Rattle.mh_tree.specs.Laws.{call_count as count, call_means, call_costs, call_small, reads_arguments}
 use Rattle.mh_eval.specs.Entered.{ArePlain, EntersPlain}
 use Rattle.mh_eval.specs.Quiet.{IsQuiet, deep}
 use Rattle.mh_eval.proofs.QuietTrees.{of_kinds, plain_parameters, quiet, shallow}

@@ -19,7 +19,7 @@ use Rattle.mh_tree.specs.Meaning.{◌>>=◌, mean, filtered, with_arguments, wit
 use Rattle.mh_tree.specs.Tree.{Tree, Filters, constant, identity, operation, insert, discard, permute, filter, filter_return, fold, guard, point, no_more, absent, present}
 use Rattle.mh_tree.specs.TypeOf.{type_of}
 use Rattle.mh_tree.specs.Typing.{IsTyped, AreTyped}
-use Rattle.mh_tree.proofs.PublicLaws.{few_parameters, type_computed, mean_leading, filtered_length, Reads, reads_now, reads_at, reads_inserted, reads_discarded, reads_permuted, reads_one, reads_newest, reads_set, reads_nothing, permuted_wide, filter_wide, shorter, one_more, means}
+use Rattle.mh_tree.specs.Laws.{few_parameters, type_computed, mean_leading, filtered_length, Reads, reads_now, reads_at, reads_inserted, reads_discarded, reads_permuted, reads_one, reads_newest, reads_set, reads_nothing, permuted_wide, filter_wide, shorter, one_more, means}
 use Rattle.mh_tree.specs.Code.{Code}
 use Rattle.mh_eval.proofs.EntersLeading.{chosen_along, one_along, enters_leading}
 use Rattle.mh_eval.specs.Entered.{WithValue, Chosen, OneOf, IsPlainKind, ArePlain, IsPlain, WithArguments, EntersPlain, FiltersPlain}

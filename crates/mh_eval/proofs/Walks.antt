@@ -25,7 +25,7 @@ use Rattle.mh_tree.specs.declared.node.Node.TheFolds.{fold-roll-Node}
 use Rattle.mh_tree.specs.Typing.{IsTyped}
 use Rattle.mh_type.specs.Kinds.{kind_of}
 use Rattle.mh_tree.specs.Widths.{CanRun}
-use Rattle.mh_tree.proofs.PublicLaws.{effort, argument_more, arity_counts, mean_leading, mean_more, steps_leading, put_in_more, taken_out_more, reordered_more, few_parameters}
+use Rattle.mh_tree.specs.Laws.{effort, argument_more, arity_counts, mean_leading, mean_more, steps_leading, put_in_more, taken_out_more, reordered_more, few_parameters}
 use Rattle.mh_eval.specs.Answers.{Gives, Ran}
 use Rattle.mh_eval.specs.Entered.{EntersPlain, IsPlainKind, WithValue, Chosen, OneOf}
 use Rattle.mh_eval.specs.Frames.{Extends}

@@ -1,5 +1,2 @@
-mod Added
-mod Flushes
 mod Held
-pub mod PublicLaws
 mod Taken

@@ -1,4 +1,5 @@
-pub mod Limits
 pub mod Codes
+pub mod Laws
 pub mod Ledgers
+pub mod Limits
 pub mod TotalsViews

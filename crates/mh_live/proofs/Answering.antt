@@ -18,7 +18,7 @@ use Rattle.mh_core.specs.declared.record.Record.TheVariants.{Flushed, Targeted, 
 use Rattle.mh_core.specs.Limits.{LimitsData}
 use Rattle.mh_core.specs.declared.refusal.Refusal.{Refusal}
 use Rattle.mh_core.specs.declared.refusal.Refusal.TheVariants.{NoMemory, NoSnapshot}
-use Rattle.mh_core.proofs.PublicLaws.{snapshots_count, plans_count, stands, oldest_push, world_front, world_push}
+use Rattle.mh_core.specs.Laws.{snapshots_count, plans_count, stands, oldest_push, world_front, world_push}
 use Rattle.mh_live.proofs.Replays.{after_front}
 use Rattle.mh_live.specs.Offices.{list_of}
 use Rattle.mh_live.specs.Receipts.{IsLegalRefusal}

@@ -18,7 +18,7 @@ use Rattle.mh_core.specs.declared.record.Record.{Record}
 use Rattle.mh_core.specs.declared.record.Record.TheVariants.{Flushed, Targeted, Invalidated, Installed}
 use Rattle.mh_core.specs.declared.refusal.Refusal.{Refusal}
 use Rattle.mh_core.specs.declared.refusal.Refusal.TheVariants.{NoMemory, NoSnapshot}
-use Rattle.mh_core.proofs.PublicLaws.{oldest_push}
+use Rattle.mh_core.specs.Laws.{oldest_push}
 use Rattle.mh_live.specs.Offices.{OfficeState, ReceiptState}
 use Rattle.mh_live.specs.Receipts.{Accepts, IsFlushRefusal, IsLegalFault, IsLegalRefusal, IsNoProblem, IsOffice, IsProblem, IsReceipt, IsRefusal}
 use Rattle.mh_live.specs.declared.flush_fault.FlushFault.{FlushFault}

@@ -5,7 +5,7 @@ use Rattle.std.proofs.lemmas.List.{reverse-reverse, length-reverse}
 use Rattle.mh_site.specs.declared.control.Control.{Control}
 use Rattle.mh_site.specs.Defined.{DefinitionData}
 use Rattle.mh_site.specs.Worlds.{WorldState, opened, replay}
-use Rattle.mh_site.proofs.PublicLaws as back
+use Rattle.mh_site.specs.Laws as back
 use Rattle.mh_live.specs.Rules.{world_after}
 use Rattle.std.proofs.lemmas.List.FromFn.{length-map-range_with_len}
 

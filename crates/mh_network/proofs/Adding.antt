@@ -9,10 +9,10 @@ use Rattle.mh_network.specs.Problems.{ProblemData, IsProblem, gain_of, cost_of, 
 use Rattle.mh_network.specs.Parts.{AreParts, part_at, part_problem, restricted}
 use Rattle.mh_network.specs.Selection.{member, gain_sum, cost_sum, union_of_needs, worth}
 use Rattle.mh_network.proofs.Joining.{meet, up_to, gain_split, cost_split, meet_step, less_step, all_up, ArePartMasks}
-use Rattle.mh_network.proofs.Optimal.{some_below-from, some_below-gives}
+use Rattle.mh_network.specs.Laws.Optimal.{some_below-from, some_below-gives}
 use Rattle.mh_network.proofs.Parted.{every, part_gains}
 use Rattle.mh_network.proofs.Renumbering.{gains_here, costs_here, part_of, part_masks}
-use Rattle.mh_network.proofs.SumLaws.{sum_below-same, sum_below-zero}
+use Rattle.mh_network.specs.Laws.SumLaws.{sum_below-same, sum_below-zero}
 
 tight : (gain cost total flow : ℕ) → (pos gain -ℤ pos cost) +ℤ pos flow ≡ pos total → gain + flow ≡ total + cost
 tight gain cost total flow h = omega (arith, ints, h)

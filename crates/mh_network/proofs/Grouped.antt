@@ -15,7 +15,7 @@ use Rattle.mh_network.specs.Parts.Item.{link, point}
 use Rattle.mh_network.specs.Parts.IsJoined.{here, down, up}
 use Rattle.mh_network.specs.Labels.{label_of, AreLabels}
 use Rattle.mh_network.specs.Groups.{added, IsAdded, item_label, first_label, IsGrouped, IsInOrder, ArePut, Seen as IsSeen}
-use Rattle.mh_network.proofs.Optimal.{needs-in_range}
+use Rattle.mh_network.specs.Laws.Optimal.{needs-in_range}
 use Rattle.mh_network.proofs.Labelling.{member_last, member_more, member_end, joined_trans, joined_sym}
 
 abbrev num : List ℕ → ℕ → ℕ

@@ -9,8 +9,8 @@ use Rattle.mh_network.specs.declared.link_row.LinkRow.{LinkRow}
 use Rattle.mh_network.specs.Sums.{sum_below, some_below, kept}
 use Rattle.mh_network.specs.Problems.{ProblemData, link_at, gain_of, cost_of, needs_point, no_link}
 use Rattle.mh_network.specs.Selection.{union_of_needs, gain_sum, cost_sum, worth, AllEligible, IsBest, IsLeast}
-use Rattle.mh_network.proofs.SumLaws.{sum_below-same, sum_below-add, sum_below-split}
-use Rattle.mh_network.proofs.Optimal.{some_below-from, some_below-gives}
+use Rattle.mh_network.specs.Laws.SumLaws.{sum_below-same, sum_below-add, sum_below-split}
+use Rattle.mh_network.specs.Laws.Optimal.{some_below-from, some_below-gives}
 
 abbrev pub meet : (ℕ → Bool) → (ℕ → Bool) → ℕ → Bool
 meet S A j = S j && A j

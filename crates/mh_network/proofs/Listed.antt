@@ -4,9 +4,9 @@ use Rattle.std.specs.List.{All, list_any}
 use Rattle.mh_network.specs.Sums.{sum_below, kept}
 use Rattle.mh_network.specs.Problems.{ProblemData, gain_of, cost_of, needs_point, sum_of_gains, sum_of_costs}
 use Rattle.mh_network.specs.Selection.{Row, member, union_of_needs, gain_sum, cost_sum, from_link, value_of}
-use Rattle.mh_network.proofs.SumLaws.{sum_below-le, sum_by_keys}
-use Rattle.mh_network.proofs.Members.{some_member}
-use Rattle.mh_network.proofs.Optimal.{needs-in_range}
+use Rattle.mh_network.specs.Laws.SumLaws.{sum_below-le, sum_by_keys}
+use Rattle.mh_network.specs.Laws.Members.{some_member}
+use Rattle.mh_network.specs.Laws.Optimal.{needs-in_range}
 
 kept-within : (S : ℕ → Bool) (f : ℕ → ℕ) (k : ℕ) → kept S f k ≤ f k
 kept-within S f k = elim (S k) as (λ b. cond b (f k) 0 ≤ f k) [ true ↦ omega arith | false ↦ omega arith ]

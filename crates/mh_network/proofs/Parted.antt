@@ -12,9 +12,9 @@ use Rattle.mh_network.specs.Sums.{sum_below, kept}
 use Rattle.mh_network.specs.Problems.{ProblemData, IsProblem, link_at, gain_of, cost_of, no_link, sum_of_gains, sum_of_costs}
 use Rattle.mh_network.specs.Selection.{member, gain_sum}
 use Rattle.mh_network.specs.Parts.{IsPartOf, place_of, part_row, part_problem, restricted}
-use Rattle.mh_network.proofs.Kept.{sum_below-list}
-use Rattle.mh_network.proofs.Members.{found, listed_sum, all_members}
-use Rattle.mh_network.proofs.SumLaws.{sum_below-same, sum_below-le}
+use Rattle.mh_network.specs.Laws.Kept.{sum_below-list}
+use Rattle.mh_network.specs.Laws.Members.{found, listed_sum, all_members}
+use Rattle.mh_network.specs.Laws.SumLaws.{sum_below-same, sum_below-le}
 use Rattle.mh_network.proofs.Joining.{meet}
 use Rattle.mh_network.proofs.Renumbering.{num, place_in, member_at, any_map, row_here, gains_here}
 

@@ -15,10 +15,10 @@ use Rattle.mh_network.specs.Selection.{member, union_of_needs, gain_sum, cost_su
 use Rattle.mh_network.specs.Parts.{Item, IsItem, IsJoined, IsPartOf, part_at, holds, AreParts, place_of, part_row, part_problem, restricted, PartsJoin}
 use Rattle.mh_network.specs.Parts.Item.{link, point}
 use Rattle.mh_network.specs.Parts.IsJoined.{here, down, up}
-use Rattle.mh_network.proofs.Kept.{sum_below-list}
-use Rattle.mh_network.proofs.Members.{found, passing, same_answer, listed_sum, all_members}
-use Rattle.mh_network.proofs.SumLaws.{sum_below-same}
-use Rattle.mh_network.proofs.Optimal.{some_below-from, some_below-gives, needs-in_range}
+use Rattle.mh_network.specs.Laws.Kept.{sum_below-list}
+use Rattle.mh_network.specs.Laws.Members.{found, passing, same_answer, listed_sum, all_members}
+use Rattle.mh_network.specs.Laws.SumLaws.{sum_below-same}
+use Rattle.mh_network.specs.Laws.Optimal.{some_below-from, some_below-gives, needs-in_range}
 use Rattle.mh_network.proofs.Joining.{meet, NoBetter, no_better, worth_le, kept_meet, IsBestWithin, IsLeastWithin, ArePartMasks, least_of_masks}
 
 abbrev pub num : List ℕ → ℕ → ℕ

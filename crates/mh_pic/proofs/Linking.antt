@@ -11,8 +11,8 @@ use Rattle.mh_tree.specs.Typing.{IsTyped, kind_at}
 use Rattle.mh_pic.specs.Keys.{key_test}
 use Rattle.mh_pic.specs.Chains.{PlainEntry, points}
 use Rattle.mh_pic.specs.Specialised.{specialised}
-use Rattle.mh_pic.proofs.Bounds.{points_depth, points_size, specialised_depth, specialised_size, test_depth, test_size}
-use Rattle.mh_pic.proofs.Chains.{begins}
+use Rattle.mh_pic.specs.Laws.Bounds.{points_depth, points_size, specialised_depth, specialised_size, test_depth, test_size}
+use Rattle.mh_pic.specs.Laws.Chains.{begins}
 use Rattle.mh_pic.proofs.Passing.{guard_passed, point_passed}
 
 module _ (m : Signature) (q : ℕ) (e : PlainEntry) (base : Tree) where

@@ -11,7 +11,7 @@ use Rattle.mh_tree.specs.Handle.{TypedTree}
 use Rattle.mh_tree.specs.Limits.{depth, size}
 use Rattle.mh_tree.specs.Tree.{guard, point}
 use Rattle.mh_tree.specs.Typing.{BeginsWith}
-use Rattle.mh_tree.proofs.PublicLaws.{guard_passes, limits_pass, point_passes}
+use Rattle.mh_tree.specs.Laws.{guard_passes, limits_pass, point_passes}
 use Rattle.mh_tree.specs.declared.fault.TreeFault.{TreeFault}
 use Rattle.mh_tree.specs.declared.fault.TreeFault.TheVariants.{NoMemory}
 use Rattle.mh_pic.specs.Keys.{equality, first_test}

@@ -11,9 +11,9 @@ use Rattle.mh_tree.specs.Meaning.{argument}
 use Rattle.mh_tree.specs.Tree.{Tree}
 use Rattle.mh_tree.specs.Typing.{IsTyped}
 use Rattle.mh_pic.specs.Specialised.{Serves, specialised}
-use Rattle.mh_pic.proofs.Bounds.{specialised_depth, specialised_size}
-use Rattle.mh_pic.proofs.Kept.{specialised_typed, specialised_names}
-use Rattle.mh_pic.proofs.SpecialisedTrees.{specialised_mean, specialised_steps}
+use Rattle.mh_pic.specs.Laws.Bounds.{specialised_depth, specialised_size}
+use Rattle.mh_pic.specs.Laws.Kept.{specialised_typed, specialised_names}
+use Rattle.mh_pic.specs.Laws.SpecialisedTrees.{specialised_mean, specialised_steps}
 
 pub specialised_sound : (needs : List ℕ) (kinds : List Kind) (key : Value) (t : Tree) (m : Signature) → IsSound t m → IsSound (specialised needs kinds key t) m
 specialised_sound needs kinds key t m sound = record {

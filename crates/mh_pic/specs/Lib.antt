@@ -1,5 +1,6 @@
-pub mod Limits
-pub mod Keys
-pub mod Specialised
 pub mod Chains
+pub mod Keys
+pub mod Laws
+pub mod Limits
 pub mod Outcomes
+pub mod Specialised

@@ -9,7 +9,7 @@ use Rattle.mh_type.specs.declared.kind.Kind.{Kind}
 use Rattle.mh_type.specs.declared.value.Value.{Value}
 use Rattle.mh_type.specs.Kinds.{kind_of, kind_eq}
 use Rattle.mh_type.specs.Signature.{signature_eq}
-use Rattle.mh_type.proofs.PublicLaws.{signature_eq_decides, kind_eq_decides}
+use Rattle.mh_type.specs.Laws.{signature_eq_decides, kind_eq_decides}
 use Rattle.mh_tree.specs.Limits.{point_bound}
 use Rattle.mh_tree.specs.Typing.{kind_at}
 use Rattle.mh_site.specs.declared.point.Point.{Point}
@@ -22,7 +22,7 @@ use Rattle.mh_site.specs.Names.{is_name}
 use Rattle.mh_site.specs.Definitions.{all_differ, check, first_of_both, point_fault, points_fault, site_fault, sites_fault, definition_fault, names_point, names_site, needs_few, weighs_little, has_no, has_place, fits_place, same_key, needs_known, needs_differ, link_in_order, site_in_order}
 use Rattle.mh_site.specs.Lawful.{HasKey, IsLink, IsSite, IsPoint, AreDistinct, IsDefinition}
 use Rattle.mh_site.proofs.Naming.{distinct_with}
-use Rattle.mh_site.proofs.Tests.{left_true, right_true, not_true, passes, later_passes, first_none, second_none, each_passes}
+use Rattle.mh_site.specs.Laws.Tests.{left_true, right_true, not_true, passes, later_passes, first_none, second_none, each_passes}
 use Rattle.mh_site.proofs.Sorting.{ascending-length, ascending-all, ascending-strictly}
 
 -- ---- points

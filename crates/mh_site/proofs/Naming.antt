@@ -6,7 +6,7 @@ use Rattle.std.proofs.lemmas.List.{map-append}
 use Rattle.std.proofs.lemmas.List.Quantifiers.{all_pairs_push}
 use Rattle.std.proofs.lemmas.Slice.Eq.{bytes_eq-Decides}
 use Rattle.mh_site.specs.Lawful.{AreDistinct}
-use Rattle.mh_site.proofs.Tests.{left_false, right_false}
+use Rattle.mh_site.specs.Laws.Tests.{left_false, right_false}
 
 module _ {X : Type 0} (name : X → List ℕ) where
   -- a name that none has stands at no place

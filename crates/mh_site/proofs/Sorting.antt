@@ -9,7 +9,7 @@ use Rattle.std.proofs.lemmas.Bool.Decides.{nat_tests}
 use Rattle.std.proofs.lemmas.Bool.{leb-true}
 use Rattle.mh_site.specs.Ascending.{put_in, ascending}
 use Rattle.mh_site.specs.Definitions.{all_differ}
-use Rattle.mh_site.proofs.Tests.{left_true, right_true, left_false, right_false, not_true}
+use Rattle.mh_site.specs.Laws.Tests.{left_true, right_true, left_false, right_false, not_true}
 
 -- x is at most each
 abbrev pub Below : ℕ → List ℕ → Type 0

@@ -7,7 +7,7 @@ use Rattle.std.proofs.lemmas.List.Sums.{count_by-le-length, sum_by-cons}
 use Rattle.mh_ledger.specs.Ledgers.{at}
 use Rattle.mh_site.specs.Defined.{DefinitionData}
 use Rattle.mh_site.specs.Links.{links}
-use Rattle.mh_core.proofs.PublicLaws.{few_links}
+use Rattle.mh_core.specs.Laws.{few_links}
 use Rattle.mh_core.specs.Books.{Legal}
 use Rattle.mh_core.specs.Records.{total}
 use Rattle.mh_live.specs.Passes.{PassState, new_passes}

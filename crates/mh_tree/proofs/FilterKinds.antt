@@ -8,12 +8,12 @@ use Rattle.mh_type.specs.declared.kind.Kind.{Kind}
 use Rattle.mh_type.specs.declared.kind.Kind.TheVariants as kind
 use Rattle.mh_type.specs.Kinds.{kind_eq}
 use Rattle.mh_type.specs.Signature.{Signature}
-use Rattle.mh_type.proofs.PublicLaws.{kind_eq_decides}
+use Rattle.mh_type.specs.Laws.{kind_eq_decides}
 use Rattle.mh_tree.specs.Constructors.{is_unary, return_kinds, taken_kinds, plain_filters, arguments_filtered}
 use Rattle.mh_tree.specs.Handle.{TypedTree, IsSound}
 use Rattle.mh_tree.specs.Tree.{filter}
 use Rattle.mh_tree.specs.Typing.{IsTyped, AreTyped, kind_at}
-use Rattle.mh_tree.proofs.Types.{split_at, set_at}
+use Rattle.mh_tree.specs.Laws.Types.{split_at, set_at}
 
 both : (x y : Bool) → x && y ≡ true → (x ≡ true) × (y ≡ true)
 both true y h = (refl, h)

@@ -13,8 +13,8 @@ use Rattle.mh_tree.specs.Tree.{Tree, Filters, constant, identity, operation, ins
 use Rattle.mh_tree.specs.Typing.{IsTyped}
 use Rattle.mh_tree.specs.declared.operand.Operand.{Operand}
 use Rattle.mh_tree.specs.declared.operand.Operand.TheVariants.{Argument, Local, Constant}
-use Rattle.mh_tree.proofs.LeadingArguments.{same_count, count, counted}
-use Rattle.mh_tree.proofs.OperandReads.{shorter}
+use Rattle.mh_tree.specs.Laws.LeadingArguments.{same_count, count, counted}
+use Rattle.mh_tree.specs.Laws.OperandReads.{shorter}
 
 operand_more : (env e : List Operand) (i : ℕ) → i < length env → operand_at (env ++ e) i ≡ operand_at env i
 operand_more env e i h = get_or_append_left env e _ i h

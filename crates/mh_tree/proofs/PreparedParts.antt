@@ -16,8 +16,8 @@ use Rattle.mh_tree.specs.declared.fault.TreeFault.{TreeFault}
 use Rattle.mh_tree.specs.declared.fault.TreeFault.TheVariants.{TypeMismatch, NotBoolean, TooManyParameters, TooDeep, TooLarge}
 use Rattle.mh_tree.specs.declared.operand.Operand.TheVariants.{Argument}
 use Rattle.mh_tree.proofs.LeadingOperands.{prepared_leading}
-use Rattle.mh_tree.proofs.OperandReads.{shorter}
-use Rattle.mh_tree.proofs.Types.{type_computed}
+use Rattle.mh_tree.specs.Laws.OperandReads.{shorter}
+use Rattle.mh_tree.specs.Laws.Types.{type_computed}
 
 -- what is made, where the tests passed
 passed : (b : Bool) (e : TreeFault) (made : Result TypedTree TreeFault) (h : TypedTree) → require b e made ≡ Ok h → made ≡ Ok h

@@ -7,6 +7,7 @@ pub mod Faults
 pub mod Handle
 pub mod Kept
 pub mod KeptCode
+pub mod Laws
 pub mod Limits
 pub mod Meaning
 pub mod Prepared

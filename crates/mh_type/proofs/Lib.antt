@@ -1,5 +1,3 @@
 mod Laws
-pub mod PublicLaws
 mod Reading
-mod SameKind
 mod Texts

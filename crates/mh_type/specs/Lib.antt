@@ -2,6 +2,7 @@ pub mod Display
 pub mod Faults
 pub mod Fits
 pub mod Kinds
+pub mod Laws
 pub mod Limits
 pub mod Operations
 pub mod Printable

@@ -1,4 +1,4 @@
-use Rattle.mh_cert.proofs.Matching.{best_by_match}
+use Rattle.mh_cert.specs.Laws.Matching.{best_by_match}
 use Rattle.mh_cert.proofs.laws.matching_is_best.Goals as goal
 
 pub returns-clause-best : goal.returns-clause-best

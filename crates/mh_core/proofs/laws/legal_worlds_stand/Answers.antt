@@ -1,4 +1,4 @@
-use Rattle.mh_core.proofs.StandingTrees.{stands}
+use Rattle.mh_core.specs.Laws.StandingTrees.{stands}
 use Rattle.mh_core.proofs.laws.legal_worlds_stand.Goals as goal
 
 pub returns : goal.returns

@@ -1,4 +1,4 @@
-use Rattle.mh_core.proofs.Worlds.{read, valid_is}
+use Rattle.mh_core.specs.Laws.Worlds.{read, valid_is}
 use Rattle.mh_core.proofs.laws.records_look_back.Goals as goal
 
 pub returns : goal.returns

@@ -2,7 +2,7 @@ use Rattle.std.proofs.Common.{◌≡◌, List, ℕ, sym, subst, ◌∙◌}
 use Rattle.mh_network.specs.declared.link_row.LinkRow.{LinkRow}
 use Rattle.mh_network.specs.Problems.{problem_tests}
 use Rattle.mh_base.specs.Tests.{Passes}
-use Rattle.mh_core.proofs.ProblemRows.{costs_of, rows_in, rows_pass}
+use Rattle.mh_core.specs.Laws.ProblemRows.{costs_of, rows_in, rows_pass}
 use Rattle.mh_core.proofs.problem.make_problem.Goals as goal
 
 pub assemble-requires : goal.assemble-requires

@@ -1,5 +1,5 @@
 use Rattle.mh_core.specs.Tables.{row_in}
-use Rattle.mh_core.proofs.Numbered.{more_numbers}
+use Rattle.mh_core.specs.Laws.Numbered.{more_numbers}
 use Rattle.mh_core.proofs.problem.make_rows.Goals as goal
 
 pub loop-link-preserved : goal.loop-link-preserved

@@ -1,6 +1,6 @@
 use Rattle.std.proofs.Common.{ℕ}
 use Rattle.mh_site.specs.Worlds.{state_at}
-use Rattle.mh_core.proofs.Numbered.{more_numbers}
+use Rattle.mh_core.specs.Laws.Numbered.{more_numbers}
 use Rattle.mh_core.proofs.snapshot.versions.Goals as goal
 
 pub loop-site-preserved : goal.loop-site-preserved

@@ -10,7 +10,7 @@ use Rattle.mh_tree.specs.TreeOf.{tree_of, filter_trees}
 use Rattle.mh_tree.specs.declared.node.Node.{Node}
 use Rattle.std.specs.declared.alloc.Global.{Global}
 use Rattle.std.specs.declared.sync.Arc.{Arc}
-use Rattle.mh_tree.proofs.PublicLaws.{tree_of_filter, effort, total_effort, filtered_length}
+use Rattle.mh_tree.specs.Laws.{tree_of_filter, effort, total_effort, filtered_length}
 use Rattle.mh_eval.proofs.Extending.{top_of, one_copy}
 use Rattle.mh_eval.proofs.FilterRuns.{runs_filters, target_runs}
 use Rattle.mh_eval.proofs.FilterWalks.{filter_refused, filter_ends, filter_goes_on, present_ends, present_goes}

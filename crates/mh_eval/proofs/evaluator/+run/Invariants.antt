@@ -1,5 +1,5 @@
 use Rattle.std.proofs.Common.{◌+◌, ◌*◌}
-use Rattle.mh_tree.proofs.PublicLaws.{effort, total_effort}
+use Rattle.mh_tree.specs.Laws.{effort, total_effort}
 use Rattle.mh_tree.specs.Tree.{filters_of}
 use Rattle.mh_tree.specs.TreeOf.{tree_of, filter_trees}
 use Rattle.mh_eval.proofs.evaluator.+run.Given as goal

@@ -3,7 +3,7 @@ use Rattle.std.proofs.lemmas.List.{length-map}
 use Rattle.mh_type.specs.declared.kind.Kind.{Kind}
 use Rattle.mh_type.specs.declared.value.Value.{Value}
 use Rattle.mh_type.specs.Kinds.{kind_of}
-use Rattle.mh_tree.proofs.PublicLaws.{few_parameters}
+use Rattle.mh_tree.specs.Laws.{few_parameters}
 use Rattle.mh_eval.specs.Entered.{ArePlain, EntersPlain}
 use Rattle.mh_eval.specs.Quiet.{NoTexts}
 use Rattle.mh_eval.proofs.QuietTrees.{of_kinds, plain_parameters}

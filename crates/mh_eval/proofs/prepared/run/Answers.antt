@@ -3,7 +3,7 @@ use Rattle.mh_type.specs.declared.value.Value.{Value}
 use Rattle.mh_tree.specs.CodeOf.{code_of}
 use Rattle.mh_tree.specs.Running.{run_code, code_steps}
 use Rattle.mh_tree.specs.Scoped.{IsScoped}
-use Rattle.mh_tree.proofs.PublicLaws.{call_small, call_scoped}
+use Rattle.mh_tree.specs.Laws.{call_small, call_scoped}
 use Rattle.mh_eval.specs.Quiet.{IsQuiet}
 use Rattle.mh_eval.proofs.QuietCalls.{call_outcome, call_steps, call_few, call_quiet, call_shallow}
 use Rattle.mh_eval.proofs.prepared.run.Goals as goal

@@ -1,5 +1,5 @@
 use Rattle.std.proofs.Common.{arith}
-use Rattle.mh_ledger.proofs.Added.{is_added}
+use Rattle.mh_ledger.specs.Laws.Added.{is_added}
 use Rattle.mh_ledger.proofs.sums.add.Goals as goal
 
 pub returns : goal.returns

@@ -1,7 +1,7 @@
 use Rattle.std.proofs.Common.{arith, subst, sym}
 use Rattle.std.proofs.lemmas.List.Elements.{All-get_or}
 use Rattle.mh_ledger.specs.Ledgers.{Holds}
-use Rattle.mh_ledger.proofs.PublicLaws.{held_links}
+use Rattle.mh_ledger.specs.Laws.{held_links}
 use Rattle.mh_live.specs.Passes.{PassState}
 use Rattle.mh_live.proofs.roll_call.unflushed_of.Goals as goal
 

@@ -2,7 +2,7 @@ use Rattle.std.proofs.Common.{◌≡◌, ◌<◌, ◌≤◌, ◌+◌, ℕ, List,
 use Rattle.std.specs.List.{slice_index_or}
 use Rattle.mh_network.specs.Selection.{member}
 use Rattle.mh_network.specs.Labels.{label_of, IsRelabelled}
-use Rattle.mh_network.proofs.Members.{member_is}
+use Rattle.mh_network.specs.Laws.Members.{member_is}
 use Rattle.mh_network.proofs.Labelling.{relabel_step, relabel_same, first_taken, member_take, taken_more}
 use Rattle.mh_network.proofs.labels.join_needs.Goals as goal
 use Rattle.mh_network.proofs.labels.join_needs.Goals.{then-from-to, else-from-to}

@@ -1,7 +1,7 @@
 use Rattle.std.proofs.Common.{length}
 use Rattle.mh_network.specs.Problems.{cost_of, gain_of}
 use Rattle.mh_network.proofs.Listed.{costs_within, gains_within, needed_by_some}
-use Rattle.mh_network.proofs.Members.{listed_sum}
+use Rattle.mh_network.specs.Laws.Members.{listed_sum}
 use Rattle.mh_network.proofs.laws.lists_add_up.Goals as goal
 
 pub returns : goal.returns

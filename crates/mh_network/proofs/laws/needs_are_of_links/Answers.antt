@@ -1,7 +1,7 @@
 use Rattle.std.proofs.Common.{length}
 use Rattle.std.proofs.lemmas.Bool.{and_from, and_parts}
 use Rattle.mh_network.specs.Problems.{needs_point}
-use Rattle.mh_network.proofs.Optimal.{needs-in_range, some_below-from, some_below-gives}
+use Rattle.mh_network.specs.Laws.Optimal.{needs-in_range, some_below-from, some_below-gives}
 use Rattle.mh_network.proofs.laws.needs_are_of_links.Goals as goal
 
 pub returns : goal.returns

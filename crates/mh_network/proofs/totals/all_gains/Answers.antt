@@ -1,7 +1,7 @@
 use Rattle.std.proofs.Common.{◌≤◌, suc, length, arith}
 use Rattle.mh_network.specs.Problems.{gain_of}
 use Rattle.mh_network.specs.Sums.{sum_below}
-use Rattle.mh_network.proofs.SumLaws.{sum_below-up}
+use Rattle.mh_network.specs.Laws.SumLaws.{sum_below-up}
 use Rattle.mh_network.proofs.totals.all_gains.Goals as goal
 
 pub overflow_add-sum : goal.overflow_add-sum

@@ -4,7 +4,7 @@ use Rattle.std.proofs.lemmas.List.Elements.{All-more}
 use Rattle.mh_type.specs.Kinds.{kind_of}
 use Rattle.mh_tree.specs.Typing.{kind_at}
 use Rattle.mh_pic.specs.Chains.{PlainEntry, HaveKind, HaveFewNeeds}
-use Rattle.mh_pic.proofs.Chains.{kind_there}
+use Rattle.mh_pic.specs.Laws.Chains.{kind_there}
 use Rattle.mh_pic.proofs.entry.may_chain.Goals as goal
 
 pub loop-entry-preserved : goal.loop-entry-preserved

@@ -1,5 +1,5 @@
-use Rattle.mh_pic.proofs.Bounds.{chain_depth, chain_size, chain_bound}
-use Rattle.mh_pic.proofs.Chains.{chain_faithful}
+use Rattle.mh_pic.specs.Laws.Bounds.{chain_depth, chain_size, chain_bound}
+use Rattle.mh_pic.specs.Laws.Chains.{chain_faithful}
 use Rattle.mh_pic.proofs.laws.chains_are_faithful.Goals as goal
 
 pub returns : goal.returns

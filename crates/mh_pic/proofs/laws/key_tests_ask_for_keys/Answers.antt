@@ -1,5 +1,5 @@
-use Rattle.mh_pic.proofs.Chains.{same_equal}
-use Rattle.mh_pic.proofs.KeyTests.{key_test_mean, key_shown, key_found}
+use Rattle.mh_pic.specs.Laws.Chains.{same_equal}
+use Rattle.mh_pic.specs.Laws.KeyTests.{key_test_mean, key_shown, key_found}
 use Rattle.mh_pic.proofs.laws.key_tests_ask_for_keys.Goals as goal
 
 pub returns : goal.returns

@@ -1,6 +1,6 @@
-use Rattle.mh_pic.proofs.Bounds.{specialised_depth, specialised_size, specialised_bound}
-use Rattle.mh_pic.proofs.Kept.{specialised_typed, specialised_names}
-use Rattle.mh_pic.proofs.SpecialisedTrees.{specialised_mean, specialised_steps}
+use Rattle.mh_pic.specs.Laws.Bounds.{specialised_depth, specialised_size, specialised_bound}
+use Rattle.mh_pic.specs.Laws.Kept.{specialised_typed, specialised_names}
+use Rattle.mh_pic.specs.Laws.SpecialisedTrees.{specialised_mean, specialised_steps}
 use Rattle.mh_pic.proofs.laws.specialised_trees_agree.Goals as goal
 
 pub returns : goal.returns

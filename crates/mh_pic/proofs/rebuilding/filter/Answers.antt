@@ -1,5 +1,5 @@
 use Rattle.std.proofs.Common.{◌∙◌}
-use Rattle.mh_tree.proofs.PublicLaws.{tree_of_filter}
+use Rattle.mh_tree.specs.Laws.{tree_of_filter}
 use Rattle.mh_tree.specs.Tree.{filter, filters_of}
 use Rattle.mh_tree.specs.TreeOf.{filter_trees}
 use Rattle.mh_pic.proofs.StrippedFilters.{if_ok}

@@ -2,7 +2,7 @@ use Rattle.std.proofs.Common.{◌≡◌, ◌++◌, [], ◌∷◌, refl, ap, sym,
 use Rattle.mh_pic.proofs.stripping.+strips.Goals.{strip_filters-in-None, strip_filters-in-Some+in_ok-made-in-Some+in_ok-owner-in-Some}
 use Rattle.std.specs.declared.alloc.Global.{Global}
 use Rattle.std.specs.declared.sync.Arc.{Arc}
-use Rattle.mh_tree.proofs.PublicLaws.{tree_of_filter}
+use Rattle.mh_tree.specs.Laws.{tree_of_filter}
 use Rattle.mh_tree.specs.Limits.{size, total_size}
 use Rattle.mh_tree.specs.Tree.{filter, filters_of}
 use Rattle.mh_tree.specs.TreeOf.{tree_of, filter_trees}

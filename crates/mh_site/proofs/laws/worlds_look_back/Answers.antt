@@ -1,4 +1,4 @@
-use Rattle.mh_site.proofs.LookBack.{site_read, world_sites, valid_is, world_front}
+use Rattle.mh_site.specs.Laws.LookBack.{site_read, world_sites, valid_is, world_front}
 use Rattle.mh_site.proofs.laws.worlds_look_back.Goals as goal
 
 pub returns : goal.returns

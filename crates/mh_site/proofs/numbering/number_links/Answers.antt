@@ -3,7 +3,7 @@ use Rattle.std.proofs.lemmas.List.{get_or_default}
 use Rattle.mh_site.specs.declared.site.Site.{Site}
 use Rattle.mh_site.specs.Defined.{no_site}
 use Rattle.mh_site.specs.Links.{first_links, homes_before}
-use Rattle.mh_site.proofs.Numbers.{firsts_more, homes_more, links_in}
+use Rattle.mh_site.specs.Laws.Numbers.{firsts_more, homes_more, links_in}
 use Rattle.mh_site.proofs.numbering.number_links.Goals as goal
 
 pub loop-site-preserved : goal.loop-site-preserved

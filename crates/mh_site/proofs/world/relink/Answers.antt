@@ -4,7 +4,7 @@ use Rattle.mh_site.specs.declared.world.SiteWorld.{SiteWorld}
 use Rattle.mh_site.specs.SiteStates.{site_state}
 use Rattle.mh_site.specs.Controls.{Relinked}
 use Rattle.mh_site.specs.Worlds.{relinked, relink_site}
-use Rattle.mh_site.proofs.Tables.{written}
+use Rattle.mh_site.specs.Laws.Tables.{written}
 use Rattle.mh_site.proofs.world.relink.Goals as goal
 
 pub returns-then-site-len : goal.returns-then-site-len

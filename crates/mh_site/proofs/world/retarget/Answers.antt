@@ -4,7 +4,7 @@ use Rattle.mh_site.specs.declared.world.SiteWorld.{SiteWorld}
 use Rattle.mh_site.specs.SiteStates.{site_state}
 use Rattle.mh_site.specs.Controls.{Retargeted}
 use Rattle.mh_site.specs.Worlds.{retargeted, SiteState, no_state}
-use Rattle.mh_site.proofs.Tables.{written}
+use Rattle.mh_site.specs.Laws.Tables.{written}
 use Rattle.mh_site.proofs.world.retarget.Goals as goal
 
 abbrev state_of : TypedTree → TypedTree → List ℕ → ℕ → SiteState

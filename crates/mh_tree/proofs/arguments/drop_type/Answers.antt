@@ -1,7 +1,7 @@
 use Rattle.std.proofs.Common.{◌≡◌, rules}
 use Rattle.mh_tree.specs.Constructors.{dropped}
 use Rattle.mh_tree.specs.Tree.{discard}
-use Rattle.mh_tree.proofs.Tests.{drop_passes, limits_decide}
+use Rattle.mh_tree.specs.Laws.Tests.{drop_passes, limits_decide}
 use Rattle.mh_tree.proofs.arguments.drop_type.Goals as goal
 
 pub returns-clause-value : goal.returns-clause-value

@@ -2,7 +2,7 @@ use Rattle.std.proofs.Common.{◌≡◌, ◌+◌, ◌≤◌, rules, map, take, d
 use Rattle.mh_type.specs.Kinds.{kind_of}
 use Rattle.mh_tree.specs.Constructors.{inserted}
 use Rattle.mh_tree.specs.Tree.{insert}
-use Rattle.mh_tree.proofs.Tests.{insert_passes, insert_misfits, limits_decide}
+use Rattle.mh_tree.specs.Laws.Tests.{insert_passes, insert_misfits, limits_decide}
 use Rattle.mh_tree.proofs.arguments.insert_type.Goals as goal
 
 pub returns-then-not-have_kinds-clause-value : goal.returns-then-not-have_kinds-clause-value

@@ -1,7 +1,7 @@
 use Rattle.std.proofs.Common.{◌≡◌, rules}
 use Rattle.mh_tree.specs.Tree.{guard}
 use Rattle.mh_tree.proofs.Sound.{guard_typed}
-use Rattle.mh_tree.proofs.Tests.{guard_passes, limits_decide}
+use Rattle.mh_tree.specs.Laws.Tests.{guard_passes, limits_decide}
 use Rattle.mh_tree.proofs.branches.guard_type.Goals as goal
 
 pub returns-clause-value : goal.returns-clause-value

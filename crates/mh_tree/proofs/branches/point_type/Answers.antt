@@ -1,6 +1,6 @@
 use Rattle.std.proofs.Common.{◌≡◌, rules}
 use Rattle.mh_tree.specs.Tree.{point}
-use Rattle.mh_tree.proofs.Tests.{point_passes, limits_decide}
+use Rattle.mh_tree.specs.Laws.Tests.{point_passes, limits_decide}
 use Rattle.mh_tree.proofs.branches.point_type.Goals as goal
 
 pub returns-clause-value : goal.returns-clause-value

@@ -2,7 +2,7 @@ use Rattle.std.proofs.Common.{◌≡◌, rules, [], ◌∷◌}
 use Rattle.mh_tree.specs.Constructors.{return_filtered}
 use Rattle.mh_tree.specs.Tree.{filter_return}
 use Rattle.mh_tree.proofs.Sound.{filter_return_typed}
-use Rattle.mh_tree.proofs.Tests.{filter_return_passes, limits_decide}
+use Rattle.mh_tree.specs.Laws.Tests.{filter_return_passes, limits_decide}
 use Rattle.mh_tree.proofs.filters.filter_return_type.Goals as goal
 
 pub returns-clause-value : goal.returns-clause-value

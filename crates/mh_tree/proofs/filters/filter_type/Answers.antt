@@ -3,7 +3,7 @@ use Rattle.std.specs.List.{list_all}
 use Rattle.mh_tree.specs.Constructors.{arguments_filtered, is_unary, return_kinds, plain_filters}
 use Rattle.mh_tree.specs.Tree.{filter}
 use Rattle.mh_tree.proofs.FilterKinds.{filter_typed, returns_behind}
-use Rattle.mh_tree.proofs.Tests.{filter_passes, limits_decide}
+use Rattle.mh_tree.specs.Laws.Tests.{filter_passes, limits_decide}
 use Rattle.mh_tree.proofs.filters.filter_type.Goals as goal
 
 pub returns-clause-value : goal.returns-clause-value

@@ -7,7 +7,7 @@ use Rattle.std.proofs.Common.{◌≡◌, ◌+◌, ◌++◌, ◌∙◌, ◌<◌, 
 use Rattle.mh_type.specs.declared.kind.Kind.{Kind}
 use Rattle.mh_type.specs.Signature.{Signature}
 use Rattle.mh_tree.specs.Constructors.{taken_kinds}
-use Rattle.mh_tree.proofs.Types.{first_kind}
+use Rattle.mh_tree.specs.Laws.Types.{first_kind}
 use Rattle.mh_tree.proofs.FilterKinds.{SoundFilter, found_at, unary_at, taken_some, taken_none}
 use Rattle.mh_tree.proofs.filters.type_before.Goals.{in-Some, in_default}
 use Rattle.mh_tree.proofs.filters.type_before.Goals as goal

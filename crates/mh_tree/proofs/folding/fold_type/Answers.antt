@@ -2,7 +2,7 @@ use Rattle.std.proofs.Common.{◌≡◌, rules}
 use Rattle.mh_tree.specs.Constructors.{folded}
 use Rattle.mh_tree.specs.Tree.{fold}
 use Rattle.mh_tree.proofs.Sound.{fold_typed}
-use Rattle.mh_tree.proofs.Tests.{fold_passes, limits_decide}
+use Rattle.mh_tree.specs.Laws.Tests.{fold_passes, limits_decide}
 use Rattle.mh_tree.proofs.folding.fold_type.Goals as goal
 
 pub returns-clause-value : goal.returns-clause-value

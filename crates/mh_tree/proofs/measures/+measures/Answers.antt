@@ -7,7 +7,7 @@ use Rattle.mh_tree.specs.Tree.{filters_of}
 use Rattle.mh_tree.specs.TreeOf.{tree_of, filter_trees}
 use Rattle.mh_tree.specs.declared.measures.Measures.{Measures}
 use Rattle.mh_tree.specs.declared.node.Node.{Node}
-use Rattle.mh_tree.proofs.Trees.{tree_of_filter}
+use Rattle.mh_tree.specs.Laws.Trees.{tree_of_filter}
 use Rattle.mh_tree.proofs.measures.+measures.Goals as goal
 
 pub measure-measure_filters-requires : goal.measure-measure_filters-requires

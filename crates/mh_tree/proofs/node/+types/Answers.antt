@@ -11,8 +11,8 @@ use Rattle.mh_tree.specs.Typing.{AreTyped}
 use Rattle.mh_tree.specs.declared.node.Node.{Node}
 use Rattle.std.specs.declared.alloc.Global.{Global}
 use Rattle.std.specs.declared.sync.Arc.{Arc}
-use Rattle.mh_tree.proofs.Trees.{tree_of_filter, tree_of_insert, tree_of_fold, tree_of_drop, filter_found, none_found}
-use Rattle.mh_tree.proofs.Types.{insert_inside, drop_inside, fold_inside, filter_inside, filter_at, none_at, first_kind}
+use Rattle.mh_tree.specs.Laws.Trees.{tree_of_filter, tree_of_insert, tree_of_fold, tree_of_drop, filter_found, none_found}
+use Rattle.mh_tree.specs.Laws.Types.{insert_inside, drop_inside, fold_inside, filter_inside, filter_at, none_at, first_kind}
 use Rattle.mh_tree.proofs.node.+types.Goals.{filtered_type-in-Some, filtered_type-in_default}
 use Rattle.mh_tree.proofs.node.+types.Goals as goal
 

@@ -1,6 +1,6 @@
 use Rattle.std.proofs.Common.{◌∙◌, ap, arith, [], ◌∷◌, length, length-append, length-take, length-drop}
 use Rattle.mh_type.specs.Signature.{Signature, with_parameters}
-use Rattle.mh_tree.proofs.Types.{replaced}
+use Rattle.mh_tree.specs.Laws.Types.{replaced}
 use Rattle.mh_tree.proofs.node.with_parameter.Goals as goal
 
 pub unreachable-requires : goal.unreachable-requires

@@ -5,8 +5,8 @@ use Rattle.mh_tree.specs.Limits.{size, total_size}
 use Rattle.mh_tree.specs.Tree.{filter, filters_of}
 use Rattle.mh_tree.specs.TreeOf.{tree_of, filter_trees}
 use Rattle.mh_tree.specs.declared.node.Node.{Node}
-use Rattle.mh_tree.proofs.Effort.{effort, total_effort}
-use Rattle.mh_tree.proofs.Trees.{tree_of_filter}
+use Rattle.mh_tree.specs.Laws.Effort.{effort, total_effort}
+use Rattle.mh_tree.specs.Laws.Trees.{tree_of_filter}
 use Rattle.mh_tree.proofs.preparing.+prepare.Goals as goal
 
 pub prepare-prepare_filters-requires : goal.prepare-prepare_filters-requires

@@ -1,7 +1,7 @@
 use Rattle.std.proofs.Common.{◌+◌, ◌*◌}
 use Rattle.mh_tree.specs.Tree.{filters_of}
 use Rattle.mh_tree.specs.TreeOf.{tree_of, filter_trees}
-use Rattle.mh_tree.proofs.Effort.{effort, total_effort}
+use Rattle.mh_tree.specs.Laws.Effort.{effort, total_effort}
 use Rattle.mh_tree.proofs.preparing.+prepare.Given as goal
 
 -- what is left to do: two for each node and each filter's place, and one for the call that has entered a node

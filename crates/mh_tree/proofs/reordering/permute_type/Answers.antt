@@ -1,7 +1,7 @@
 use Rattle.std.proofs.Common.{◌≡◌, rules}
 use Rattle.mh_tree.specs.Tree.{permute}
 use Rattle.mh_tree.proofs.Sound.{permute_typed}
-use Rattle.mh_tree.proofs.Tests.{permute_passes, permute_misfits, limits_decide}
+use Rattle.mh_tree.specs.Laws.Tests.{permute_passes, permute_misfits, limits_decide}
 use Rattle.mh_tree.proofs.reordering.permute_type.Goals as goal
 
 pub returns-then-not-gives_kinds-clause-value : goal.returns-then-not-gives_kinds-clause-value

@@ -1,6 +1,6 @@
 use Rattle.std.specs.Bool.{one_answer}
 use Rattle.std.proofs.lemmas.Slice.Eq.{slice_eq-Decides}
-use Rattle.mh_type.proofs.SameKind.{derived_decides, kinds_eq_decides}
+use Rattle.mh_type.specs.Laws.SameKind.{derived_decides, kinds_eq_decides}
 use Rattle.mh_type.proofs.method_type.same_kinds.Goals as goal
 
 pub returns-clause-value : goal.returns-clause-value

@@ -1,6 +1,6 @@
 use Rattle.std.proofs.Common.{◌∷◌, [], ◌≤◌, length, refl, sym, ◌∙◌, arith}
 use Rattle.std.proofs.lemmas.List.{take-append-le, take_all}
-use Rattle.mh_type.proofs.SameKind.{signature_same}
+use Rattle.mh_type.specs.Laws.SameKind.{signature_same}
 use Rattle.mh_type.proofs.written.put_last.Goals as goal
 
 pub returns-clause-value : goal.returns-clause-value

@@ -10,7 +10,7 @@ use Rattle.mh_core.specs.PlanTables.{plans_of}
 use Rattle.mh_core.specs.Rows.{tests}
 use Rattle.mh_base.specs.Tests.{Passes}
 use Rattle.mh_core.proofs.Growing.{book_grows, totals_stay}
-use Rattle.mh_core.proofs.Worlds.{newest_push}
+use Rattle.mh_core.specs.Laws.Worlds.{newest_push}
 use Rattle.mh_core.proofs.book.Book.append_publish.Goals as goal
 
 pub invariant_of-self-2 : goal.invariant_of-self-2

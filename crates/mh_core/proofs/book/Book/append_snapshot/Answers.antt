@@ -11,7 +11,7 @@ use Rattle.mh_core.specs.Snapshots.{SnapshotState, snapshot_of, snapshots_of}
 use Rattle.mh_base.specs.Tests.{Passes}
 use Rattle.mh_core.proofs.Growing.{book_grows, totals_stay}
 use Rattle.mh_core.proofs.Standing.{snapshot_now}
-use Rattle.mh_core.proofs.Worlds.{newest_push, world_sites}
+use Rattle.mh_core.specs.Laws.Worlds.{newest_push, world_sites}
 use Rattle.mh_core.proofs.book.Book.append_snapshot.Goals as goal
 
 pub take-requires : goal.take-requires

@@ -7,7 +7,7 @@ use Rattle.mh_core.specs.Pending.{IsReady, PendingState}
 use Rattle.mh_core.specs.Replayed.{controls, world}
 use Rattle.mh_core.proofs.Changing.{leaves}
 use Rattle.mh_core.proofs.Growing.{book_grows, book_room, totals_stay}
-use Rattle.mh_core.proofs.Worlds.{world_push}
+use Rattle.mh_core.specs.Laws.Worlds.{world_push}
 use Rattle.mh_core.proofs.book.Book.commit.Goals as goal
 
 pub push_reserved-requires : goal.push_reserved-requires

@@ -1,7 +1,7 @@
 use Rattle.std.proofs.Common.{◌∙◌, ℕ, List, ap, arith}
 use Rattle.mh_network.specs.Selection.{member}
 use Rattle.mh_core.proofs.InstalledLinks.{found_member}
-use Rattle.mh_core.proofs.LawfulLinks.{few_links}
+use Rattle.mh_core.specs.Laws.LawfulLinks.{few_links}
 use Rattle.mh_core.proofs.book.Book.has.Goals as goal
 
 pub overflow_cast-link : goal.overflow_cast-link

@@ -5,7 +5,7 @@ use Rattle.mh_site.specs.Links.{first_link}
 use Rattle.mh_core.specs.Books.{BookState}
 use Rattle.mh_core.specs.Installations.{plan_at}
 use Rattle.mh_core.proofs.InstalledLinks.{gather_skip, some_pass}
-use Rattle.mh_core.proofs.LawfulLinks.{few_links}
+use Rattle.mh_core.specs.Laws.LawfulLinks.{few_links}
 use Rattle.mh_core.proofs.book.Book.has_any.Goals as goal
 
 pub overflow_add-link-end : goal.overflow_add-link-end

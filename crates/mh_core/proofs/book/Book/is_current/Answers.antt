@@ -6,8 +6,8 @@ use Rattle.mh_core.specs.Books.{BookState, IsBook}
 use Rattle.mh_core.specs.Installations.{PublishedPlan, plan_at}
 use Rattle.mh_core.specs.Records.{past, version}
 use Rattle.mh_core.proofs.InstalledLinks.{ReadsPlan, plan_taken, sites_now, state_now, versions_read}
-use Rattle.mh_core.proofs.Numbered.{at_number}
-use Rattle.mh_core.proofs.PlanTables.{plans_now}
+use Rattle.mh_core.specs.Laws.Numbered.{at_number}
+use Rattle.mh_core.specs.Laws.PlanTables.{plans_now}
 use Rattle.mh_core.proofs.Standing.{snapshots_now}
 use Rattle.mh_core.proofs.book.Book.is_current.Goals as goal
 

@@ -3,7 +3,7 @@ use Rattle.mh_core.specs.declared.refusal.Refusal.TheVariants.{OldPlan}
 use Rattle.mh_core.specs.BookViews.{book_state}
 use Rattle.mh_core.specs.Records.{plans}
 use Rattle.mh_core.proofs.Deciding.{below}
-use Rattle.mh_core.proofs.PlanTables.{plans_now}
+use Rattle.mh_core.specs.Laws.PlanTables.{plans_now}
 use Rattle.mh_core.proofs.book.Book.test_install.Goals.{then-plan-eq0-via-then-plan-eq0, then-plan-eq0-via-else-plan-eq0+then-plan-newest}
 use Rattle.mh_core.proofs.book.Book.test_install.Goals as goal
 

@@ -7,7 +7,7 @@ use Rattle.mh_core.specs.Records.{plans}
 use Rattle.mh_base.specs.Tests.{Refuses, only, test}
 use Rattle.mh_core.specs.Refusals.{memory_last}
 use Rattle.mh_core.proofs.Deciding.{below}
-use Rattle.mh_core.proofs.PlanTables.{plans_now}
+use Rattle.mh_core.specs.Laws.PlanTables.{plans_now}
 use Rattle.mh_core.proofs.PlanTests.{plan_matches, plan_refused}
 use Rattle.mh_core.proofs.book.Book.test_publish.Goals.{then-is_full-via-then-is_full, then-is_full-via-else-is_full+then-len-ge-MOST_PLANS}
 use Rattle.mh_core.proofs.book.Book.test_publish.Goals as goal

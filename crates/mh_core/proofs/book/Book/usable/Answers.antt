@@ -7,7 +7,7 @@ use Rattle.mh_core.specs.Books.{BookState}
 use Rattle.mh_core.specs.Installations.{own_links, plan_at}
 use Rattle.mh_core.specs.Problems.{is_eligible}
 use Rattle.mh_core.proofs.InstalledLinks.{filter_both, gather_pass, gather_skip, gathered}
-use Rattle.mh_core.proofs.LawfulLinks.{few_links}
+use Rattle.mh_core.specs.Laws.LawfulLinks.{few_links}
 use Rattle.mh_core.proofs.book.Book.usable.Goals.{then-is_usable, else-is_usable}
 use Rattle.mh_core.proofs.book.Book.usable.Goals as goal
 

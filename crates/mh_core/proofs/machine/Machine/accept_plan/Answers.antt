@@ -8,7 +8,7 @@ use Rattle.mh_core.specs.Legal.{MachineState}
 use Rattle.mh_core.specs.Books.{Takes}
 use Rattle.mh_core.specs.Records.{plans}
 use Rattle.mh_core.proofs.Machines.{machine_takes, passes_record, passes_same, takes_same, view_takes}
-use Rattle.mh_core.proofs.PlanTables.{plans_count}
+use Rattle.mh_core.specs.Laws.PlanTables.{plans_count}
 use Rattle.mh_core.proofs.machine.Machine.accept_plan.Goals as goal
 
 pub append_publish-requires : goal.append_publish-requires

@@ -6,7 +6,7 @@ use Rattle.mh_core.specs.Histories.{records}
 use Rattle.mh_core.specs.Legal.{MachineState}
 use Rattle.mh_core.specs.Records.{snapshots}
 use Rattle.mh_core.specs.Snapshots.{SnapshotState}
-use Rattle.mh_core.proofs.PastSnapshots.{snapshots_count}
+use Rattle.mh_core.specs.Laws.PastSnapshots.{snapshots_count}
 use Rattle.mh_core.proofs.Machines.{machine_takes, passes_record, view_takes}
 use Rattle.mh_core.proofs.machine.Machine.accept_snapshot.Goals as goal
 

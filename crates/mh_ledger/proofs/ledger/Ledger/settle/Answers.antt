@@ -1,6 +1,6 @@
 use Rattle.std.proofs.Common.{◌≡◌, ◌<◌, ◌≤◌, ◌^◌, ℕ, List, ap, sym, subst, ◌∙◌, length}
 use Rattle.mh_ledger.specs.Ledgers.{LedgerState, IsLedger, added, made}
-use Rattle.mh_ledger.proofs.Added.{settled_sound}
+use Rattle.mh_ledger.specs.Laws.Added.{settled_sound}
 use Rattle.mh_ledger.proofs.ledger.Ledger.settle.Goals as goal
 
 abbrev ledger_of : ℕ → ℕ → List ℕ → List ℕ → LedgerState

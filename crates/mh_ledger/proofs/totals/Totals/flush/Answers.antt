@@ -1,6 +1,6 @@
 use Rattle.std.proofs.Common.{ap, ◌∙◌}
 use Rattle.mh_ledger.specs.Ledgers.{at, made}
-use Rattle.mh_ledger.proofs.Flushes.{made_fits, made_stays, rises}
+use Rattle.mh_ledger.specs.Laws.Flushes.{made_fits, made_stays, rises}
 use Rattle.mh_ledger.proofs.totals.Totals.flush.Goals as goal
 
 pub settle-requires : goal.settle-requires

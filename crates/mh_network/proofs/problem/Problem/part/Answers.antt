@@ -1,5 +1,5 @@
 use Rattle.std.proofs.Common.{◌<◌, length, arith}
-use Rattle.mh_network.proofs.Members.{all_members}
+use Rattle.mh_network.specs.Laws.Members.{all_members}
 use Rattle.mh_network.proofs.Parted.{ascending_few, part_is_problem}
 use Rattle.mh_network.proofs.problem.Problem.part.Goals as goal
 

@@ -3,7 +3,7 @@ use Rattle.std.proofs.lemmas.List.FromFn.{length-map-range_with_len}
 use Rattle.mh_site.specs.Defined.{DefinitionData, no_link}
 use Rattle.mh_site.specs.Kept.{kept_definition}
 use Rattle.mh_site.specs.Links.{first_link, link_at, links_before}
-use Rattle.mh_site.proofs.Numbers.{before_within, first_at, numbered}
+use Rattle.mh_site.specs.Laws.Numbers.{before_within, first_at, numbered}
 use Rattle.mh_site.proofs.definition.Definition.first_link.Goals as goal
 
 inside : (d e : DefinitionData) (s : ℕ) → d ≡ e → s < length e.sites → s < length d.sites

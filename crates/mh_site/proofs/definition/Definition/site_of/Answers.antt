@@ -2,7 +2,7 @@ use Rattle.std.proofs.Common.{◌≤◌, ◌<◌, ◌+◌, length, slice_index_o
 use Rattle.mh_site.specs.Defined.{DefinitionData, no_link, site_at}
 use Rattle.mh_site.specs.Kept.{kept_definition}
 use Rattle.mh_site.specs.Links.{first_link, links, site_of}
-use Rattle.mh_site.proofs.Numbers.{home, home_at}
+use Rattle.mh_site.specs.Laws.Numbers.{home, home_at}
 use Rattle.mh_site.proofs.definition.Definition.site_of.Goals as goal
 
 pub returns-clause-value : goal.returns-clause-value

@@ -3,7 +3,7 @@ use Rattle.std.specs.List.{All}
 use Rattle.mh_site.specs.declared.control.Control.TheVariants.{Install}
 use Rattle.mh_site.specs.SiteStates.{site_state}
 use Rattle.mh_site.specs.Worlds.{SiteState}
-use Rattle.mh_site.proofs.Tables.{after_keeps, room_of}
+use Rattle.mh_site.specs.Laws.Tables.{after_keeps, room_of}
 use Rattle.mh_site.proofs.world.World.absorb.Goals as goal
 
 pub retarget-requires : goal.retarget-requires

@@ -1,6 +1,6 @@
 use Rattle.std.proofs.Common.{subst, sym}
 use Rattle.std.specs.List.{All}
-use Rattle.mh_site.proofs.Tables.{opening_keeps, Early}
+use Rattle.mh_site.specs.Laws.Tables.{opening_keeps, Early}
 use Rattle.mh_site.proofs.world.World.open.Goals as goal
 
 pub invariant_of-result : goal.invariant_of-result

@@ -3,8 +3,8 @@ use Rattle.mh_tree.specs.Constructors.{plain_filters}
 use Rattle.mh_tree.specs.Handle.{IsSound}
 use Rattle.mh_tree.specs.Limits.{depth, size, point_bound}
 use Rattle.mh_tree.specs.Tree.{filter}
-use Rattle.mh_tree.proofs.Tests.{made_by}
-use Rattle.mh_tree.proofs.Trees.{tree_of_owners}
+use Rattle.mh_tree.specs.Laws.Tests.{made_by}
+use Rattle.mh_tree.specs.Laws.Trees.{tree_of_owners}
 use Rattle.mh_tree.proofs.handle.Handle.filter.Goals as goal
 
 pub of-requires-clause-sound : goal.of-requires-clause-sound

@@ -2,7 +2,7 @@ use Rattle.std.proofs.Common.{◌∙◌, sym, subst}
 use Rattle.mh_type.specs.Signature.{Signature}
 use Rattle.mh_tree.specs.TreeOf.{tree_of}
 use Rattle.mh_tree.specs.Typing.{IsTyped}
-use Rattle.mh_tree.proofs.Types.{type_computed}
+use Rattle.mh_tree.specs.Laws.Types.{type_computed}
 use Rattle.mh_tree.proofs.node.Node.method_type.Goals as goal
 
 pub returns-clause-is : goal.returns-clause-is

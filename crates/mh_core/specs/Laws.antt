@@ -1,0 +1,14 @@
+-- Laws of the definitions, for the proofs of crates above. Each is proved: nothing here is to be believed.
+pub mod Caches
+pub mod LawfulLinks
+pub mod Numbered
+pub mod PastSnapshots
+pub mod PlanTables
+pub mod ProblemRows
+pub mod StandingTrees
+pub mod Worlds
+pub use Rattle.mh_core.specs.Laws.LawfulLinks.{few_links}
+pub use Rattle.mh_core.specs.Laws.PastSnapshots.{snapshots_count}
+pub use Rattle.mh_core.specs.Laws.PlanTables.{plans_count}
+pub use Rattle.mh_core.specs.Laws.StandingTrees.{stands}
+pub use Rattle.mh_core.specs.Laws.Worlds.{oldest_push, world_front, world_push}

@@ -1,0 +1,5 @@
+-- Laws of the definitions, for the proofs of crates above. Each is proved: nothing here is to be believed.
+pub mod Added
+pub mod Flushes
+pub use Rattle.mh_ledger.specs.Laws.Added.{length-added}
+pub use Rattle.mh_ledger.specs.Laws.Flushes.{held_links}

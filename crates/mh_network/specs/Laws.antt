@@ -1,0 +1,10 @@
+-- Laws of the definitions, for the proofs of crates above. Each is proved: nothing here is to be believed.
+pub mod Duality
+pub mod Kept
+pub mod Members
+pub mod Net
+pub mod Optimal
+pub mod SumLaws
+pub use Rattle.mh_network.specs.Laws.Kept.{kept_costs, kept_gains, tested_problem}
+pub use Rattle.mh_network.specs.Laws.Members.{member_is}
+pub use Rattle.mh_network.specs.Laws.Optimal.{best_by_flow}

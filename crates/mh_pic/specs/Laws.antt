@@ -1,0 +1,9 @@
+-- Laws of the definitions, for the proofs of crates above. Each is proved: nothing here is to be believed.
+pub mod Bounds
+pub mod Chains
+pub mod Kept
+pub mod KeyTests
+pub mod SpecialisedTrees
+pub mod StrippedTrees
+pub use Rattle.mh_pic.specs.Laws.Bounds.{chain_bound}
+pub use Rattle.mh_pic.specs.Laws.Chains.{chain_faithful}

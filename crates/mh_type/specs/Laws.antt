@@ -1,0 +1,3 @@
+-- Laws of the definitions, for the proofs of crates above. Each is proved: nothing here is to be believed.
+pub mod SameKind
+pub use Rattle.mh_type.specs.Laws.SameKind.{kind_eq_decides, kinds_eq_decides, signature_eq_decides}
