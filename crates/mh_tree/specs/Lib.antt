@@ -1,4 +1,5 @@
 pub mod Arity
+pub mod Cached
 pub mod Code
 pub mod CodeOf
 pub mod Constructors

@@ -14,6 +14,8 @@
 
 mod arguments;
 mod branches;
+mod code_cache;
+mod comparing;
 mod declared;
 mod fault;
 mod filters;
@@ -30,6 +32,7 @@ mod prepared;
 mod preparing;
 mod reordering;
 
+pub use code_cache::CodeCache;
 pub use declared::{DEEPEST_DECLARED, Declared, LARGEST_DECLARED};
 pub use fault::TreeFault;
 pub use handle::Handle;

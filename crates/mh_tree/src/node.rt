@@ -82,6 +82,14 @@ impl Node {
         self.computed_type()
     }
 
+    // Whether it has no parts.
+    pub(crate) fn is_leaf(&self) -> bool {
+        match self {
+            Node::Constant(_) | Node::Identity(_) | Node::Operation(_) => true,
+            _ => false,
+        }
+    }
+
     // The type, computed from the parts.
     #[cycle(types)]
     fn computed_type(&self) -> MethodType

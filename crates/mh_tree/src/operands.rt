@@ -1,13 +1,13 @@
 //! Lists of operands.
 
-ghost use Rattle.std.specs.Prelude.{◌≡◌, ◌∷◌, [], ◌++◌, take, drop, map, ◌+◌, slice_set, IfOk, OnOk};
+ghost use Rattle.std.specs.Prelude.{◌≡◌, ◌∷◌, IsTrue, [], ◌++◌, take, drop, map, ◌+◌, slice_set, IfOk, OnOk};
 ghost use Rattle.std.specs.List.{range_with_len};
 ghost use Rattle.mh_tree.specs.declared.operand.Operand.TheVariants.{Argument, Constant, Local};
 ghost use Rattle.mh_tree.specs.Prepared.{operand_at};
 
 use crate::operand::Operand;
 use mh_base::NoMemory;
-use mh_type::Value;
+use mh_type::{Value, same_value};
 use std::alloc::Global;
 
 // Another operand of the same place.
@@ -19,6 +19,33 @@ pub(crate) fn same(operand: &Operand) -> Result<Operand, NoMemory>
         Operand::Local(place) => Operand::Local(*place),
         Operand::Constant(value) => Operand::Constant(value.share().map_err(|_| NoMemory)?),
     })
+}
+
+// Whether two operands are one.
+fn is_same(one: &Operand, other: &Operand) -> bool
+    ensures same { IsTrue result → one.now ≡ other.now }
+{
+    match (one, other) {
+        (Operand::Argument(place), Operand::Argument(another)) => *place == *another,
+        (Operand::Local(place), Operand::Local(another)) => *place == *another,
+        (Operand::Constant(value), Operand::Constant(another)) => same_value(value, another),
+        _ => false,
+    }
+}
+
+// Whether two lists of operands are one.
+pub(crate) fn same_operands(some: &[Operand], others: &[Operand]) -> bool
+    ensures same { IsTrue result → some.now ≡ others.now }
+{
+    if some.len() != others.len() {
+        return false;
+    }
+    for (index, operand) in some.iter().enumerate() {
+        if !is_same(operand, &others[index]) {
+            return false;
+        }
+    }
+    true
 }
 
 // The operand at a place.
@@ -39,6 +66,15 @@ fn append(list: &mut Vec<Operand>, operands: &[Operand]) -> Result<(), NoMemory>
         list.push(same(operand)?).map_err(|_| NoMemory)?;
     }
     Ok(())
+}
+
+// The same operands.
+pub(crate) fn copied(alloc: Global, operands: &[Operand]) -> Result<Vec<Operand>, NoMemory>
+    ensures value { IfOk result (λ v. v.items ≡ operands.now) }
+{
+    let mut list = Vec::new(alloc);
+    append(&mut list, operands)?;
+    Ok(list)
 }
 
 // Constants at the end of a list.

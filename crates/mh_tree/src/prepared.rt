@@ -8,11 +8,12 @@ ghost use Rattle.mh_tree.specs.Constructors.{Refuses, guard_made, point_made};
 ghost use Rattle.mh_tree.specs.Handle.{IsSound};
 ghost use Rattle.mh_tree.specs.Prepared.{handle_code};
 
+use crate::code_cache::CodeCache;
 use crate::fault::TreeFault;
 use crate::handle::Handle;
 use crate::operands::arguments;
 use crate::piece::Piece;
-use crate::preparing::{owned, prepare};
+use crate::preparing::prepare;
 use mh_base::NoMemory;
 use std::alloc::Global;
 use std::fmt;
@@ -58,11 +59,7 @@ impl Prepared {
         ensures value { IfOk result (λ p. p ≡ handle.now) }
         ensures refused { IfErr result (λ e. e ≡ TreeFault.NoMemory) }
     {
-        let Ok(code) = call_code(handle.alloc(), handle) else {
-            return Err(TreeFault::NoMemory);
-        };
-        let handle = handle.share()?;
-        Ok(Prepared { handle, code })
+        CodeCache::new(handle.alloc()).prepare(handle)
     }
 
     /// The target where the test gives true, and else the fallback: what `Handle::guard` makes of
@@ -133,14 +130,29 @@ impl Prepared {
     }
 }
 
+impl CodeCache {
+    /// What `Prepared::new` gives. Code of parts of trees that this cache prepared is shared where
+    /// it is kept; of others the code is made and kept.
+    pub fn prepare(&mut self, handle: &Handle) -> Result<Prepared, TreeFault>
+        ensures value { IfOk result (λ p. p ≡ handle.now) }
+        ensures refused { IfErr result (λ e. e ≡ TreeFault.NoMemory) }
+    {
+        let Ok(code) = call_code(self, handle) else {
+            return Err(TreeFault::NoMemory);
+        };
+        let handle = handle.share()?;
+        Ok(Prepared { handle, code })
+    }
+}
+
 // The code of a handle's calls.
-fn call_code(alloc: Global, handle: &Handle) -> Result<Arc<Piece>, NoMemory>
+fn call_code(cache: &mut CodeCache, handle: &Handle) -> Result<Arc<Piece>, NoMemory>
     ensures value { IfOk result (λ a. code_of (arc_value a) ≡ handle_code handle.now) }
 {
     let count = handle.method_type().count();
-    let operands = arguments(alloc, count as u32)?;
-    let code = prepare(alloc, handle.root(), &operands, 0, 0)?;
-    owned(alloc, code)
+    let operands = arguments(cache.alloc(), count as u32)?;
+    let root = handle.root_owner().map_err(|_| NoMemory)?;
+    prepare(cache, &root, &operands, 0, 0)
 }
 
 // The code of a guard over prepared parts.

@@ -9,20 +9,18 @@ use Rattle.mh_tree.specs.Laws.Effort.{effort, total_effort}
 use Rattle.mh_tree.specs.Laws.Trees.{tree_of_filter}
 use Rattle.mh_tree.proofs.preparing.+prepare.Goals as goal
 
-pub prepare-prepare_filters-requires : goal.prepare-prepare_filters-requires
-prepare-prepare_filters-requires t c =
+pub prepare_node-prepare_filters-requires : goal.prepare_node-prepare_filters-requires
+prepare_node-prepare_filters-requires t c =
     let e : tree_of c.args.node.now ≡ filter (tree_of c.in-Filter.target.value) c.in-Filter.position (filters_of (filter_trees c.in-Filter.filters.items)) =
     ap tree_of c.in-Filter.is ∙ tree_of_filter c.in-Filter.target c.in-Filter.position c.in-Filter.filters in
-    let f : filters_of (filter_trees c.deref-in-Filter-2.result.now) ≡ filters_of (filter_trees c.in-Filter.filters.items) =
-    ap (λ (fs : List (Option (Arc Node Global))). filters_of (filter_trees fs)) c.deref-in-Filter-2.ensures.value in
-    let g : tree_of c.deref-in-Filter.result.now ≡ tree_of c.in-Filter.target.value = ap tree_of c.deref-in-Filter.ensures in
-    (omega (arith, ap effort e, ap effort g, ap total_effort f), (omega (arith, ap size e, ap size g, ap total_size f, c.requires.few), omega (arith, ap size e, ap size g, ap total_size f, c.requires.low)))
+    let f : filters_of (filter_trees c.deref-in-Filter.result.now) ≡ filters_of (filter_trees c.in-Filter.filters.items) =
+    ap (λ (fs : List (Option (Arc Node Global))). filters_of (filter_trees fs)) c.deref-in-Filter.ensures.value in
+    (omega (arith, ap effort e, ap total_effort f), (omega (arith, ap size e, ap total_size f, c.requires.few), omega (arith, ap size e, ap total_size f, c.requires.low)))
 
-pub prepare-returns-in-Filter : goal.prepare-returns-in-Filter
-prepare-returns-in-Filter t c =
+pub prepare_node-returns-in-Filter : goal.prepare_node-returns-in-Filter
+prepare_node-returns-in-Filter t c =
     let e : tree_of c.args.node.now ≡ filter (tree_of c.in-Filter.target.value) c.in-Filter.position (filters_of (filter_trees c.in-Filter.filters.items)) =
     ap tree_of c.in-Filter.is ∙ tree_of_filter c.in-Filter.target c.in-Filter.position c.in-Filter.filters in
-    let f : filters_of (filter_trees c.deref-in-Filter-2.result.now) ≡ filters_of (filter_trees c.in-Filter.filters.items) =
-    ap (λ (fs : List (Option (Arc Node Global))). filters_of (filter_trees fs)) c.deref-in-Filter-2.ensures.value in
-    let g : tree_of c.deref-in-Filter.result.now ≡ tree_of c.in-Filter.target.value = ap tree_of c.deref-in-Filter.ensures in
-    record { value = rw e (rw (g, f) at c.prepare_filters.ensures.value) }
+    let f : filters_of (filter_trees c.deref-in-Filter.result.now) ≡ filters_of (filter_trees c.in-Filter.filters.items) =
+    ap (λ (fs : List (Option (Arc Node Global))). filters_of (filter_trees fs)) c.deref-in-Filter.ensures.value in
+    record { value = rw e (rw f at c.prepare_filters.ensures.value) }
