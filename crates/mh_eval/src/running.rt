@@ -14,7 +14,7 @@ ghost use Rattle.mh_tree.specs.Environment.{with_points};
 
 use crate::answer::{Answer, Pushed, outcome_of};
 use crate::operations::{operate, outcome_of_number, share};
-use crate::reading::read;
+use crate::reading::{is_key, read};
 use crate::walking::walk;
 use mh_base::NoMemory;
 use mh_tree::{Operand, Piece};
@@ -303,6 +303,19 @@ fn enter<'a>(
         } => {
             let used = before + u64::from(*steps);
             enter_branch(alloc, stack, valid, test, target, fallback, arguments, used)
+        }
+        Piece::Case {
+            test,
+            target,
+            fallback,
+            steps,
+        } => {
+            let next = if is_key(arguments, test) {
+                target
+            } else {
+                fallback
+            };
+            (Ok(next), before + u64::from(*steps) + u64::from(test.steps))
         }
         Piece::Point {
             point,

@@ -12,7 +12,7 @@ ghost use Rattle.mh_tree.specs.Limits.{most_nodes};
 ghost use Rattle.mh_tree.specs.Environment.{with_points};
 
 use crate::operations::truth;
-use crate::reading::read;
+use crate::reading::{is_key, read};
 use mh_tree::{Operand, Piece};
 use mh_type::{Op, Value};
 
@@ -36,8 +36,8 @@ fn compare(
     truth(*op, first, second)
 }
 
-// The piece behind points and behind branches whose test is one comparison of numbers, with the
-// steps so far.
+// The piece behind points, behind cases, and behind branches whose test is one comparison of
+// numbers, with the steps so far.
 #[inline(always)]
 pub(crate) fn walk<'a>(
     locals: &[Value],
@@ -97,6 +97,19 @@ pub(crate) fn walk<'a>(
                 };
                 total += u64::from(*steps) + u64::from(*more);
                 node = if holds { target } else { fallback };
+            }
+            Piece::Case {
+                test,
+                target,
+                fallback,
+                steps,
+            } => {
+                total += u64::from(*steps) + u64::from(test.steps);
+                node = if is_key(arguments, test) {
+                    target
+                } else {
+                    fallback
+                };
             }
             _ => return (node, total),
         }

@@ -56,7 +56,7 @@ impl Retargeting {
 }
 
 // A tree with its code.
-pub(crate) fn prepare(handle: &Handle) -> Result<Prepared, NoMemory>
+fn prepare(handle: &Handle) -> Result<Prepared, NoMemory>
     ensures value { IfOk result (λ p. p ≡ handle.now) }
 {
     Prepared::new(handle).map_err(|_| NoMemory)

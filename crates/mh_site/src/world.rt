@@ -6,11 +6,11 @@ ghost use Rattle.mh_site.specs.Worlds.{WorldState, opened, opening, after, repla
 ghost use Rattle.mh_site.specs.SiteStates.{site_state};
 ghost use Rattle.mh_site.specs.declared.control.Control.{Control};
 
-use crate::control::{Control, Installation, KeptLinks, Relinking, Retargeting, prepare};
+use crate::control::{Control, Installation, KeptLinks, Relinking, Retargeting};
 use crate::definition::Definition;
 use crate::site::Site;
 use mh_base::{Listing, NoMemory};
-use mh_tree::{Declared, Handle, Prepared};
+use mh_tree::{CodeCache, Declared, Handle, Prepared};
 use std::alloc::Global;
 use std::marker::Model;
 
@@ -60,7 +60,7 @@ impl Model for World {
 
 impl World {
     /// The world of a definition before any control: all points are valid, and each site runs its
-    /// target, whose code is made here. Refused where a growth was refused, or a further owner of a
+    /// target, whose code is made here, and shared where trees have the same parts. Refused where a growth was refused, or a further owner of a
     /// tree.
     pub fn open(alloc: Global, definition: &Definition) -> Result<World, NoMemory>
         ensures value { IfOk result (λ w. w ≡ opened definition.now) }
@@ -169,20 +169,23 @@ impl World {
 fn open_sites(alloc: Global, sites: &[Site]) -> Result<Vec<SiteWorld>, NoMemory>
     ensures value { IfOk result (λ v. map site_state v.items ≡ map opening sites.now) }
 {
+    let mut cache = CodeCache::new(alloc);
     let mut opened = Vec::new(alloc);
     for site in sites {
-        let entry = open_site(site)?;
+        let entry = open_site(&mut cache, site)?;
         opened.push(entry).map_err(|_| NoMemory)?;
     }
     Ok(opened)
 }
 
-fn open_site(site: &Site) -> Result<SiteWorld, NoMemory>
+// A site before any control. Sites share the code of parts that are the same.
+fn open_site(cache: &mut CodeCache, site: &Site) -> Result<SiteWorld, NoMemory>
     ensures value { IfOk result (λ x. site_state x ≡ opening site.now) }
 {
+    let target = &site.target;
     Ok(SiteWorld {
-        base: site.target.share().map_err(|_| NoMemory)?,
-        linked: prepare(site.target.handle())?,
+        base: target.share().map_err(|_| NoMemory)?,
+        linked: cache.prepare(target.handle()).map_err(|_| NoMemory)?,
         kept: KeptLinks::new(),
         version: 0,
     })

@@ -39,5 +39,5 @@ pub use handle::Handle;
 pub use limits::{DEEPEST, LARGEST};
 pub use node::Node;
 pub use operand::Operand;
-pub use piece::Piece;
+pub use piece::{KeyTest, Piece};
 pub use prepared::Prepared;

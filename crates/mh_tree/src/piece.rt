@@ -1,7 +1,10 @@
 //! The prepared form of a tree.
 
+ghost use Rattle.std.specs.Prelude.{◌≡◌, IfSome};
+ghost use Rattle.mh_tree.specs.CodeOf.{code_of, test_code};
+
 use crate::operand::Operand;
-use mh_type::Op;
+use mh_type::{Op, Value};
 use std::sync::Arc;
 
 /// A piece of prepared code. It owns its parts together with other pieces. Each counts the nodes of
@@ -33,6 +36,13 @@ pub enum Piece {
         fallback: Arc<Piece>,
         steps: u32,
     },
+    /// One of two pieces, by whether an int argument is one number.
+    Case {
+        test: KeyTest,
+        target: Arc<Piece>,
+        fallback: Arc<Piece>,
+        steps: u32,
+    },
     /// The target while the point is valid, and else the fallback.
     Point {
         point: u32,
@@ -40,4 +50,37 @@ pub enum Piece {
         fallback: Arc<Piece>,
         steps: u32,
     },
+}
+
+/// A test whether an int argument is one number, the test of most inline caches: the operation
+/// `ieq` on both, in a piece that has the test at hand.
+#[derive(Clone, Copy, Debug)]
+pub struct KeyTest {
+    /// The argument's place.
+    pub place: u32,
+    /// The number.
+    pub key: i32,
+    /// The steps of the operation.
+    pub steps: u32,
+}
+
+impl KeyTest {
+    // The test that a piece is, where it is one.
+    pub(crate) fn of(piece: &Piece) -> Option<KeyTest>
+        ensures value { IfSome result (λ t. code_of piece.now ≡ test_code t) }
+    {
+        match piece {
+            Piece::Apply {
+                op: Op::Ieq,
+                first: Operand::Argument(place),
+                second: Operand::Constant(Value::Int(key)),
+                steps,
+            } => Some(KeyTest {
+                place: *place,
+                key: *key,
+                steps: *steps,
+            }),
+            _ => None,
+        }
+    }
 }

@@ -2,7 +2,7 @@
 
 ghost use Rattle.std.specs.Prelude.{◌≡◌, Ok, IfOk, IfErr};
 ghost use Rattle.std.specs.Arc.{arc_value};
-ghost use Rattle.mh_tree.specs.Code.{branch, switch};
+ghost use Rattle.mh_tree.specs.Code.{branch as branch_code, switch};
 ghost use Rattle.mh_tree.specs.CodeOf.{code_of};
 ghost use Rattle.mh_tree.specs.Constructors.{Refuses, guard_made, point_made};
 ghost use Rattle.mh_tree.specs.Handle.{IsSound};
@@ -13,7 +13,7 @@ use crate::fault::TreeFault;
 use crate::handle::Handle;
 use crate::operands::arguments;
 use crate::piece::Piece;
-use crate::preparing::prepare;
+use crate::preparing::{branch, prepare};
 use mh_base::NoMemory;
 use std::alloc::Global;
 use std::fmt;
@@ -162,17 +162,14 @@ fn guard_code(
     target: &Prepared,
     fallback: &Prepared,
 ) -> Result<Arc<Piece>, TreeFault>
-    ensures value { IfOk result (λ a. code_of (arc_value a) ≡ branch 1 (handle_code test.now)
+    ensures value { IfOk result (λ a. code_of (arc_value a) ≡ branch_code 1 (handle_code test.now)
         (handle_code target.now) (handle_code fallback.now)) }
     ensures refused { IfErr result (λ e. e ≡ TreeFault.NoMemory) }
 {
-    let code = Piece::Branch {
-        test: test.code_owner()?,
-        target: target.code_owner()?,
-        fallback: fallback.code_owner()?,
-        steps: 1,
-    };
-    Arc::new(alloc, code).map_err(|_| TreeFault::NoMemory)
+    let test = test.code_owner()?;
+    let target = target.code_owner()?;
+    let fallback = fallback.code_owner()?;
+    branch(alloc, test, target, fallback, 1).map_err(|_| TreeFault::NoMemory)
 }
 
 // The code of a point over prepared parts.

@@ -15,7 +15,7 @@ use crate::code_cache::CodeCache;
 use crate::node::Node;
 use crate::operand::Operand;
 use crate::operands::{at, local_first, parts, put_in, reordered, taken_out, with_local};
-use crate::piece::Piece;
+use crate::piece::{KeyTest, Piece};
 use mh_base::NoMemory;
 use mh_type::{Op, Value};
 use std::alloc::Global;
@@ -273,13 +273,7 @@ fn prepare_guard(
     let test = prepare(cache, test, operands, depth, 0)?;
     let target = prepare(cache, target, operands, depth, 0)?;
     let fallback = prepare(cache, fallback, operands, depth, 0)?;
-    let piece = Piece::Branch {
-        test,
-        target,
-        fallback,
-        steps,
-    };
-    owned(cache.alloc(), piece)
+    branch(cache.alloc(), test, target, fallback, steps)
 }
 
 // The branches of a point.
@@ -321,6 +315,34 @@ fn bind(
         (code_of (arc_value first)) (code_of (arc_value then))) }
 {
     owned(alloc, Piece::Bind { first, then, steps })
+}
+
+// One of two pieces, by a test.
+pub(crate) fn branch(
+    alloc: Global,
+    test: Arc<Piece>,
+    target: Arc<Piece>,
+    fallback: Arc<Piece>,
+    steps: u32,
+) -> Result<Arc<Piece>, NoMemory>
+    ensures value { IfOk result (λ c. code_of (arc_value c) ≡ branch_code steps
+        (code_of (arc_value test)) (code_of (arc_value target)) (code_of (arc_value fallback))) }
+{
+    let piece = match KeyTest::of(&test) {
+        Some(test) => Piece::Case {
+            test,
+            target,
+            fallback,
+            steps,
+        },
+        None => Piece::Branch {
+            test,
+            target,
+            fallback,
+            steps,
+        },
+    };
+    owned(alloc, piece)
 }
 
 // A piece in an owner.

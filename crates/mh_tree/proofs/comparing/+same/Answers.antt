@@ -27,12 +27,12 @@ same_composed-returns-then-same_filters t c =
           let trees : tree_of x.target.value ≡ tree_of x.inner.value =
           sym (ap tree_of c.deref-then-same_filters.ensures) ∙ (c.same_tree.ensures.same held ∙ ap tree_of c.deref-then-same_filters-2.ensures) in
           elim c.if-position-place.branch [
-          | same_composed-then-position-place w ↦
-            let fs = w.same_filters.ensures.same (sym w.value-is ∙ c.if-same_filters.true) in
-            let lists : filter_trees x.filters.items ≡ filter_trees x.others.items =
-            sym (ap filter_trees w.deref.ensures.value) ∙ (fs ∙ ap filter_trees w.deref-then-position-place.ensures.value) in
-            one ∙ (λ i. filter (trees i) (w.if-position-place.true i) (filters_of (lists i))) ∙ sym other
-          | same_composed-else-position-place w ↦ let h : (x.position == x.place) ≡ true = sym w.value-is ∙ c.if-same_filters.true in
-            absurd (w.if-position-place.false (grind (arith, nat_tests)))
+            | same_composed-then-position-place w ↦
+                let fs = w.same_filters.ensures.same (sym w.value-is ∙ c.if-same_filters.true) in
+                let lists : filter_trees x.filters.items ≡ filter_trees x.others.items =
+                sym (ap filter_trees w.deref.ensures.value) ∙ (fs ∙ ap filter_trees w.deref-then-position-place.ensures.value) in
+                one ∙ (λ i. filter (trees i) (w.if-position-place.true i) (filters_of (lists i))) ∙ sym other
+            | same_composed-else-position-place w ↦ let h : (x.position == x.place) ≡ true = sym w.value-is ∙ c.if-same_filters.true in
+                absurd (w.if-position-place.false (grind (arith, nat_tests)))
           ];
     }
