@@ -6,7 +6,7 @@ use crate::made::Made;
 use crate::signals::Signals;
 use crate::work_fault::WorkFault;
 use crate::worked::Worked;
-use mh_live::{Answer, Live, Name, Outcome, Pass, Value};
+use mh_live::{Answer, Live, Name, Outcome, Pass, Value, cross_threads};
 use std::alloc::AllocError;
 use std::sync::Wait;
 use std::thread;
@@ -29,6 +29,7 @@ pub(crate) fn call_all<N: Name + Send + Sync, T: Clock + Threads + Wait + Sync>(
     passes: Vec<Pass<N>>,
     signals: &Signals,
 ) -> Result<Vec<Worked<N>>, AllocError> {
+    cross_threads::<N>();
     let work = |pass: Pass<N>| -> Worked<N> { call_in_rounds(rt, live, pass, signals) };
     thread::map_vec(rt, passes, &work)
 }

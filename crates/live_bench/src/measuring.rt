@@ -10,7 +10,7 @@ use crate::retargeting::{Retargetings, retarget_beside};
 use crate::signals::Signals;
 use crate::subject::{define, tree, widest};
 use anyhow::Context;
-use mh_live::{Declared, Live, Name, Opening};
+use mh_live::{Declared, Live, Name, Opening, cross_threads};
 use std::alloc::Global;
 use std::marker::Brand;
 use std::sync::Wait;
@@ -78,6 +78,7 @@ fn measure_opened<N: Name + Send + Sync, T: Clock + Threads + Wait + Sync>(
     requires definition { opening.definition ≡ N.definition }
     requires few { request.workers ≤ 64 }
 {
+    cross_threads::<N>();
     let (live, passes) = opening.open::<N>()?;
     let signals = Signals::new(request.workers);
     let (worked, retargeted) = thread::join(

@@ -4,7 +4,6 @@ mod Entered
 mod Fresh
 mod Opened
 mod Prefixes
-pub mod PublicLaws
 mod Receiving
 mod Replays
 mod RollCalls

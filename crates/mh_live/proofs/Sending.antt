@@ -46,7 +46,7 @@ use Rattle.mh_live.specs.contracts.published.Step as Step
 use Rattle.mh_live.specs.declared.front.Name.{Ghosts}
 
 -- what trees and their code are made of
-pub ruleset leaves = (
+ruleset leaves = (
   global.the_field_send,
   global.the_field_sync,
   kind.the_field_send,
@@ -93,7 +93,7 @@ ruleset declarations = (
 )
 
 -- what is made of parts that may cross threads
-pub ruleset plain = (seen.the_send, seen.the_sync, crossing.crosses, nodes.crosses, pieces.crosses, sendable)
+ruleset plain = (seen.the_send, seen.the_sync, crossing.crosses, nodes.crosses, pieces.crosses, sendable)
 
 declared_send : IsSend Declared.the_row
 declared_send = search leaves depth 60 fits 20000

@@ -28,6 +28,7 @@
 mod call_fault;
 mod flush_fault;
 mod front;
+mod laws;
 mod live;
 mod office;
 mod open_fault;
@@ -44,6 +45,7 @@ mod settled;
 pub use call_fault::CallFault;
 pub use flush_fault::FlushFault;
 pub use front::{Front, Name};
+pub use laws::cross_threads;
 pub use live::Live;
 pub use mh_core;
 pub use mh_core::{

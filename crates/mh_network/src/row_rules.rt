@@ -24,7 +24,7 @@ pub const MOST_NEEDS: usize = 8;
 pub const GREATEST_SUM: u64 = 1 << 62;
 
 // All tests, in order.
-#[tactic(auto, using(crate::proofs::Kept::kept_gains, crate::proofs::Kept::kept_costs))]
+#[tactic(auto, using(crate::specs::Laws::Kept::kept_gains, crate::specs::Laws::Kept::kept_costs))]
 pub(crate) fn test(rows: &[LinkRow], costs: &[u64]) -> Result<(), ProblemFault>
     ensures value { MatchResult result (λ _. Passes (problem_tests rows.now costs.now))
         (λ e. Refuses (problem_tests rows.now costs.now) e) }

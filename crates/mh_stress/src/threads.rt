@@ -6,7 +6,7 @@ ghost use Rattle.mh_stress.specs.Rounds.{HasWorked, HaveWorked};
 use crate::changes::make_changes;
 use crate::division::{Call, Division};
 use crate::rounds::make_rounds;
-use mh_live::{Live, Name, Pass};
+use mh_live::{Live, Name, Pass, cross_threads};
 use std::alloc::{AllocError, Global};
 use std::sync::Wait;
 use std::thread;
@@ -24,6 +24,7 @@ fn work<N: Name + Send + Sync, T: Threads + Wait + Sync>(
     ensures worked { IfOk result (λ after. HaveWorked N.definition calls.now rounds passes.items
         after.items) }
 {
+    cross_threads::<N>();
     let share = |pass: Pass<N>| -> Pass<N>
         ensures { HasWorked N.definition calls.entry.now rounds pass result }
     { make_rounds(rt, live, pass, calls, rounds) };
@@ -46,6 +47,7 @@ pub(crate) fn work_beside<N: Name + Send + Sync, T: Threads + Wait + Sync>(
     ensures worked { IfSome result
         (λ after. HaveWorked N.definition division.calls.items rounds passes.items after.items) }
 {
+    cross_threads::<N>();
     let Division { calls, changes } = division;
     let calls = calls.as_slice();
     let (after, _) = thread::join(

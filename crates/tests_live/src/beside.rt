@@ -4,7 +4,7 @@ ghost use Rattle.std.specs.Prelude.{◌≡◌};
 
 use crate::calling::{CallAnswer, call, given, sums};
 use crate::definitions::{negation, open_plain, successor};
-use mh_live::{Declared, Live, Name, Opening, Pass};
+use mh_live::{Declared, Live, Name, Opening, Pass, cross_threads};
 use std::alloc::Global;
 use std::marker::Brand;
 use std::sync::Wait;
@@ -86,6 +86,7 @@ fn call_in_threads<N: Name + Send + Sync, R: Threads + Sync>(
     calls: u64,
     made: &AtomicU64,
 ) -> Option<Vec<Pass<N>>> {
+    cross_threads::<N>();
     let work = |pass: Pass<N>| -> Called<N> { call_many(pass, calls, made) };
     take_back(alloc, map_vec(rt, passes, &work).ok()?)
 }
@@ -134,6 +135,7 @@ fn call_beside<N: Name + Send + Sync, R: Wait + Threads + Sync>(
     calls: u64,
     retargetings: u64,
 ) -> Result<Vec<Pass<N>>, Fail> {
+    cross_threads::<N>();
     let made = AtomicU64::new(0);
     let (called, changed) = join(
         rt,

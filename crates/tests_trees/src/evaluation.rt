@@ -2,7 +2,7 @@
 
 use crate::examples::{Given, example, int, op, prepared_example, ran, thrown, walked};
 use mh_eval::{Stack, fits};
-use mh_tree::{Handle, Prepared};
+use mh_tree::{CodeCache, Handle, Prepared};
 use mh_type::{MethodType, Op, Text, Throw, Value};
 use std::alloc::Global;
 use std::test::Fail;
@@ -66,6 +66,46 @@ fn the_prepared_example_site_runs(rt: HostRuntime) -> Result<(), Fail> {
     assert_eq!(rt; whole, wanted());
     assert_eq!(rt; of_parts, wanted());
     Ok(())
+}
+
+/// What the example gives that was prepared by a cache, and the same that has its code from there.
+fn both_cached_give(alloc: Global) -> Result<([Given; 5], [Given; 5]), Fail> {
+    let mut cache = CodeCache::new(alloc);
+    let first = prepared_gives(alloc, &cache.prepare(&example(alloc)?)?)?;
+    Ok((first, prepared_gives(alloc, &cache.prepare(&example(alloc)?)?)?))
+}
+
+#[test]
+fn code_of_a_cache_is_that_of_the_tree(rt: HostRuntime) -> Result<(), Fail> {
+    let (first, second) = both_cached_give(rt.alloc())?;
+    assert_eq!(rt; first, wanted());
+    assert_eq!(rt; second, wanted());
+    Ok(())
+}
+
+/// Whether more trees than a cache keeps give sums with 1 each.
+fn many_are_cached(alloc: Global) -> Result<bool, Fail> {
+    let mut cache = CodeCache::new(alloc);
+    let mut stack = Stack::new(alloc)?;
+    let mut right = true;
+    for number in 0..40 {
+        let sum = sum_with(alloc, number)?;
+        let given = ran(&mut stack, &[], &cache.prepare(&sum)?, 1)?;
+        right = right && given == int(number + 1, 2);
+    }
+    Ok(right)
+}
+
+#[test]
+fn a_full_cache_goes_on(rt: HostRuntime) -> Result<(), Fail> {
+    assert!(rt; many_are_cached(rt.alloc())?);
+    Ok(())
+}
+
+/// The sum of the argument and a number.
+fn sum_with(alloc: Global, number: i32) -> Result<Handle, Fail> {
+    let add = op(alloc, Op::Iadd)?;
+    Ok(Handle::insert(alloc, &add, 1, &[Value::Int(number)])?)
 }
 
 /// A sum of an int and its negation.

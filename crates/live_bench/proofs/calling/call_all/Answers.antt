@@ -1,21 +1,20 @@
 use denote.Exit.{no}
 use denote.Param.{param}
 use denote.Param.Send.{param_send, param_sync, arg_send, sendable}
-use Rattle.mh_live.proofs.PublicLaws.{live_sync, pass_send}
 use Rattle.live_bench.proofs.Sending.{signals_sync, worked_send}
 use Rattle.live_bench.proofs.calling.call_all.Goals as goal
 
 pub map_vec-requires-send-J : goal.map_vec-requires-send-J
 map_vec-requires-send-J g c κs within =
-    param_send 1 _ (arg_send _ no _ (pass_send (param 0 g.row.N) g.N.Name (param_send 0 _ c.type_bounds.send-N) (param_sync 0 _ c.type_bounds.sync-N)))
+    param_send 1 _ (arg_send _ no _ c.cross_threads.ensures.pass)
 
 pub map_vec-requires-send-X : goal.map_vec-requires-send-X
 map_vec-requires-send-X g c κs within =
-    param_send 2 _ (arg_send _ no _ (worked_send (param 0 g.row.N) g.N.Name (param_send 0 _ c.type_bounds.send-N) (param_sync 0 _ c.type_bounds.sync-N)))
+    param_send 2 _ (arg_send _ no _ (worked_send (param 0 g.row.N) g.N.Name c.cross_threads.ensures.pass))
 
 pub map_vec-requires-sync-F : goal.map_vec-requires-sync-F
 map_vec-requires-sync-F g c κs within =
-    let l = live_sync (param 0 g.row.N) g.N.Name (param_send 0 _ c.type_bounds.send-N) (param_sync 0 _ c.type_bounds.sync-N) in
+    let l = c.cross_threads.ensures.live in
     let a = signals_sync in
     let t = c.type_bounds.sync-T in
     search sendable depth 60 fits 20000

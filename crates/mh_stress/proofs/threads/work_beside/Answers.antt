@@ -4,7 +4,6 @@ use Rattle.std.proofs.Crossing as crossing
 use Rattle.std.proofs.alloc.Global.TheSendSync as global
 use Rattle.std.proofs.option.Option.TheSendSync as option
 use Rattle.std.proofs.vec.Vec.TheSendSync as vec
-use Rattle.mh_live.proofs.PublicLaws.{live_sync, pass_send}
 use Rattle.mh_stress.proofs.Sending.{call_sync}
 use Rattle.mh_stress.proofs.threads.work_beside.Goals as goal
 
@@ -12,13 +11,13 @@ ruleset lists = (vec.the_send, global.the_send, global.the_sync, global.the_fiel
 
 pub join-after-requires-send-F : goal.join-after-requires-send-F
 join-after-requires-send-F g c κs within =
-    let p = pass_send (param 0 g.row.N) g.N.Name (param_send 0 _ c.type_bounds.send-N) (param_sync 0 _ c.type_bounds.sync-N) in
-    let l = live_sync (param 0 g.row.N) g.N.Name (param_send 0 _ c.type_bounds.send-N) (param_sync 0 _ c.type_bounds.sync-N) in
+    let p = c.cross_threads.ensures.pass in
+    let l = c.cross_threads.ensures.live in
     let a = call_sync in
     let t = c.type_bounds.sync-T in
     search lists depth 60 fits 20000
 
 pub join-after-requires-send-A : goal.join-after-requires-send-A
 join-after-requires-send-A g c κs within =
-    let p = pass_send (param 0 g.row.N) g.N.Name (param_send 0 _ c.type_bounds.send-N) (param_sync 0 _ c.type_bounds.sync-N) in
+    let p = c.cross_threads.ensures.pass in
     search lists depth 60 fits 20000
