@@ -48,7 +48,8 @@ pub(crate) fn eval_once(
     eval(stack, valid, handle, arguments)
 }
 
-/// So many calls of a prepared handle.
+/// So many calls of a prepared handle. The loop stands alone, so that its sums stay in registers.
+#[inline(never)]
 pub(crate) fn run_rounds(
     stack: &mut Stack,
     valid: &[bool],
@@ -72,6 +73,7 @@ pub(crate) fn run_rounds(
 }
 
 /// So many calls of a plain handle.
+#[inline(never)]
 pub(crate) fn eval_rounds(
     stack: &mut Stack,
     valid: &[bool],
