@@ -1,3 +1,4 @@
 pub mod Display
+pub mod Listed
 pub mod Tests
 pub mod Words

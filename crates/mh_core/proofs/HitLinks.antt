@@ -2,14 +2,13 @@
 use Rattle.std.proofs.Common.{◌≡◌, inl, inr, ℕ, zero, suc, ◌+◌, ◌-◌, ◌<◌, ◌≤◌, ◌==◌, ◌&&◌, Bool, true, false, Some, None, List, [], ◌∷◌, length, slice_index_or, cond, nat_lt, refl, ap, sym, subst, ◌∙◌, arith}
 use Rattle.std.specs.List.{list_any, position, position_or_len}
 use Rattle.std.proofs.lemmas.Bool.{cases_lt}
-use Rattle.std.proofs.lemmas.Bool.Decides.{Decides-eqb, Decides-ltb, Decides-int_eq}
+use Rattle.std.proofs.lemmas.Bool.Decides.{Decides-eqb, Decides-ltb}
 use Rattle.std.proofs.lemmas.List.{get_or_past, length-map}
 use Rattle.std.proofs.lemmas.List.Quantifiers.{position-Some}
 use Rattle.std.proofs.lemmas.List.Sums.{fails_before_first}
 use Rattle.std.proofs.lemmas.Option.{none-some}
-use Rattle.std.proofs.lemmas.Slice.Eq.{bytes_eq-Decides}
 use Rattle.mh_type.specs.declared.value.Value.{Value}
-use Rattle.mh_type.specs.declared.value.Value.TheVariants.{Int, Long, Boolean, Text}
+use Rattle.mh_type.specs.declared.value.Value.TheVariants.{Boolean}
 use Rattle.mh_type.specs.Fits.{Fits}
 use Rattle.mh_type.specs.Kinds.{kind_of}
 use Rattle.mh_site.specs.declared.link.Link.{Link}
@@ -17,30 +16,10 @@ use Rattle.mh_site.specs.Defined.{DefinitionData, link_of, no_link, no_site, sit
 use Rattle.mh_site.specs.Definitions.{all_differ, same_key}
 use Rattle.mh_site.specs.Lawful.{IsDefinition}
 use Rattle.mh_site.specs.Links.{first_link, link_at, links, site_of}
-use Rattle.mh_type.specs.Values.{same_truth, same_value}
+use Rattle.mh_type.specs.Laws.{values_decide}
+use Rattle.mh_type.specs.Values.{same_value}
 use Rattle.mh_site.specs.Laws.{home, numbered, left_true, right_true, left_false, right_false, not_true}
 use Rattle.mh_core.specs.Hits.{argument_at, hits}
-
--- values that are the same are equal
-same_truths : (b c : Bool) → same_truth b c ≡ true → b ≡ c
-same_truths true true h = refl
-same_truths true false h = cc
-same_truths false true h = cc
-same_truths false false h = refl
-
-same_equal : (x y : Value) → same_value x y ≡ true → x ≡ y
-same_equal (Int m) (Int n) h = ap Int ((Decides-int_eq m n).0 h)
-same_equal (Long m) (Long n) h = ap Long ((Decides-int_eq m n).0 h)
-same_equal (Boolean b) (Boolean c) h = ap Boolean (same_truths b c h)
-same_equal (Text s) (Text t) h = ap Text ((bytes_eq-Decides s t).0 h)
-same_equal _ _ h = cc
-
-same_self : (x : Value) → same_value x x ≡ true
-same_self (Int m) = (Decides-int_eq m m).1 refl
-same_self (Long m) = (Decides-int_eq m m).1 refl
-same_self (Boolean true) = refl
-same_self (Boolean false) = refl
-same_self (Text s) = (bytes_eq-Decides s s).1 refl
 
 none_is : {X : Type 0} (p : X → Bool) (xs : List X) → list_any p xs ≡ false → (k : ℕ) (d : X) → k < length xs → p (slice_index_or xs k d) ≡ false
 none_is p [] h k d lt = absurd (omega arith)
@@ -55,8 +34,8 @@ Asks ls v k = same_value (slice_index_or ls k no_link).when v ≡ true
 first_differs : (l : Link) (ls : List Link) (v : Value) (k : ℕ) → all_differ same_key (l ∷ ls) ≡ true → k < length ls → same_value l.when v ≡ true → Asks ls v k → ⊥
 first_differs l ls v k h lt one other =
     let none = none_is (same_key l) ls (not_true (list_any (same_key l) ls) (left_true _ (all_differ same_key ls) h)) k no_link lt in
-    let e : l.when ≡ (slice_index_or ls k no_link).when = same_equal l.when v one ∙ sym (same_equal _ v other) in
-    let same : same_key l (slice_index_or ls k no_link) ≡ true = ap (same_value l.when) (sym e) ∙ same_self l.when in
+    let e : l.when ≡ (slice_index_or ls k no_link).when = (values_decide l.when v).0 one ∙ sym ((values_decide _ v).0 other) in
+    let same : same_key l (slice_index_or ls k no_link) ≡ true = (values_decide l.when _).1 e in
     cc
 
 -- keys that differ are asked for at one place at most

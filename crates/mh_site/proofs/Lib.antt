@@ -1,4 +1,6 @@
 mod Lawful
+mod Listed
 mod Mapped
 mod Naming
+mod Rules
 mod Sorting

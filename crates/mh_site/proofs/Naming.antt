@@ -1,19 +1,16 @@
--- No two names are the same where each is told from those before it.
-use Rattle.std.proofs.Common.{◌≡◌, ◌≢◌, ℕ, zero, suc, ◌<◌, false, List, [], ◌∷◌, ◌++◌, length, map, slice_index_or, sym, subst, ◌∙◌, arith, true≢false}
-use Rattle.std.specs.List.{list_any}
-use Rattle.std.specs.Str.{bytes_eq}
-use Rattle.std.proofs.lemmas.List.{map-append}
-use Rattle.std.proofs.lemmas.List.Quantifiers.{all_pairs_push}
-use Rattle.std.proofs.lemmas.Slice.Eq.{bytes_eq-Decides}
+-- No two names are the same where each is another than those before it.
+use Rattle.std.proofs.Common.{◌≡◌, ◌≢◌, ℕ, ◌<◌, List, length, map, take, slice_index_or, ap, sym, ◌∙◌, arith}
+use Rattle.std.specs.List.{All}
+use Rattle.std.proofs.lemmas.List.{length-map, length-take-le, get_or-take, get_or-map}
 use Rattle.mh_site.specs.Lawful.{AreDistinct}
-use Rattle.mh_site.specs.Laws.Tests.{left_false, right_false}
 
 module _ {X : Type 0} (name : X → List ℕ) where
-  -- a name that none has stands at no place
-  unnamed : (n : List ℕ) (xs : List X) → list_any (λ x. bytes_eq n (name x)) xs ≡ false → (k : ℕ) (d : List ℕ) → k < length (map name xs) → slice_index_or (map name xs) k d ≢ n
-  unnamed n [] h k d lt = absurd (omega arith)
-  unnamed n (x ∷ xs) h zero d lt = λ same. true≢false (sym ((bytes_eq-Decides n (name x)).1 (sym same)) ∙ left_false (bytes_eq n (name x)) (list_any (λ y. bytes_eq n (name y)) xs) h)
-  unnamed n (x ∷ xs) h (suc k) d lt = unnamed n xs (right_false (bytes_eq n (name x)) (list_any (λ y. bytes_eq n (name y)) xs) h) k d (omega arith)
-
-  pub distinct_with : (xs : List X) (x : X) → AreDistinct (map name xs) → list_any (λ y. bytes_eq (name x) (name y)) xs ≡ false → AreDistinct (map name (xs ++ x ∷ []))
-  distinct_with xs x apart new = subst AreDistinct (sym (map-append name xs (x ∷ []))) (all_pairs_push (λ n m. n ≢ m) (map name xs) (name x) apart (unnamed (name x) xs new))
+  pub distinct : (xs : List X) (e : X) → ((j : ℕ) → j < length xs → All (λ x. name (slice_index_or xs j e) ≢ name x) (take j xs))
+      → AreDistinct (map name xs)
+  distinct xs e new i j d lt within =
+      let inside : j < length xs = omega (arith, length-map xs name) in
+      let before : i < length (take j xs) = omega (arith, length-take-le j xs (omega arith)) in
+      let first : slice_index_or (map name xs) i d ≡ name (slice_index_or (take j xs) i e) =
+      get_or-map name xs i e d (omega arith) ∙ ap name (sym (get_or-take j xs i e lt)) in
+      let second : slice_index_or (map name xs) j d ≡ name (slice_index_or xs j e) = get_or-map name xs j e d inside in
+      λ same. new j inside i e before (sym second ∙ (sym same ∙ first))

@@ -1,6 +1,6 @@
--- Which points and sites make a definition, and what else is told.
-use Rattle.std.specs.Prelude.{ℕ, ◌==◌, Bool, true, false, not, ◌&&◌, List, [], ◌∷◌, ◌++◌, length, map, nat_le, nat_lt, Option, Some, None, Result, Ok, Err}
-use Rattle.std.specs.List.{list_any, list_all}
+-- What points and sites make, and what else is told: the rules (`Rules`) as tests that are decided.
+use Rattle.std.specs.Prelude.{ℕ, ◌==◌, Bool, true, false, not, ◌&&◌, List, [], ◌∷◌, ◌++◌, length, map, take, slice_index_or, nat_le, nat_lt, Option, Some, None, Result, Ok, Err}
+use Rattle.std.specs.List.{list_any, list_all, flat_map, range_with_len}
 use Rattle.std.specs.Str.{bytes_eq}
 use Rattle.mh_type.specs.Kinds.{kind_of, kind_eq}
 use Rattle.mh_type.specs.Signature.{signature_eq}
@@ -11,7 +11,8 @@ use Rattle.mh_site.specs.declared.link.Link.{Link}
 use Rattle.mh_site.specs.declared.site.Site.{Site}
 use Rattle.mh_site.specs.declared.fault.DefinitionFault.{DefinitionFault}
 use Rattle.mh_site.specs.declared.fault.DefinitionFault.TheVariants.{NoMemory, TooManyPoints, TooManySites, TooManyLinks, TooManyNeeds, BadName, NameTwice, CostTooLarge, WeightTooLarge, BadKeyPlace, KeyMismatch, KeyTwice, NoPoint, NeedTwice, TypeMismatch}
-use Rattle.mh_site.specs.Defined.{DefinitionData}
+use Rattle.mh_base.specs.Listed.{Decided, first_failing}
+use Rattle.mh_site.specs.Defined.{DefinitionData, no_point, no_site}
 use Rattle.mh_site.specs.Ascending.{ascending}
 use Rattle.mh_site.specs.Names.{is_name}
 use Rattle.mh_type.specs.Values.{same_value}
@@ -39,16 +40,6 @@ abbrev pub all_differ : {X : Type 0} → (X → X → Bool) → List X → Bool
 all_differ same [] = true
 all_differ same (x ∷ xs) = not (list_any (same x) xs) && all_differ same xs
 
--- a test, the fault that is told where it fails, and the tests that come after
-abbrev pub check : Bool → DefinitionFault → Option DefinitionFault → Option DefinitionFault
-check true fault later = later
-check false fault later = Some fault
-
--- the first fault of two
-abbrev pub first_of_both : Option DefinitionFault → Option DefinitionFault → Option DefinitionFault
-first_of_both (Some fault) later = Some fault
-first_of_both None later = later
-
 abbrev pub names_point : List ℕ → Point → Bool
 names_point name p = bytes_eq name p.name
 
@@ -56,15 +47,16 @@ abbrev pub names_site : List ℕ → Site → Bool
 names_site name s = bytes_eq name s.name
 
 -- of a point behind earlier ones
-abbrev pub point_fault : List Point → Point → Option DefinitionFault
-point_fault earlier p =
-    check (is_name p.name) BadName
-    (check (not (list_any (names_point p.name) earlier)) NameTwice
-    (check (nat_le p.cost greatest_cost) CostTooLarge None))
+abbrev pub point_tests : List Point → Point → Decided DefinitionFault
+point_tests earlier p =
+    (is_name p.name, BadName)
+    ∷ (not (list_any (names_point p.name) earlier), NameTwice)
+    ∷ (nat_le p.cost greatest_cost, CostTooLarge)
+    ∷ []
 
-abbrev pub points_fault : List Point → List Point → Option DefinitionFault
-points_fault earlier [] = None
-points_fault earlier (p ∷ ps) = first_of_both (point_fault earlier p) (points_fault (earlier ++ p ∷ []) ps)
+-- of the point with this number, behind those before it
+abbrev pub tests_at_point : List Point → ℕ → Decided DefinitionFault
+tests_at_point points i = point_tests (take i points) (slice_index_or points i no_point)
 
 -- at most eight needs
 abbrev pub needs_few : Link → Bool
@@ -97,30 +89,41 @@ abbrev pub needs_differ : Link → Bool
 needs_differ l = all_differ (λ p q. p == q) l.needs
 
 -- of a site behind earlier ones, beside so many points
-abbrev pub site_fault : ℕ → List Site → Site → Option DefinitionFault
-site_fault points earlier s =
-    check (nat_le (length s.links) most_links) TooManyLinks
-    (check (list_all needs_few s.links) TooManyNeeds
-    (check (is_name s.name) BadName
-    (check (not (list_any (names_site s.name) earlier)) NameTwice
-    (check (list_all weighs_little s.links) WeightTooLarge
-    (check (has_place s) BadKeyPlace
-    (check (list_all (fits_place s) s.links) KeyMismatch
-    (check (all_differ same_key s.links) KeyTwice
-    (check (list_all (needs_known points) s.links && nat_le (point_bound s.target.tree) points) NoPoint
-    (check (list_all needs_differ s.links) NeedTwice
-    (check (signature_eq s.target.signature s.method_type) TypeMismatch None))))))))))
+abbrev pub site_tests : ℕ → List Site → Site → Decided DefinitionFault
+site_tests points earlier s =
+    (nat_le (length s.links) most_links, TooManyLinks)
+    ∷ (list_all needs_few s.links, TooManyNeeds)
+    ∷ (is_name s.name, BadName)
+    ∷ (not (list_any (names_site s.name) earlier), NameTwice)
+    ∷ (list_all weighs_little s.links, WeightTooLarge)
+    ∷ (has_place s, BadKeyPlace)
+    ∷ (list_all (fits_place s) s.links, KeyMismatch)
+    ∷ (all_differ same_key s.links, KeyTwice)
+    ∷ (list_all (needs_known points) s.links && nat_le (point_bound s.target.tree) points, NoPoint)
+    ∷ (list_all needs_differ s.links, NeedTwice)
+    ∷ (signature_eq s.target.signature s.method_type, TypeMismatch)
+    ∷ []
 
-abbrev pub sites_fault : ℕ → List Site → List Site → Option DefinitionFault
-sites_fault points earlier [] = None
-sites_fault points earlier (s ∷ ss) = first_of_both (site_fault points earlier s) (sites_fault points (earlier ++ s ∷ []) ss)
+-- of the site with this number, behind those before it
+abbrev pub tests_at_site : ℕ → List Site → ℕ → Decided DefinitionFault
+tests_at_site points sites i = site_tests points (take i sites) (slice_index_or sites i no_site)
 
--- The first test that fails: the two numbers, the points in order, the sites in order.
+-- of all points, and of all sites, by number
+abbrev pub tests_of_points : List Point → Decided DefinitionFault
+tests_of_points points = flat_map (tests_at_point points) (range_with_len 0 (length points))
+
+abbrev pub tests_of_sites : ℕ → List Site → Decided DefinitionFault
+tests_of_sites points sites = flat_map (tests_at_site points sites) (range_with_len 0 (length sites))
+
+-- the two numbers, the points in order, the sites in order
+abbrev pub definition_tests : List Point → List Site → Decided DefinitionFault
+definition_tests points sites =
+    (nat_le (length points) most_points, TooManyPoints)
+    ∷ (nat_le (length sites) most_sites, TooManySites)
+    ∷ tests_of_points points ++ tests_of_sites (length points) sites
+
 abbrev pub definition_fault : List Point → List Site → Option DefinitionFault
-definition_fault points sites =
-    check (nat_le (length points) most_points) TooManyPoints
-    (check (nat_le (length sites) most_sites) TooManySites
-    (first_of_both (points_fault [] points) (sites_fault (length points) [] sites)))
+definition_fault points sites = first_failing (definition_tests points sites)
 
 -- a link and a site with their needs in ascending order, and all else as it was
 abbrev pub link_in_order : Link → Link

@@ -9,5 +9,6 @@ pub mod Limits
 pub mod Links
 pub mod LookBack
 pub mod Names
+pub mod Rules
 pub mod SiteStates
 pub mod Worlds

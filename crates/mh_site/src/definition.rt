@@ -3,7 +3,9 @@
 ghost use Rattle.std.specs.Prelude.{◌≡◌, ◌<◌, ◌≤◌, ◌+◌, ◌⊎◌, ℕ, Ok, Err, Some, None, length, IfOk, IfErr, MatchResult};
 ghost use Rattle.std.specs.Arc.{arc_value};
 ghost use Rattle.mh_site.specs.Defined.{point_at, site_at, link_of};
+ghost use Rattle.mh_base.specs.Tests.{Passes, Refuses};
 ghost use Rattle.mh_site.specs.Definitions.{definition_made, definition_fault};
+ghost use Rattle.mh_site.specs.Rules.{definition_rules};
 ghost use Rattle.mh_site.specs.Lawful.{IsDefinition};
 ghost use Rattle.mh_site.specs.Links.{links, link_at, first_link as first_link_of, site_of as site_of_link};
 
@@ -73,6 +75,7 @@ impl Definition {
     ///
     /// Refused with the first test that fails, as `DefinitionFault` tells them, and then with
     /// `NoMemory`.
+    #[tactic(auto, using(crate::proofs::Rules::told))]
     pub fn new(
         alloc: Global,
         points: Listing<Point>,
@@ -81,6 +84,8 @@ impl Definition {
         ensures value { IfOk result (λ d. definition_made points sites ≡ Ok d) }
         ensures refused { IfErr result (λ e. (definition_made points sites ≡ Err e)
             ⊎ ((definition_fault points sites ≡ None) × (e ≡ DefinitionFault.NoMemory))) }
+        ensures passes { IfOk result (λ _. Passes (definition_rules points sites)) }
+        ensures told { IfErr result (λ e. Refuses (definition_rules points sites) e) }
     {
         test(points.as_slice(), sites.as_slice())?;
         let mut sites = sites.into_vec();
@@ -246,6 +251,7 @@ fn own(alloc: Global, parts: Parts) -> Result<Arc<Parts>, NoMemory>
 }
 
 // All tests, in order.
+#[tactic(auto, using(crate::proofs::Listed::first_of_two))]
 fn test(points: &[Point], sites: &[Site]) -> Result<(), DefinitionFault>
     ensures value { MatchResult result (λ _. definition_fault points.now sites.now ≡ None)
         (λ e. definition_fault points.now sites.now ≡ Some e) }

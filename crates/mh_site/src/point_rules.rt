@@ -1,8 +1,9 @@
 //! The rules of points, in the order in which they are tested.
 
-ghost use Rattle.std.specs.Prelude.{◌≡◌, Some, None, MatchResult, []};
+ghost use Rattle.std.specs.Prelude.{◌≡◌, Some, None, MatchResult};
 ghost use Rattle.std.specs.List.{list_any};
-ghost use Rattle.mh_site.specs.Definitions.{point_fault, points_fault, names_point};
+ghost use Rattle.mh_base.specs.Listed.{first_failing};
+ghost use Rattle.mh_site.specs.Definitions.{point_tests, tests_of_points, names_point};
 
 use crate::fault::DefinitionFault;
 use crate::point::Point;
@@ -12,8 +13,8 @@ pub const GREATEST_COST: u64 = 1 << 40;
 
 // The tests of all points, in order.
 pub(crate) fn test_points(points: &[Point]) -> Result<(), DefinitionFault>
-    ensures value { MatchResult result (λ _. points_fault [] points.now ≡ None)
-        (λ e. points_fault [] points.now ≡ Some e) }
+    ensures value { MatchResult result (λ _. first_failing (tests_of_points points.now) ≡ None)
+        (λ e. first_failing (tests_of_points points.now) ≡ Some e) }
 {
     for (index, point) in points.iter().enumerate() {
         test_point(&points[..index], point)?;
@@ -23,8 +24,9 @@ pub(crate) fn test_points(points: &[Point]) -> Result<(), DefinitionFault>
 
 // The tests of a point behind earlier ones.
 fn test_point(earlier: &[Point], point: &Point) -> Result<(), DefinitionFault>
-    ensures value { MatchResult result (λ _. point_fault earlier.now point.now ≡ None)
-        (λ e. point_fault earlier.now point.now ≡ Some e) }
+    ensures value { MatchResult result
+        (λ _. first_failing (point_tests earlier.now point.now) ≡ None)
+        (λ e. first_failing (point_tests earlier.now point.now) ≡ Some e) }
 {
     if !point.name.is_lawful() {
         return Err(DefinitionFault::BadName);

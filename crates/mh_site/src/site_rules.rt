@@ -1,8 +1,9 @@
 //! The rules of sites, in the order in which they are tested.
 
-ghost use Rattle.std.specs.Prelude.{◌≡◌, ◌&&◌, ◌==◌, Some, None, MatchResult, [], nat_le};
+ghost use Rattle.std.specs.Prelude.{◌≡◌, ◌&&◌, ◌==◌, Some, None, MatchResult, nat_le};
 ghost use Rattle.std.specs.List.{list_any, list_all};
-ghost use Rattle.mh_site.specs.Definitions.{site_fault, sites_fault, names_site, all_differ, same_key, needs_few as few, weighs_little as little, needs_known as known, needs_differ as differing, has_place as places, fits_place as fitting};
+ghost use Rattle.mh_base.specs.Listed.{first_failing};
+ghost use Rattle.mh_site.specs.Definitions.{site_tests, tests_of_sites, names_site, all_differ, same_key, needs_few as few, weighs_little as little, needs_known as known, needs_differ as differing, has_place as places, fits_place as fitting};
 ghost use Rattle.mh_type.specs.Values.{same_value as values_same};
 ghost use Rattle.mh_tree.specs.Limits.{point_bound};
 ghost use Rattle.mh_type.specs.Signature.{signature_eq};
@@ -24,8 +25,8 @@ pub const GREATEST_WEIGHT: u64 = 1 << 20;
 
 // The tests of all sites, in order, beside so many points.
 pub(crate) fn test_sites(points: usize, sites: &[Site]) -> Result<(), DefinitionFault>
-    ensures value { MatchResult result (λ _. sites_fault points [] sites.now ≡ None)
-        (λ e. sites_fault points [] sites.now ≡ Some e) }
+    ensures value { MatchResult result (λ _. first_failing (tests_of_sites points sites.now) ≡ None)
+        (λ e. first_failing (tests_of_sites points sites.now) ≡ Some e) }
 {
     for (index, site) in sites.iter().enumerate() {
         test_site(points, &sites[..index], site)?;
@@ -35,8 +36,9 @@ pub(crate) fn test_sites(points: usize, sites: &[Site]) -> Result<(), Definition
 
 // The tests of a site behind earlier ones, in the order of their faults' numbers.
 fn test_site(points: usize, earlier: &[Site], site: &Site) -> Result<(), DefinitionFault>
-    ensures value { MatchResult result (λ _. site_fault points earlier.now site.now ≡ None)
-        (λ e. site_fault points earlier.now site.now ≡ Some e) }
+    ensures value { MatchResult result
+        (λ _. first_failing (site_tests points earlier.now site.now) ≡ None)
+        (λ e. first_failing (site_tests points earlier.now site.now) ≡ Some e) }
 {
     let links = site.links.as_slice();
     demand(links.len() <= MOST_LINKS, DefinitionFault::TooManyLinks)?;

@@ -1,9 +1,8 @@
 -- A chain has the type of its base and does what it does, whichever points are valid.
 use Rattle.std.proofs.Common.{◌≡◌, ℕ, zero, suc, ◌<◌, ◌≤◌, refl, ap, sym, ◌∙◌, List, [], ◌∷◌, ◌++◌, map, take, length, arith, Bool, true, false, ◌||◌, length-append, length-take, if◌then◌else◌}
 use Rattle.std.specs.Prelude.{◌==◌, slice_index_or}
-use Rattle.std.proofs.lemmas.Bool.Decides.{Decides-eqb, Decides-int_eq}
+use Rattle.std.proofs.lemmas.Bool.Decides.{Decides-eqb}
 use Rattle.std.proofs.lemmas.List.{length-map}
-use Rattle.std.proofs.lemmas.Slice.Eq.{bytes_eq-Decides}
 use Rattle.mh_type.specs.declared.kind.Kind.{Kind}
 use Rattle.mh_type.specs.declared.kind.Kind.TheVariants as kind
 use Rattle.mh_type.specs.declared.value.Value.{Value}
@@ -14,7 +13,8 @@ use Rattle.mh_type.specs.Signature.{Signature}
 use Rattle.mh_tree.specs.Meaning.{mean, argument, is_valid}
 use Rattle.mh_tree.specs.Tree.{Tree}
 use Rattle.mh_tree.specs.Typing.{IsTyped, BeginsWith, kind_at}
-use Rattle.mh_type.specs.Values.{same_value, same_truth}
+use Rattle.mh_type.specs.Laws.{values_decide}
+use Rattle.mh_type.specs.Values.{same_value}
 use Rattle.mh_pic.specs.Keys.{first_test, key_test}
 use Rattle.mh_pic.specs.Specialised.{AreValid, is_needed, specialised}
 use Rattle.mh_pic.specs.Chains.{PlainEntry, points, chain, IsFaithful, HaveKind}
@@ -22,20 +22,6 @@ use Rattle.mh_pic.specs.Laws.KeyTests.{key_test_mean}
 use Rattle.mh_pic.specs.Laws.Kept.{specialised_typed}
 use Rattle.mh_pic.specs.Laws.SpecialisedTrees.{specialised_mean}
 use Rattle.mh_tree.specs.Environment.{Environment}
-
--- values that are the same are equal
-same_truths : (b c : Bool) → same_truth b c ≡ true → b ≡ c
-same_truths true true h = refl
-same_truths true false h = cc
-same_truths false true h = cc
-same_truths false false h = refl
-
-pub same_equal : (x y : Value) → same_value x y ≡ true → x ≡ y
-same_equal (Int m) (Int n) h = ap Int ((Decides-int_eq m n).0 h)
-same_equal (Long m) (Long n) h = ap Long ((Decides-int_eq m n).0 h)
-same_equal (Boolean b) (Boolean c) h = ap Boolean (same_truths b c h)
-same_equal (Text s) (Text t) h = ap Text ((bytes_eq-Decides s t).0 h)
-same_equal _ _ h = cc
 
 -- one more valid need
 one_more : (v : Environment) (p : ℕ) (rest : List ℕ) → is_valid v p ≡ true → AreValid v rest → AreValid v (p ∷ rest)
@@ -140,7 +126,7 @@ module _ (m : Signature) (q : ℕ) (inside : q < length m.parameters) (few : len
             → (if r then mean v (points e.needs (specialised e.needs before e.key base) base) a else mean v (chain before base rest) a) ≡ mean v base a
         by_answer true same others =
             points_mean v e.needs (specialised e.needs before e.key base) base a
-            (λ valid. specialised_mean e.needs before e.key v valid a within (same_equal (argument a (length before)) e.key same) base)
+            (λ valid. specialised_mean e.needs before e.key v valid a within ((values_decide (argument a (length before)) e.key).0 same) base)
         by_answer false same others = others
 
   -- a chain is faithful to its base

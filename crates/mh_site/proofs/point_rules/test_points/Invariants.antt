@@ -1,6 +1,10 @@
-use Rattle.std.proofs.Common.{◌≡◌, take, drop, []}
-use Rattle.mh_site.specs.Definitions.{points_fault}
+use Rattle.std.proofs.Common.{◌≡◌, ◌-◌, length}
+use Rattle.std.specs.List.{flat_map, range_with_len}
+use Rattle.mh_base.specs.Listed.{first_failing}
+use Rattle.mh_site.specs.Definitions.{tests_at_point, tests_of_points}
 use Rattle.mh_site.proofs.point_rules.test_points.Given as goal
 
 abbrev pub invariant-loop-index : goal.invariant-loop-index
-invariant-loop-index l = points_fault (take l.index l.points) (drop l.index l.points) ≡ points_fault [] l.points
+invariant-loop-index l =
+    first_failing (flat_map (tests_at_point l.points) (range_with_len l.index (length l.points - l.index))) ≡
+    first_failing (tests_of_points l.points)

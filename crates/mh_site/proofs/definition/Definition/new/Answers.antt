@@ -6,6 +6,7 @@ use Rattle.mh_site.specs.Lawful.{IsDefinition}
 use Rattle.mh_site.specs.Links.{AreNumbers, IsNumbered}
 use Rattle.mh_site.specs.declared.definition.Parts.{Parts}
 use Rattle.mh_site.proofs.Lawful.{lawful}
+use Rattle.mh_site.proofs.Rules.{rules_hold}
 use Rattle.mh_site.proofs.definition.Definition.new.Goals as goal
 
 -- the parts that were tested are those that were given, and what is kept are the sites in order
@@ -13,7 +14,7 @@ made : (ps tested : List Point) (ss others kept : List Site) → definition_faul
     → IsDefinition record { points = ps; sites = kept }
 made ps tested ss others kept h same alike e =
     let none : definition_fault ps ss ≡ None = sym (ap (λ xs. definition_fault xs ss) same) ∙ (sym (ap (λ xs. definition_fault tested xs) alike) ∙ h) in
-    subst (λ xs. IsDefinition record { points = ps; sites = xs }) (sym e) (lawful ps ss none)
+    subst (λ xs. IsDefinition record { points = ps; sites = xs }) (sym e) (lawful ps ss (rules_hold ps ss none))
 
 -- what a definition keeps, of its parts
 abbrev Keeps : Parts → Type 0

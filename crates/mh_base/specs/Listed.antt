@@ -1,0 +1,17 @@
+-- Tests in lists: decided ones, of which the first that fails is told, and those of each element.
+use Rattle.std.specs.Prelude.{Bool, cond, List, [], ◌∷◌, Option, Some, None}
+use Rattle.mh_base.specs.Tests.{Tests}
+
+-- each with whether it holds, and what is told where it does not
+abbrev pub Decided : Type 0 → Type 0
+Decided E = List (Bool × E)
+
+-- what the first that does not hold tells
+abbrev pub first_failing : {E : Type 0} → Decided E → Option E
+first_failing [] = None
+first_failing (t ∷ more) = cond t.0 (first_failing more) (Some t.1)
+
+-- the tests of each element in turn, and those that come after
+abbrev pub tests_of_each : {X E : Type 0} → (X → Tests E → Tests E) → List X → Tests E → Tests E
+tests_of_each tests [] later = later
+tests_of_each tests (x ∷ xs) later = tests x (tests_of_each tests xs later)
