@@ -1,6 +1,6 @@
 //! The memory of evaluations.
 
-ghost use Rattle.std.specs.Prelude.{◌≡◌, IfOk};
+ghost use Rattle.std.specs.Prelude.{◌≡◌, IfOk, []};
 
 use mh_base::NoMemory;
 use mh_type::Value;
@@ -40,7 +40,9 @@ impl fmt::Debug for Stack {
 
 impl Stack {
     /// A stack over this allocator, with room for 16,384 values. Refused with `NoMemory` alone.
-    pub fn new(alloc: Global) -> Result<Stack, NoMemory> {
+    pub fn new(alloc: Global) -> Result<Stack, NoMemory>
+        ensures empty { IfOk result (λ s. s ≡ []) }
+    {
         let values = Vec::with_capacity(alloc, ROOM).map_err(|_| NoMemory)?;
         Ok(Stack { alloc, values })
     }

@@ -72,7 +72,10 @@ fn the_prepared_example_site_runs(rt: HostRuntime) -> Result<(), Fail> {
 fn both_cached_give(alloc: Global) -> Result<([Given; 5], [Given; 5]), Fail> {
     let mut cache = CodeCache::new(alloc);
     let first = prepared_gives(alloc, &cache.prepare(&example(alloc)?)?)?;
-    Ok((first, prepared_gives(alloc, &cache.prepare(&example(alloc)?)?)?))
+    Ok((
+        first,
+        prepared_gives(alloc, &cache.prepare(&example(alloc)?)?)?,
+    ))
 }
 
 #[test]
