@@ -1,6 +1,6 @@
 use denote.Exit.{no}
 use denote.Param.{param}
-use denote.Param.Send.{param_send, param_sync, arg_send, sendable}
+use denote.Param.Send.{param_send, arg_send, sendable}
 use Rattle.live_bench.proofs.Sending.{signals_sync, worked_send}
 use Rattle.live_bench.proofs.calling.call_all.Goals as goal
 

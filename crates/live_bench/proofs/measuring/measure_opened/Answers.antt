@@ -1,5 +1,5 @@
 use denote.Param.{param}
-use denote.Param.Send.{param_send, param_sync, sendable}
+use denote.Param.Send.{sendable}
 use Rattle.std.proofs.Crossing as crossing
 use Rattle.std.proofs.alloc.Global.TheSendSync as global
 use Rattle.std.proofs.option.Option.TheSendSync as option

@@ -1,6 +1,5 @@
 use denote.Exit.{no}
-use denote.Param.{param}
-use denote.Param.Send.{param_send, param_sync, arg_send, sendable}
+use denote.Param.Send.{param_send, arg_send, sendable}
 use Rattle.mh_stress.proofs.Sending.{call_sync}
 use Rattle.mh_stress.proofs.threads.work.Goals as goal
 

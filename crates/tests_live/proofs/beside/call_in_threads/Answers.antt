@@ -1,6 +1,6 @@
 use denote.Exit.{no}
 use denote.Param.{param}
-use denote.Param.Send.{IsSend, IsSync, param_send, param_sync, arg_send, sendable}
+use denote.Param.Send.{IsSend, param_send, arg_send, sendable}
 use denote.RattleType.{RattleType}
 use Rattle.mh_live.specs.declared.front.Name.{Ghosts}
 use Rattle.std.proofs.Crossing as crossing
