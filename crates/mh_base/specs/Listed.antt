@@ -1,5 +1,5 @@
 -- Tests in lists: decided ones, of which the first that fails is told, and those of each element.
-use Rattle.std.specs.Prelude.{Bool, cond, List, [], ◌∷◌, Option, Some, None}
+use Rattle.std.specs.Prelude.{Bool, cond, List, [], ◌∷◌, Option, Some, None, Result, Ok, Err}
 use Rattle.mh_base.specs.Tests.{Tests}
 
 -- each with whether it holds, and what is told where it does not
@@ -10,6 +10,11 @@ Decided E = List (Bool × E)
 abbrev pub first_failing : {E : Type 0} → Decided E → Option E
 first_failing [] = None
 first_failing (t ∷ more) = cond t.0 (first_failing more) (Some t.1)
+
+-- what is made where no test fails, and else the fault that is told
+abbrev pub made_unless : {X E : Type 0} → X → Option E → Result X E
+made_unless x None = Ok x
+made_unless x (Some fault) = Err fault
 
 -- the tests of each element in turn, and those that come after
 abbrev pub tests_of_each : {X E : Type 0} → (X → Tests E → Tests E) → List X → Tests E → Tests E

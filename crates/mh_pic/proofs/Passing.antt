@@ -1,12 +1,13 @@
 -- Constructors whose tests all pass: they are refused memory alone, and what they make is settled.
 use Rattle.std.proofs.Common.{◌≡◌, ℕ, refl, sym, subst, ◌∙◌, ap, arith, ◌≤◌, [], ◌∷◌, length, Result, Ok, Err, inl, inr}
 use Rattle.std.specs.Prelude.{IfOk, IfErr}
+use Rattle.mh_base.specs.Tests.{Refuses}
 use Rattle.mh_type.specs.declared.kind.Kind.TheVariants as kind
 use Rattle.mh_type.specs.declared.value.Value.{Value}
 use Rattle.mh_type.specs.declared.value.Value.TheVariants.{Int, Long, Boolean, Text}
 use Rattle.mh_type.specs.Kinds.{kind_of}
 use Rattle.mh_type.specs.Signature.{Signature}
-use Rattle.mh_tree.specs.Constructors.{Refuses, op_made, insert_made, guarded, guard_made, pointed, point_made}
+use Rattle.mh_tree.specs.Constructors.{refusals, op_made, insert_made, guarded, guard_made, pointed, point_made}
 use Rattle.mh_tree.specs.Handle.{TypedTree}
 use Rattle.mh_tree.specs.Limits.{depth, size}
 use Rattle.mh_tree.specs.Tree.{guard, point}
@@ -17,12 +18,12 @@ use Rattle.mh_tree.specs.declared.fault.TreeFault.TheVariants.{NoMemory}
 use Rattle.mh_pic.specs.Keys.{equality, first_test}
 
 pub memory_alone : (made : Result TypedTree TreeFault) (g : TypedTree) (r : Result TypedTree TreeFault) → made ≡ Ok g
-    → IfErr r (λ e. Refuses e made) → IfErr r (λ e. e ≡ NoMemory)
+    → IfErr r (λ e. Refuses (refusals made) e) → IfErr r (λ e. e ≡ NoMemory)
 memory_alone made g (Ok h) passes refused = tt
 memory_alone made g (Err e) passes (inl failed) =
-    let never : Ok g ≡ Err e = sym passes ∙ failed in
+    let never : Ok g ≡ Err e = sym passes ∙ failed.1 in
     cc
-memory_alone made g (Err e) passes (inr memory) = memory.0
+memory_alone made g (Err e) passes (inr memory) = memory.1
 
 -- what a result that is there is
 pub there : (P : TypedTree → Type 0) (h : TypedTree) (r : Result TypedTree TreeFault) → r ≡ Ok h → IfOk r P → P h

@@ -1,5 +1,5 @@
 -- What points and sites make, and what else is told: the rules (`Rules`) as tests that are decided.
-use Rattle.std.specs.Prelude.{ℕ, ◌==◌, Bool, true, false, not, ◌&&◌, List, [], ◌∷◌, ◌++◌, length, map, take, slice_index_or, nat_le, nat_lt, Option, Some, None, Result, Ok, Err}
+use Rattle.std.specs.Prelude.{ℕ, ◌==◌, Bool, true, false, not, ◌&&◌, List, [], ◌∷◌, ◌++◌, length, map, take, slice_index_or, nat_le, nat_lt, Option, Some, None, Result}
 use Rattle.std.specs.List.{list_any, list_all, flat_map, range_with_len}
 use Rattle.std.specs.Str.{bytes_eq}
 use Rattle.mh_type.specs.Kinds.{kind_of, kind_eq}
@@ -11,7 +11,7 @@ use Rattle.mh_site.specs.declared.link.Link.{Link}
 use Rattle.mh_site.specs.declared.site.Site.{Site}
 use Rattle.mh_site.specs.declared.fault.DefinitionFault.{DefinitionFault}
 use Rattle.mh_site.specs.declared.fault.DefinitionFault.TheVariants.{NoMemory, TooManyPoints, TooManySites, TooManyLinks, TooManyNeeds, BadName, NameTwice, CostTooLarge, WeightTooLarge, BadKeyPlace, KeyMismatch, KeyTwice, NoPoint, NeedTwice, TypeMismatch}
-use Rattle.mh_base.specs.Listed.{Decided, first_failing}
+use Rattle.mh_base.specs.Listed.{Decided, first_failing, made_unless}
 use Rattle.mh_site.specs.Defined.{DefinitionData, no_point, no_site}
 use Rattle.mh_site.specs.Ascending.{ascending}
 use Rattle.mh_site.specs.Names.{is_name}
@@ -131,10 +131,6 @@ link_in_order l = record { when = l.when; weight = l.weight; needs = ascending l
 
 abbrev pub site_in_order : Site → Site
 site_in_order s = record { name = s.name; method_type = s.method_type; key = s.key; target = s.target; links = map link_in_order s.links }
-
-abbrev pub made_unless : DefinitionData → Option DefinitionFault → Result DefinitionData DefinitionFault
-made_unless d None = Ok d
-made_unless d (Some fault) = Err fault
 
 -- what the parts make
 abbrev pub definition_made : List Point → List Site → Result DefinitionData DefinitionFault

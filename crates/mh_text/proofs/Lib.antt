@@ -4,6 +4,7 @@ mod Loop
 mod NameLemmas
 mod PlanData
 mod ProblemInputs
+mod Points
 mod Problems
 mod Reached
 mod Runs

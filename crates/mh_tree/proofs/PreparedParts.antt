@@ -1,50 +1,27 @@
 -- The code of a guard and of a point is made of the code of their parts.
-use Rattle.std.proofs.Common.{◌≡◌, ℕ, ap, sym, ◌∙◌, subst, length, Bool, true, false, Result, Ok}
-use Rattle.std.specs.Prelude.{nat_le, take, map}
+use Rattle.std.proofs.Common.{◌≡◌, ℕ, ap, sym, ◌∙◌, subst, length, Ok}
+use Rattle.std.specs.Prelude.{map}
 use Rattle.std.specs.List.{range_with_len}
+use Rattle.mh_base.specs.Laws.{made_is}
 use Rattle.mh_type.specs.declared.kind.Kind.TheVariants as kind
-use Rattle.mh_type.specs.Kinds.{kind_eq, kinds_eq}
-use Rattle.mh_type.specs.Signature.{Signature, signature_eq}
+use Rattle.mh_type.specs.Signature.{Signature}
 use Rattle.mh_tree.specs.Code.{Code, branch, switch}
-use Rattle.mh_tree.specs.Constructors.{require, within_limits, guarded, guard_made, pointed, point_made}
-use Rattle.mh_tree.specs.Limits.{depth, size}
+use Rattle.mh_tree.specs.Constructors.{guarded, guard_made, pointed, point_made}
 use Rattle.mh_tree.specs.Handle.{TypedTree, IsSound}
 use Rattle.mh_tree.specs.Prepared.{handle_code, prepared}
 use Rattle.mh_tree.specs.Tree.{Tree, guard, point}
 use Rattle.mh_tree.specs.Typing.{IsTyped}
-use Rattle.mh_tree.specs.declared.fault.TreeFault.{TreeFault}
-use Rattle.mh_tree.specs.declared.fault.TreeFault.TheVariants.{TypeMismatch, NotBoolean, TooManyParameters, TooDeep, TooLarge}
 use Rattle.mh_tree.specs.declared.operand.Operand.TheVariants.{Argument}
 use Rattle.mh_tree.proofs.LeadingOperands.{prepared_leading}
 use Rattle.mh_tree.specs.Laws.OperandReads.{shorter}
 use Rattle.mh_tree.specs.Laws.Types.{type_computed}
 
 -- what is made, where the tests passed
-passed : (b : Bool) (e : TreeFault) (made : Result TypedTree TreeFault) (h : TypedTree) → require b e made ≡ Ok h → made ≡ Ok h
-passed true e made h is = is
-passed false e made h is = cc
-
-limited : (g h : TypedTree) → within_limits g ≡ Ok h → g ≡ h
-limited g h is =
-    let sized = require (nat_le (size g.tree) 262144) TooLarge (Ok g) in
-    let deep = require (nat_le (depth g.tree) 96) TooDeep sized in
-    let many = passed (nat_le (length g.signature.parameters) 16) TooManyParameters deep h is in
-    let made : Ok g ≡ Ok h = passed (nat_le (size g.tree) 262144) TooLarge (Ok g) h (passed (nat_le (depth g.tree) 96) TooDeep sized h many) in
-    cc
-
 pub guard_is : (c x y h : TypedTree) → guard_made c x y ≡ Ok h → guarded c x y ≡ h
-guard_is c x y h is =
-    let first = c.signature.parameters in
-    let limits = within_limits (guarded c x y) in
-    let begins = kinds_eq first (take (length first) x.signature.parameters) in
-    let fits = require begins TypeMismatch limits in
-    let same = require (signature_eq x.signature y.signature) TypeMismatch fits in
-    let tested = passed (kind_eq c.signature.ret kind.Boolean) NotBoolean same h is in
-    limited (guarded c x y) h (passed begins TypeMismatch limits h (passed (signature_eq x.signature y.signature) TypeMismatch fits h tested))
+guard_is c x y h is = made_is _ _ _ is
 
 pub point_is : (p : ℕ) (x y h : TypedTree) → point_made p x y ≡ Ok h → pointed p x y ≡ h
-point_is p x y h is =
-    limited (pointed p x y) h (passed (signature_eq x.signature y.signature) TypeMismatch (within_limits (pointed p x y)) h is)
+point_is p x y h is = made_is _ _ _ is
 
 -- the code of a tree in a call of any type with as many parameters
 in_call : (t : Tree) (m n : Signature) → m ≡ n → prepared t (map (λ i. Argument i) (range_with_len 0 (length m.parameters))) 0 0 ≡ prepared t (map (λ i. Argument i) (range_with_len 0 (length n.parameters))) 0 0

@@ -1,6 +1,8 @@
 -- What each constructor makes, or the first of its tests that fails.
-use Rattle.std.specs.Prelude.{◌≡◌, ℕ, ◌+◌, Bool, true, false, ◌&&◌, ◌⊎◌, Option, Some, None, option_map, Result, Ok, Err, IsOk, List, [], ◌∷◌, ◌++◌, take, drop, map, length, nat_eq, nat_lt, nat_le}
+use Rattle.std.specs.Prelude.{◌≡◌, ℕ, ◌+◌, Bool, true, false, ◌&&◌, Option, Some, None, option_map, Result, Err, IsOk, List, [], ◌∷◌, ◌++◌, take, drop, map, length, nat_eq, nat_lt, nat_le}
 use Rattle.std.specs.List.{list_all}
+use Rattle.mh_base.specs.Listed.{Decided, first_failing, made_unless}
+use Rattle.mh_base.specs.Tests.{Tests, test as tested, no_more, only}
 use Rattle.mh_type.specs.declared.kind.Kind.{Kind}
 use Rattle.mh_type.specs.declared.kind.Kind.TheVariants as kind
 use Rattle.mh_type.specs.declared.operation.Op.{Op}
@@ -16,25 +18,32 @@ use Rattle.mh_tree.specs.declared.fault.TreeFault.{TreeFault}
 use Rattle.mh_tree.specs.declared.fault.TreeFault.TheVariants.{NoMemory, BadPosition, TypeMismatch, NotUnary, NotBoolean, BadReorder, TooManyParameters, TooDeep, TooLarge}
 use Rattle.mh_type.specs.Limits.{most_parameters}
 
--- what is made where a test passes, and the fault where it fails
-abbrev pub require : Bool → TreeFault → Result TypedTree TreeFault → Result TypedTree TreeFault
-require true fault made = made
-require false fault made = Err fault
+-- a tree where every test holds, and else what the first that does not tells
+abbrev pub made : TypedTree → Decided TreeFault → Result TypedTree TreeFault
+made h tests = made_unless h (first_failing tests)
 
 -- the tests that come last: the limits of parameters, depth and size
+abbrev pub limits : TypedTree → Decided TreeFault
+limits h =
+    (nat_le (length h.signature.parameters) most_parameters, TooManyParameters)
+    ∷ (nat_le (depth h.tree) greatest_depth, TooDeep)
+    ∷ (nat_le (size h.tree) most_nodes, TooLarge)
+    ∷ []
+
+-- a tree of which the limits alone are tested
 abbrev pub within_limits : TypedTree → Result TypedTree TreeFault
-within_limits h =
-    require (nat_le (length h.signature.parameters) most_parameters) TooManyParameters
-    (require (nat_le (depth h.tree) greatest_depth) TooDeep
-    (require (nat_le (size h.tree) most_nodes) TooLarge (Ok h)))
+within_limits h = made h (limits h)
 
 -- a handle as a declared tree
 abbrev pub declared_made : TypedTree → Result TypedTree TreeFault
-declared_made h = require (nat_le (depth h.tree) greatest_declared_depth) TooDeep (require (nat_le (size h.tree) most_declared_nodes) TooLarge (Ok h))
+declared_made h = made h (
+    (nat_le (depth h.tree) greatest_declared_depth, TooDeep)
+    ∷ (nat_le (size h.tree) most_declared_nodes, TooLarge)
+    ∷ [])
 
--- a refusal: a test that fails, or memory, which is asked for where every test passed
-abbrev pub Refuses : TreeFault → Result TypedTree TreeFault → Type 0
-Refuses e made = (made ≡ Err e) ⊎ ((e ≡ NoMemory) × IsOk made)
+-- why a tree is refused: a test that fails, or memory, which is asked for where every test passed
+abbrev pub refusals : Result TypedTree TreeFault → Tests TreeFault
+refusals made = tested (IsOk made) (λ e. made ≡ Err e) (no_more (only NoMemory))
 
 -- `MethodHandles.constant`
 abbrev pub constant_made : Value → TypedTree
@@ -59,9 +68,11 @@ inserted target p xs = record {
 abbrev pub insert_made : TypedTree → ℕ → List Value → Result TypedTree TreeFault
 insert_made target p xs =
     let old = target.signature.parameters in
-    require (nat_le (p + length xs) (length old)) BadPosition
-    (require (kinds_eq (map kind_of xs) (take (length xs) (drop p old))) TypeMismatch
-    (within_limits (inserted target p xs)))
+    let h = inserted target p xs in
+    made h (
+    (nat_le (p + length xs) (length old), BadPosition)
+    ∷ (kinds_eq (map kind_of xs) (take (length xs) (drop p old)), TypeMismatch)
+    ∷ limits h)
 
 -- `MethodHandles.dropArguments`: the target with parameters that are discarded
 abbrev pub dropped : TypedTree → ℕ → List Kind → TypedTree
@@ -72,8 +83,8 @@ dropped target p ks = record {
 
 abbrev pub drop_made : TypedTree → ℕ → List Kind → Result TypedTree TreeFault
 drop_made target p ks =
-    require (nat_le p (length target.signature.parameters)) BadPosition
-    (within_limits (dropped target p ks))
+    let h = dropped target p ks in
+    made h ((nat_le p (length target.signature.parameters), BadPosition) ∷ limits h)
 
 -- `MethodHandles.permuteArguments`
 abbrev pub permuted : TypedTree → Signature → List ℕ → TypedTree
@@ -82,11 +93,13 @@ permuted target new_type reorder = record { tree = permute target.tree new_type 
 -- there is an entry for each parameter of the target, which names the parameter of the new type that is passed there
 abbrev pub permute_made : TypedTree → Signature → List ℕ → Result TypedTree TreeFault
 permute_made target new_type reorder =
-    require (nat_eq (length reorder) (length target.signature.parameters)) BadReorder
-    (require (list_all (λ i. nat_lt i (length new_type.parameters)) reorder) BadReorder
-    (require (kind_eq target.signature.ret new_type.ret) TypeMismatch
-    (require (kinds_eq target.signature.parameters (map (λ i. kind_at new_type.parameters i) reorder)) TypeMismatch
-    (within_limits (permuted target new_type reorder)))))
+    let h = permuted target new_type reorder in
+    made h (
+    (nat_eq (length reorder) (length target.signature.parameters), BadReorder)
+    ∷ (list_all (λ i. nat_lt i (length new_type.parameters)) reorder, BadReorder)
+    ∷ (kind_eq target.signature.ret new_type.ret, TypeMismatch)
+    ∷ (kinds_eq target.signature.parameters (map (λ i. kind_at new_type.parameters i) reorder), TypeMismatch)
+    ∷ limits h)
 
 -- the plain tree of each filter
 abbrev pub plain_filters : List (Option TypedTree) → Filters
@@ -123,10 +136,12 @@ arguments_filtered target p fs =
 -- each filter has one parameter, and returns the kind of the target's parameter in its place
 abbrev pub filter_made : TypedTree → ℕ → List (Option TypedTree) → Result TypedTree TreeFault
 filter_made target p fs =
-    require (nat_le (p + length fs) (length target.signature.parameters)) BadPosition
-    (require (list_all is_unary fs) NotUnary
-    (require (return_kinds fs (drop p target.signature.parameters)) TypeMismatch
-    (within_limits (arguments_filtered target p fs))))
+    let h = arguments_filtered target p fs in
+    made h (
+    (nat_le (p + length fs) (length target.signature.parameters), BadPosition)
+    ∷ (list_all is_unary fs, NotUnary)
+    ∷ (return_kinds fs (drop p target.signature.parameters), TypeMismatch)
+    ∷ limits h)
 
 -- `MethodHandles.filterReturnValue`
 abbrev pub return_filtered : TypedTree → TypedTree → TypedTree
@@ -138,9 +153,11 @@ return_filtered target last = record {
 -- the filter's one parameter is of the kind that the target returns
 abbrev pub filter_return_made : TypedTree → TypedTree → Result TypedTree TreeFault
 filter_return_made target last =
-    require (nat_eq (length last.signature.parameters) 1) NotUnary
-    (require (kinds_eq last.signature.parameters (target.signature.ret ∷ [])) TypeMismatch
-    (within_limits (return_filtered target last)))
+    let h = return_filtered target last in
+    made h (
+    (nat_eq (length last.signature.parameters) 1, NotUnary)
+    ∷ (kinds_eq last.signature.parameters (target.signature.ret ∷ []), TypeMismatch)
+    ∷ limits h)
 
 -- `MethodHandles.foldArguments`: the target without its first parameter, which the combiner gives
 abbrev pub folded : TypedTree → TypedTree → TypedTree
@@ -154,9 +171,11 @@ folded target combiner = record {
 abbrev pub fold_made : TypedTree → TypedTree → Result TypedTree TreeFault
 fold_made target combiner =
     let first = combiner.signature.parameters in
-    require (kinds_eq (combiner.signature.ret ∷ []) (take 1 target.signature.parameters)) TypeMismatch
-    (require (kinds_eq first (take (length first) (drop 1 target.signature.parameters))) TypeMismatch
-    (within_limits (folded target combiner)))
+    let h = folded target combiner in
+    made h (
+    (kinds_eq (combiner.signature.ret ∷ []) (take 1 target.signature.parameters), TypeMismatch)
+    ∷ (kinds_eq first (take (length first) (drop 1 target.signature.parameters)), TypeMismatch)
+    ∷ limits h)
 
 -- `MethodHandles.guardWithTest`
 abbrev pub guarded : TypedTree → TypedTree → TypedTree → TypedTree
@@ -166,10 +185,12 @@ guarded test target fallback = record { tree = guard test.tree target.tree fallb
 abbrev pub guard_made : TypedTree → TypedTree → TypedTree → Result TypedTree TreeFault
 guard_made test target fallback =
     let first = test.signature.parameters in
-    require (kind_eq test.signature.ret kind.Boolean) NotBoolean
-    (require (signature_eq target.signature fallback.signature) TypeMismatch
-    (require (kinds_eq first (take (length first) target.signature.parameters)) TypeMismatch
-    (within_limits (guarded test target fallback))))
+    let h = guarded test target fallback in
+    made h (
+    (kind_eq test.signature.ret kind.Boolean, NotBoolean)
+    ∷ (signature_eq target.signature fallback.signature, TypeMismatch)
+    ∷ (kinds_eq first (take (length first) target.signature.parameters), TypeMismatch)
+    ∷ limits h)
 
 -- `SwitchPoint.guardWithTest`
 abbrev pub pointed : ℕ → TypedTree → TypedTree → TypedTree
@@ -178,5 +199,5 @@ pointed p target fallback = record { tree = point p target.tree fallback.tree; s
 -- the branches have one type
 abbrev pub point_made : ℕ → TypedTree → TypedTree → Result TypedTree TreeFault
 point_made p target fallback =
-    require (signature_eq target.signature fallback.signature) TypeMismatch
-    (within_limits (pointed p target fallback))
+    let h = pointed p target fallback in
+    made h ((signature_eq target.signature fallback.signature, TypeMismatch) ∷ limits h)

@@ -2,7 +2,8 @@
 
 ghost use Rattle.std.specs.Prelude.{◌≡◌, ◌↔◌, Ok, Err, map, length, IfOk, IfErr, IsTrue, MatchResult};
 ghost use Rattle.mh_type.specs.Kinds.{kind_of};
-ghost use Rattle.mh_tree.specs.Constructors.{Refuses, insert_made, drop_made};
+ghost use Rattle.mh_base.specs.Tests.{Refuses};
+ghost use Rattle.mh_tree.specs.Constructors.{refusals, insert_made, drop_made};
 ghost use Rattle.mh_tree.specs.Handle.{IsSound};
 ghost use Rattle.mh_tree.specs.Tree.{insert as insert_tree, discard};
 
@@ -34,8 +35,8 @@ impl Handle {
         values: &[Value],
     ) -> Result<Handle, TreeFault>
         ensures value { IfOk result (λ h. insert_made target.now position values.now ≡ Ok h) }
-        ensures refused { IfErr result (λ e. Refuses e
-            (insert_made target.now position values.now)) }
+        ensures refused { IfErr result (λ e. Refuses (refusals
+            (insert_made target.now position values.now)) e) }
     {
         let method_type = insert_type(target, position, values)?;
         let root = Node::Insert {
@@ -65,7 +66,8 @@ impl Handle {
         kinds: &[Kind],
     ) -> Result<Handle, TreeFault>
         ensures value { IfOk result (λ h. drop_made target.now position kinds.now ≡ Ok h) }
-        ensures refused { IfErr result (λ e. Refuses e (drop_made target.now position kinds.now)) }
+        ensures refused { IfErr result (λ e. Refuses (refusals
+            (drop_made target.now position kinds.now)) e) }
     {
         let method_type = drop_type(target, position, kinds)?;
         let root = Node::Drop {

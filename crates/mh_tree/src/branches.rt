@@ -1,7 +1,8 @@
 //! The constructors that choose between two branches.
 
 ghost use Rattle.std.specs.Prelude.{◌≡◌, Ok, Err, IfOk, IfErr, MatchResult};
-ghost use Rattle.mh_tree.specs.Constructors.{Refuses, guard_made, point_made};
+ghost use Rattle.mh_base.specs.Tests.{Refuses};
+ghost use Rattle.mh_tree.specs.Constructors.{refusals, guard_made, point_made};
 ghost use Rattle.mh_tree.specs.Handle.{IsSound};
 ghost use Rattle.mh_tree.specs.Tree.{guard as guard_tree, point as point_tree};
 
@@ -33,8 +34,8 @@ impl Handle {
         fallback: &Handle,
     ) -> Result<Handle, TreeFault>
         ensures value { IfOk result (λ h. guard_made test.now target.now fallback.now ≡ Ok h) }
-        ensures refused { IfErr result (λ e. Refuses e
-            (guard_made test.now target.now fallback.now)) }
+        ensures refused { IfErr result (λ e. Refuses (refusals
+            (guard_made test.now target.now fallback.now)) e) }
     {
         let method_type = guard_type(test, target, fallback)?;
         let root = Node::Guard {
@@ -68,7 +69,8 @@ impl Handle {
         fallback: &Handle,
     ) -> Result<Handle, TreeFault>
         ensures value { IfOk result (λ h. point_made point target.now fallback.now ≡ Ok h) }
-        ensures refused { IfErr result (λ e. Refuses e (point_made point target.now fallback.now)) }
+        ensures refused { IfErr result (λ e. Refuses (refusals
+            (point_made point target.now fallback.now)) e) }
     {
         let method_type = point_type(point, target, fallback)?;
         let root = Node::Point {

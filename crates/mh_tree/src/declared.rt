@@ -1,7 +1,8 @@
 //! Declared trees.
 
 ghost use Rattle.std.specs.Prelude.{◌≡◌, ◌≤◌, Ok, IfOk, IfErr};
-ghost use Rattle.mh_tree.specs.Constructors.{Refuses, declared_made};
+ghost use Rattle.mh_base.specs.Tests.{Refuses};
+ghost use Rattle.mh_tree.specs.Constructors.{refusals, declared_made};
 ghost use Rattle.mh_tree.specs.Limits.{depth as tree_depth, size as tree_size, greatest_declared_depth, most_declared_nodes};
 
 use crate::fault::TreeFault;
@@ -48,7 +49,7 @@ impl Declared {
     /// `TooDeep` past depth 64, then with `TooLarge` past 4,096 nodes, and with `NoMemory`.
     pub fn new(handle: &Handle) -> Result<Declared, TreeFault>
         ensures value { IfOk result (λ d. declared_made handle.now ≡ Ok d) }
-        ensures refused { IfErr result (λ e. Refuses e (declared_made handle.now)) }
+        ensures refused { IfErr result (λ e. Refuses (refusals (declared_made handle.now)) e) }
     {
         if handle.depth() > DEEPEST_DECLARED {
             return Err(TreeFault::TooDeep);

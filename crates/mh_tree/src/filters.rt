@@ -2,7 +2,8 @@
 
 ghost use Rattle.std.specs.Prelude.{◌≡◌, ◌+◌, ◌*◌, ◌≤◌, ◌++◌, true, Ok, Err, take, drop, length, map, option_map, IfSome, IfOk, IfErr, MatchResult};
 ghost use Rattle.std.specs.List.{All, list_all};
-ghost use Rattle.mh_tree.specs.Constructors.{Refuses, filter_made, filter_return_made, is_unary, return_kinds as kinds_returned, taken_kinds, plain_filters};
+ghost use Rattle.mh_base.specs.Tests.{Refuses};
+ghost use Rattle.mh_tree.specs.Constructors.{refusals, filter_made, filter_return_made, is_unary, return_kinds as kinds_returned, taken_kinds, plain_filters};
 ghost use Rattle.mh_tree.specs.Limits.{deepest as deepest_tree, total_size as total_of, greatest_bound as greatest_of, greatest_depth, most_nodes};
 ghost use Rattle.mh_tree.specs.TreeOf.{filter_trees};
 ghost use Rattle.mh_tree.specs.Handle.{IsSound};
@@ -43,8 +44,8 @@ impl Handle {
         filters: &[Option<Handle>],
     ) -> Result<Handle, TreeFault>
         ensures value { IfOk result (λ h. filter_made target.now position filters.now ≡ Ok h) }
-        ensures refused { IfErr result (λ e. Refuses e
-            (filter_made target.now position filters.now)) }
+        ensures refused { IfErr result (λ e. Refuses (refusals
+            (filter_made target.now position filters.now)) e) }
     {
         let method_type = filter_type(target, position, filters)?;
         let root = Node::Filter {
@@ -76,7 +77,8 @@ impl Handle {
         filter: &Handle,
     ) -> Result<Handle, TreeFault>
         ensures value { IfOk result (λ h. filter_return_made target.now filter.now ≡ Ok h) }
-        ensures refused { IfErr result (λ e. Refuses e (filter_return_made target.now filter.now)) }
+        ensures refused { IfErr result (λ e. Refuses (refusals
+            (filter_return_made target.now filter.now)) e) }
     {
         let method_type = filter_return_type(target, filter)?;
         let root = Node::FilterReturn {

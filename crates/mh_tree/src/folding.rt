@@ -1,7 +1,8 @@
 //! The constructor that computes a target's first argument.
 
 ghost use Rattle.std.specs.Prelude.{◌≡◌, Ok, Err, IfOk, IfErr, MatchResult};
-ghost use Rattle.mh_tree.specs.Constructors.{Refuses, fold_made};
+ghost use Rattle.mh_base.specs.Tests.{Refuses};
+ghost use Rattle.mh_tree.specs.Constructors.{refusals, fold_made};
 ghost use Rattle.mh_tree.specs.Handle.{IsSound};
 ghost use Rattle.mh_tree.specs.Tree.{fold as fold_tree};
 
@@ -29,7 +30,8 @@ impl Handle {
     /// and `NoMemory`.
     pub fn fold(alloc: Global, target: &Handle, combiner: &Handle) -> Result<Handle, TreeFault>
         ensures value { IfOk result (λ h. fold_made target.now combiner.now ≡ Ok h) }
-        ensures refused { IfErr result (λ e. Refuses e (fold_made target.now combiner.now)) }
+        ensures refused { IfErr result (λ e. Refuses (refusals
+            (fold_made target.now combiner.now)) e) }
     {
         let method_type = fold_type(target, combiner)?;
         let root = Node::Fold {

@@ -4,7 +4,8 @@ ghost use Rattle.std.specs.Prelude.{◌≡◌, Ok, IfOk, IfErr};
 ghost use Rattle.std.specs.Arc.{arc_value};
 ghost use Rattle.mh_tree.specs.Code.{branch as branch_code, switch};
 ghost use Rattle.mh_tree.specs.CodeOf.{code_of};
-ghost use Rattle.mh_tree.specs.Constructors.{Refuses, guard_made, point_made};
+ghost use Rattle.mh_base.specs.Tests.{Refuses};
+ghost use Rattle.mh_tree.specs.Constructors.{refusals, guard_made, point_made};
 ghost use Rattle.mh_tree.specs.Handle.{IsSound};
 ghost use Rattle.mh_tree.specs.Prepared.{handle_code};
 
@@ -72,8 +73,8 @@ impl Prepared {
         fallback: &Prepared,
     ) -> Result<Prepared, TreeFault>
         ensures value { IfOk result (λ p. guard_made test.now target.now fallback.now ≡ Ok p) }
-        ensures refused { IfErr result (λ e. Refuses e
-            (guard_made test.now target.now fallback.now)) }
+        ensures refused { IfErr result (λ e. Refuses (refusals
+            (guard_made test.now target.now fallback.now)) e) }
     {
         let handle = Handle::guard(alloc, &test.handle, &target.handle, &fallback.handle)?;
         let code = guard_code(alloc, test, target, fallback)?;
@@ -89,7 +90,8 @@ impl Prepared {
         fallback: &Prepared,
     ) -> Result<Prepared, TreeFault>
         ensures value { IfOk result (λ p. point_made point target.now fallback.now ≡ Ok p) }
-        ensures refused { IfErr result (λ e. Refuses e (point_made point target.now fallback.now)) }
+        ensures refused { IfErr result (λ e. Refuses (refusals
+            (point_made point target.now fallback.now)) e) }
     {
         let handle = Handle::point(alloc, point, &target.handle, &fallback.handle)?;
         let code = point_code(alloc, point, target, fallback)?;

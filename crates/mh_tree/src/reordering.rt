@@ -2,7 +2,8 @@
 
 ghost use Rattle.std.specs.Prelude.{◌≡◌, ◌<◌, ◌↔◌, Ok, Err, length, map, nat_lt, IfOk, IfErr, IsTrue, MatchResult};
 ghost use Rattle.std.specs.List.{All, list_all};
-ghost use Rattle.mh_tree.specs.Constructors.{Refuses, permute_made};
+ghost use Rattle.mh_base.specs.Tests.{Refuses};
+ghost use Rattle.mh_tree.specs.Constructors.{refusals, permute_made};
 ghost use Rattle.mh_tree.specs.Handle.{IsSound};
 ghost use Rattle.mh_tree.specs.Tree.{permute as permute_tree};
 ghost use Rattle.mh_tree.specs.Typing.{kind_at};
@@ -36,8 +37,8 @@ impl Handle {
         reorder: &[usize],
     ) -> Result<Handle, TreeFault>
         ensures value { IfOk result (λ h. permute_made target.now new_type.now reorder.now ≡ Ok h) }
-        ensures refused { IfErr result (λ e. Refuses e
-            (permute_made target.now new_type.now reorder.now)) }
+        ensures refused { IfErr result (λ e. Refuses (refusals
+            (permute_made target.now new_type.now reorder.now)) e) }
     {
         let method_type = permute_type(target, new_type, reorder)?;
         let root = Node::Permute {
