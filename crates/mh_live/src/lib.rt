@@ -26,9 +26,9 @@
 #![tactic(auto)]
 
 mod call_fault;
+mod crossing;
 mod flush_fault;
 mod front;
-mod laws;
 mod live;
 mod office;
 mod open_fault;
@@ -43,9 +43,9 @@ mod settle_fault;
 mod settled;
 
 pub use call_fault::CallFault;
+pub use crossing::cross_threads;
 pub use flush_fault::FlushFault;
 pub use front::{Front, Name};
-pub use laws::cross_threads;
 pub use live::Live;
 pub use mh_core;
 pub use mh_core::{

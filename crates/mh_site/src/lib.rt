@@ -10,6 +10,7 @@
 #![tactic(auto)]
 
 mod control;
+mod crossing;
 mod definition;
 mod fault;
 mod laws;
@@ -24,6 +25,7 @@ mod site_rules;
 mod world;
 
 pub use control::{Control, Installation, KeptLinks, Relinking, Retargeting};
+pub use crossing::worlds_cross_threads;
 pub use definition::{Definition, MOST_POINTS, MOST_SITES};
 pub use fault::DefinitionFault;
 pub use laws::worlds_look_back;

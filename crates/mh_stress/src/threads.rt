@@ -7,6 +7,7 @@ use crate::changes::make_changes;
 use crate::division::{Call, Division};
 use crate::rounds::make_rounds;
 use mh_live::{Live, Name, Pass, cross_threads};
+use mh_type::values_cross_threads;
 use std::alloc::{AllocError, Global};
 use std::sync::Wait;
 use std::thread;
@@ -25,6 +26,7 @@ fn work<N: Name + Send + Sync, T: Threads + Wait + Sync>(
         after.items) }
 {
     cross_threads::<N>();
+    values_cross_threads();
     let share = |pass: Pass<N>| -> Pass<N>
         ensures { HasWorked N.definition calls.entry.now rounds pass result }
     { make_rounds(rt, live, pass, calls, rounds) };
@@ -48,6 +50,7 @@ pub(crate) fn work_beside<N: Name + Send + Sync, T: Threads + Wait + Sync>(
         (λ after. HaveWorked N.definition division.calls.items rounds passes.items after.items) }
 {
     cross_threads::<N>();
+    values_cross_threads();
     let Division { calls, changes } = division;
     let calls = calls.as_slice();
     let (after, _) = thread::join(

@@ -1,6 +1,7 @@
 -- Laws of the definitions, for the proofs of crates above. Each is proved: nothing here is to be believed.
 pub mod Calls
 pub mod Costs
+pub mod Crossing
 pub mod Effort
 pub mod LeadingArguments
 pub mod Means
@@ -10,6 +11,7 @@ pub mod Tests
 pub mod Trees
 pub mod Types
 pub use Rattle.mh_tree.specs.Laws.Calls.{call_costs, call_means, call_scoped, call_small, count as call_count}
+pub use Rattle.mh_tree.specs.Laws.Crossing.{TreesCross}
 pub use Rattle.mh_tree.specs.Laws.Effort.{effort, total_effort}
 pub use Rattle.mh_tree.specs.Laws.LeadingArguments.{argument_more, arity_counts, as_few, as_many, count as filter_count, counted, enough, filtered_length, filtered_more, leading, mean_leading, mean_more, put_in_more, reordered_more, same_count, steps_leading, taken_out_more, with_more}
 pub use Rattle.mh_tree.specs.Laws.Means.{means}

@@ -16,6 +16,7 @@ mod arguments;
 mod branches;
 mod code_cache;
 mod comparing;
+mod crossing;
 mod declared;
 mod fault;
 mod filters;
@@ -33,6 +34,7 @@ mod preparing;
 mod reordering;
 
 pub use code_cache::CodeCache;
+pub use crossing::trees_cross_threads;
 pub use declared::{DEEPEST_DECLARED, Declared, LARGEST_DECLARED};
 pub use fault::TreeFault;
 pub use handle::Handle;

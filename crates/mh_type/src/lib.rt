@@ -7,6 +7,7 @@
 //! ```
 #![tactic(auto)]
 
+mod crossing;
 mod display;
 mod fault;
 mod kind;
@@ -17,6 +18,7 @@ mod text;
 mod value;
 mod written;
 
+pub use crossing::values_cross_threads;
 pub use fault::TypeFault;
 pub use kind::Kind;
 pub use method_type::{MOST_PARAMETERS, MethodType, begins_with, same_kinds};

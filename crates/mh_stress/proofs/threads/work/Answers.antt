@@ -14,6 +14,6 @@ map_vec-requires-send-X g c κs within =
 pub map_vec-requires-sync-F : goal.map_vec-requires-sync-F
 map_vec-requires-sync-F g c κs within =
     let l = c.cross_threads.ensures.live in
-    let a = call_sync in
+    let a = call_sync c.values_cross_threads.ensures.values in
     let t = c.type_bounds.sync-T in
     search sendable depth 60 fits 20000

@@ -12,7 +12,7 @@ pub join-after-requires-send-F : goal.join-after-requires-send-F
 join-after-requires-send-F g c κs within =
     let p = c.cross_threads.ensures.pass in
     let l = c.cross_threads.ensures.live in
-    let a = call_sync in
+    let a = call_sync c.values_cross_threads.ensures.values in
     let t = c.type_bounds.sync-T in
     search lists depth 60 fits 20000
 
