@@ -10,6 +10,7 @@ from pathlib import Path
 ROOT = Path(__file__).resolve().parent.parent
 USES = {line.split(":")[0].split()[0]: line.split(":")[1].split()
         for line in (ROOT / "crates.txt").read_text(encoding="utf-8").splitlines() if ":" in line and line[0] != "#"}
+BLOCK = re.compile(r"(?:abbrev|pub|module|mutual|infix[lr]?)\b")
 HEAD = re.compile(r"(?:abbrev |pub |record |data )+([^\s:(){}]+)")
 WORD = re.compile(r"[^\s(){}\[\],;]+")
 TYPE = re.compile(r"\b[A-Z]\w*")
@@ -27,7 +28,7 @@ class Spec:
                 self.imports.update(renamed(found[1], found[2]))
             elif found := re.match(r"use (\S+) as (\S+)$", line):
                 self.modules[found[2]] = found[1]
-        heads = [at for at, line in enumerate(self.lines) if re.match(r"(abbrev|pub|module|mutual|infix[lr]?)\b", line) and not re.match(r"\w+_", line)]
+        heads = [at for at, line in enumerate(self.lines) if BLOCK.match(line)]
         for at, after in zip(heads, heads[1:] + [len(self.lines)]):
             self.read_block(at, self.above(after) if after < len(self.lines) else after)
 
@@ -38,6 +39,7 @@ class Spec:
         return at
 
     def read_block(self, at, end):
+        """Reads the definitions of a block that begins at column 0: one, those of a module, or some that call each other."""
         head = self.lines[at]
         inner = [it for it in range(at + 1, end) if re.match(r"  (abbrev )?pub ", self.lines[it])]
         if head.startswith("module"):
