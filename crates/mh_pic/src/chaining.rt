@@ -1,23 +1,13 @@
 //! Chains: inline caches as handles.
 
-ghost use Rattle.std.specs.Prelude.{◌≡◌, ◌<◌, ◌≤◌, length, take, IfOk};
-ghost use Rattle.mh_type.specs.Kinds.{kind_of};
+ghost use Rattle.std.specs.Prelude.{◌≡◌, take, IfOk};
 ghost use Rattle.mh_tree.specs.Handle.{IsDeclared};
-ghost use Rattle.mh_tree.specs.Limits.{depth, size};
-ghost use Rattle.mh_tree.specs.Tree.{guard as guard_tree};
-ghost use Rattle.mh_tree.specs.Typing.{kind_at};
-ghost use Rattle.mh_pic.specs.Chains.{chain as chain_of, points as points_of, IsFaithful, MayChain};
-ghost use Rattle.mh_pic.specs.Keys.{key_test as key_test_of};
-ghost use Rattle.mh_pic.specs.Specialised.{specialised};
-ghost use Rattle.mh_type.specs.Limits.{most_parameters};
-ghost use Rattle.mh_pic.specs.Limits.{most_needs, deepest_chain, most_chain_nodes};
+ghost use Rattle.mh_pic.specs.Chains.{chain as chain_of, IsFaithful, MayChain};
 
 use crate::entry::Entry;
-use crate::fault::expect_made;
-use crate::key_tests::key_test;
-use crate::specialising::specialise;
+use crate::prepared_chaining::{prepare, prepared_chain};
 use mh_base::NoMemory;
-use mh_tree::{Declared, Handle};
+use mh_tree::{Declared, Handle, Prepared};
 use std::alloc::Global;
 
 /// The inline cache of a site with this base tree (Hölzle, Chambers and Ungar, Optimizing
@@ -73,65 +63,15 @@ fn chain_over(
           = base.now.signature;
     }) }
 {
-    let Some((entry, rest)) = entries.split_first() else {
-        let cache = base.share().map_err(|_| NoMemory)?;
-        return Ok(cache);
-    };
-    let others = chain_over(alloc, base, key_place, rest)?;
-    let cache = link(alloc, base, key_place, entry, &others)?;
+    let prepared = prepare(base)?;
+    let chained = prepared_chain(alloc, &prepared, key_place, entries)?;
+    let cache = handle_of(&chained)?;
     Ok(cache)
 }
 
-// The guard of an entry over the cache of the others.
-fn link(
-    alloc: Global,
-    base: &Handle,
-    key_place: usize,
-    entry: &Entry,
-    others: &Handle,
-) -> Result<Handle, NoMemory>
-    requires declared { IsDeclared base.now }
-    requires inside { key_place < length base.now.signature.parameters }
-    requires key { kind_of entry.now.key ≡ kind_at base.now.signature.parameters key_place }
-    requires few_needs { length entry.now.needs ≤ most_needs }
-    requires same { others.now.signature ≡ base.now.signature }
-    requires shallow { depth others.now.tree ≤ deepest_chain }
-    requires small { size others.now.tree ≤ most_chain_nodes }
-    ensures value { IfOk result (λ h. h ≡ record {
-      tree = guard_tree
-          (key_test_of (take key_place base.now.signature.parameters) entry.now.key)
-          (points_of entry.now.needs (specialised entry.now.needs
-          (take key_place base.now.signature.parameters) entry.now.key base.now.tree) base.now.tree)
-          others.now.tree;
-      signature = base.now.signature;
-    }) }
+// The handle without its code.
+fn handle_of(prepared: &Prepared) -> Result<Handle, NoMemory>
+    ensures value { IfOk result (λ h. h ≡ prepared.now) }
 {
-    let before = &base.method_type().parameters()[..key_place];
-    let test = key_test(alloc, before, entry.key())?;
-    let target = specialise(alloc, base, entry.needs(), key_place, entry.key())?;
-    let target = points(alloc, entry.needs(), &target, base)?;
-    let cache = expect_made(Handle::guard(alloc, &test, &target, others))?;
-    Ok(cache)
-}
-
-// The target while all these points are valid, and the base from when one is not.
-fn points(alloc: Global, needs: &[u32], target: &Handle, base: &Handle) -> Result<Handle, NoMemory>
-    requires first { IsDeclared target.now }
-    requires second { IsDeclared base.now }
-    requires same { target.now.signature ≡ base.now.signature }
-    requires parameters { length base.now.signature.parameters ≤ most_parameters }
-    requires few { length needs.now ≤ most_needs }
-    ensures value { IfOk result (λ h. h ≡ record {
-      tree = points_of needs.now target.now.tree
-          base.now.tree;
-      signature = base.now.signature;
-    }) }
-{
-    let Some((need, rest)) = needs.split_first() else {
-        let same = target.share().map_err(|_| NoMemory)?;
-        return Ok(same);
-    };
-    let inner = points(alloc, rest, target, base)?;
-    let switched = expect_made(Handle::point(alloc, *need, &inner, base))?;
-    Ok(switched)
+    prepared.handle().share().map_err(|_| NoMemory)
 }

@@ -73,19 +73,19 @@ fn link(
 {
     let handle = base.handle();
     let before = &handle.method_type().parameters()[..key_place];
-    let test = prepare(key_test(alloc, before, entry.key())?)?;
+    let test = prepare(&key_test(alloc, before, entry.key())?)?;
     let target = specialise(alloc, handle, entry.needs(), key_place, entry.key())?;
-    let target = prepare(target)?;
+    let target = prepare(&target)?;
     let target = points(alloc, entry.needs(), &target, base)?;
     let cache = expect_made(Prepared::guard(alloc, &test, &target, others))?;
     Ok(cache)
 }
 
 // A handle with its code.
-fn prepare(handle: Handle) -> Result<Prepared, NoMemory>
-    ensures value { IfOk result (λ p. p ≡ handle) }
+pub(crate) fn prepare(handle: &Handle) -> Result<Prepared, NoMemory>
+    ensures value { IfOk result (λ p. p ≡ handle.now) }
 {
-    Prepared::new(&handle).map_err(|_| NoMemory)
+    Prepared::new(handle).map_err(|_| NoMemory)
 }
 
 // The target while all these points are valid, and the base from when one is not.
