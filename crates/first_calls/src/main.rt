@@ -9,15 +9,21 @@ mod telling;
 use crate::definition::open;
 use crate::events::{invalidate, retarget};
 use crate::telling::tell_call;
+use mh_core::Machine;
+use std::alloc::Global;
 
 fn main(rt: HostRuntime) -> anyhow::Result<()> {
     let alloc = rt.alloc();
     let mut machine = open(alloc)?;
-    tell_call(&rt, &mut machine, 1)?;
-    tell_call(&rt, &mut machine, 2)?;
-    invalidate(&rt, alloc, &mut machine)?;
-    tell_call(&rt, &mut machine, 1)?;
-    retarget(&rt, alloc, &mut machine)?;
-    tell_call(&rt, &mut machine, 1)?;
-    Ok(())
+    make_events(&rt, alloc, &mut machine)
+}
+
+/// Calls before and after an invalidation, and after a retargeting.
+fn make_events(rt: &impl Print, alloc: Global, machine: &mut Machine) -> anyhow::Result<()> {
+    tell_call(rt, machine, 1)?;
+    tell_call(rt, machine, 2)?;
+    invalidate(rt, alloc, machine)?;
+    tell_call(rt, machine, 1)?;
+    retarget(rt, alloc, machine)?;
+    tell_call(rt, machine, 1)
 }

@@ -33,8 +33,8 @@ fn answer_tree(
     handle: &Handle,
     arguments: &[Value],
 ) -> anyhow::Result<()> {
-    let machine = machine_of(alloc, handle, arguments)?;
-    answer_opened(rt, alloc, handle, arguments, machine)
+    let mut machine = machine_of(alloc, handle, arguments)?;
+    answer_opened(rt, alloc, handle, arguments, &mut machine)
 }
 
 /// A machine with a site of this tree.
@@ -49,7 +49,7 @@ fn answer_opened(
     alloc: Global,
     handle: &Handle,
     arguments: &[Value],
-    mut machine: Machine,
+    machine: &mut Machine,
 ) -> anyhow::Result<()> {
     if !fits(handle.method_type(), arguments) || handle.point_bound() > VALID.len() {
         anyhow::bail!("the arguments do not fit, or a point is not there");
@@ -57,7 +57,7 @@ fn answer_opened(
     let prepared = Prepared::new(handle)?;
     let mut stack = Stack::new(alloc)?;
     println!(rt; "opened")?;
-    answer_rounds(rt, alloc, &mut stack, &mut machine, &prepared, arguments)
+    answer_rounds(rt, alloc, &mut stack, machine, &prepared, arguments)
 }
 
 /// Makes each call several times.

@@ -160,10 +160,21 @@ pub(crate) fn step_rounds(
     for history in 0..rounds.div_ceil(CALLS_OF_A_MACHINE) {
         let made = history.saturating_mul(CALLS_OF_A_MACHINE);
         let calls = rounds.saturating_sub(made).min(CALLS_OF_A_MACHINE);
-        let mut machine = open(alloc, &definition)?;
-        tally = tally.join(make_history(&mut machine, alloc, way, arguments, calls)?)?;
+        tally = tally.join(step_history(alloc, way, &definition, arguments, calls)?)?;
     }
     Ok(tally)
+}
+
+/// So many calls of a machine that is opened for them.
+fn step_history(
+    alloc: Global,
+    way: Way,
+    definition: &Definition,
+    arguments: &[Value],
+    calls: u64,
+) -> anyhow::Result<Tally> {
+    let mut machine = open(alloc, definition)?;
+    make_history(&mut machine, alloc, way, arguments, calls)
 }
 
 /// So many calls of one machine, with their flushes.

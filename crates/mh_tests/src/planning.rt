@@ -22,15 +22,35 @@ fn lines_of_a_plan<T: Threads + Sync>(
 ) -> Result<(bool, bool), Fail> {
     let problem = read_problem(alloc, PROBLEM.as_bytes(), None)?;
     let plan = plan(rt, alloc, &problem, 1, &OpenGate)?;
-    let line = plan_line(alloc, &plan)?;
-    let is_wanted = line.as_str() == wanted;
-    Ok((is_wanted, is_read_back(alloc, &problem, &plan)?))
+    both_hold(alloc, &problem, &plan, wanted)
+}
+
+/// The same of a plan that was made.
+fn both_hold(
+    alloc: Global,
+    problem: &Problem,
+    plan: &Plan,
+    wanted: &str,
+) -> Result<(bool, bool), Fail> {
+    let is_wanted = is_written(alloc, plan, wanted)?;
+    Ok((is_wanted, is_read_back(alloc, problem, plan)?))
+}
+
+/// Whether a plan is written as this line.
+fn is_written(alloc: Global, plan: &Plan, wanted: &str) -> Result<bool, Fail> {
+    let line = plan_line(alloc, plan)?;
+    Ok(line.as_str() == wanted)
+}
+
+/// The plan that is read of a plan's JSON.
+fn read_of(alloc: Global, plan: &Plan) -> Result<Plan, Fail> {
+    let json = plan_json(alloc, plan)?;
+    Ok(read_plan(alloc, json.as_bytes(), None)?)
 }
 
 /// Whether the JSON of a plan is a plan that the checker accepts.
 fn is_read_back(alloc: Global, problem: &Problem, plan: &Plan) -> Result<bool, Fail> {
-    let json = plan_json(alloc, plan)?;
-    let read = read_plan(alloc, json.as_bytes(), None)?;
+    let read = read_of(alloc, plan)?;
     Ok(check(alloc, problem, &read).is_ok())
 }
 

@@ -7,25 +7,49 @@ use crate::definitions::{negation, open_plain, successor, sum};
 use mh_base::Listing;
 use mh_cert::{CheckFault, Plan};
 use mh_core::{Linkage, Refusal, Reply, SharedPlan, SiteLinkage};
-use mh_live::{Live, Name, Opening, Pass, Receipt};
+use mh_live::{CallFault, Declared, Live, Name, Opening, Pass, Receipt};
 use std::alloc::Global;
 use std::marker::Brand;
 use std::sync::Wait;
 use std::test::Fail;
 
-/// What a call gives before two equal retargetings, and after both are learnt, of which the second
-/// is learnt first.
+/// Gives the site the successor.
+fn retarget<N: Name, R: Wait>(rt: &R, alloc: Global, live: &Live<N>) -> Result<Receipt<N>, Fail> {
+    Ok(live.set_target(rt, 0, successor(alloc)?)?)
+}
+
+/// How long the lists of two receipts are, of which the second is learnt first.
+fn learn_second_first<N: Name>(
+    pass: &mut Pass<N>,
+    first: &Receipt<N>,
+    second: &Receipt<N>,
+) -> [u64; 2] {
+    let of_second = learn(pass, second);
+    [learn(pass, first), of_second]
+}
+
+/// Two equal retargetings, and how long the lists of their receipts are.
 fn retarget_twice<N: Name, R: Wait>(
+    rt: &R,
+    alloc: Global,
+    live: &Live<N>,
+    pass: &mut Pass<N>,
+) -> Result<[u64; 2], Fail> {
+    let first = retarget(rt, alloc, live)?;
+    let second = retarget(rt, alloc, live)?;
+    Ok(learn_second_first(pass, &first, &second))
+}
+
+/// What a call gives before two equal retargetings, and after both are learnt.
+fn call_around_both<N: Name, R: Wait>(
     rt: &R,
     alloc: Global,
     live: &Live<N>,
     pass: &mut Pass<N>,
 ) -> Result<[CallAnswer; 2], Fail> {
     let before = call(pass, 2)?;
-    let first = live.set_target(rt, 0, successor(alloc)?)?;
-    let second = live.set_target(rt, 0, successor(alloc)?)?;
-    ensure(learn(pass, &second) == 2, "two changes")?;
-    ensure(learn(pass, &first) == 1, "one change")?;
+    let lengths = retarget_twice(rt, alloc, live, pass)?;
+    ensure(lengths == [1, 2], "one change, and two")?;
     ensure(pass.front().len() == 2, "a pass that has seen both")?;
     Ok([before, call(pass, 2)?])
 }
@@ -39,7 +63,7 @@ fn calls_around_two_retargetings<N: Name, R: Wait>(
     requires definition { opening.definition ≡ N.definition }
 {
     let (live, mut pass) = open_one::<N>(opening)?;
-    retarget_twice(rt, alloc, &live, &mut pass)
+    call_around_both(rt, alloc, &live, &mut pass)
 }
 
 #[test]
@@ -50,17 +74,28 @@ fn equal_retargetings_have_two_fronts(rt: HostRuntime) -> Result<(), Fail> {
     Ok(())
 }
 
-/// What calls give beside a retargeting, before and after its receipt is learnt.
+/// What a call gives beside a retargeting, before its receipt is learnt; and how long its list is.
 fn call_before_learning<N: Name, R: Wait>(
     rt: &R,
     alloc: Global,
     live: &Live<N>,
     pass: &mut Pass<N>,
+) -> Result<(Result<CallAnswer, CallFault>, u64), Fail> {
+    let receipt = retarget(rt, alloc, live)?;
+    let before = call(pass, 2);
+    Ok((before, learn(pass, &receipt)))
+}
+
+/// What calls give before and after a receipt is learnt.
+fn call_around_learning<N: Name, R: Wait>(
+    rt: &R,
+    alloc: Global,
+    live: &Live<N>,
+    pass: &mut Pass<N>,
 ) -> Result<[CallAnswer; 2], Fail> {
-    let receipt = live.set_target(rt, 0, successor(alloc)?)?;
-    let before = call(pass, 2)?;
-    ensure(learn(pass, &receipt) == 1, "one change")?;
-    Ok([before, call(pass, 2)?])
+    let (before, length) = call_before_learning(rt, alloc, live, pass)?;
+    ensure(length == 1, "one change")?;
+    Ok([before?, call(pass, 2)?])
 }
 
 fn calls_around_a_receipt<N: Name, R: Wait>(
@@ -72,7 +107,7 @@ fn calls_around_a_receipt<N: Name, R: Wait>(
     requires definition { opening.definition ≡ N.definition }
 {
     let (live, mut pass) = open_one::<N>(opening)?;
-    call_before_learning(rt, alloc, &live, &mut pass)
+    call_around_learning(rt, alloc, &live, &mut pass)
 }
 
 #[test]
@@ -86,8 +121,9 @@ fn a_pass_may_answer_before_it_learns(rt: HostRuntime) -> Result<(), Fail> {
 
 /// The link 0, no point, and this value.
 fn plan(alloc: Global, value: i64) -> Result<SharedPlan, Fail> {
+    let links = Listing::from_vec(Vec::from_slice(alloc, &[0])?);
     let plan = Plan {
-        links: Listing::from_vec(Vec::from_slice(alloc, &[0])?),
+        links,
         points: Listing::from_vec(Vec::new(alloc)),
         value,
         flow: Listing::from_vec(Vec::new(alloc)),
@@ -107,17 +143,25 @@ fn is_linked<N: Name>(receipt: &Receipt<N>) -> bool {
     report.left_out.len() == 0 && report.sites.as_slice() == [linked].as_slice()
 }
 
-/// The snapshot of what was flushed, its plan, and the installation of this.
-fn plan_and_install<N: Name, R: Wait>(
+/// The snapshot of what was flushed, and its plan.
+fn publish<N: Name, R: Wait>(
     rt: &R,
     alloc: Global,
     live: &Live<N>,
+    value: i64,
 ) -> Result<Receipt<N>, Fail> {
     live.snapshot(rt)?;
-    live.publish(rt, 1, plan(alloc, 6)?)?;
+    Ok(live.publish(rt, 1, plan(alloc, value)?)?)
+}
+
+/// Whether the plan was linked at the site, and how long the list of its receipt is.
+fn install<N: Name, R: Wait>(
+    rt: &R,
+    live: &Live<N>,
+    pass: &mut Pass<N>,
+) -> Result<(bool, u64), Fail> {
     let installed = live.install(rt, 1)?;
-    ensure(is_linked(&installed), "one link at the site")?;
-    Ok(installed)
+    Ok((is_linked(&installed), learn(pass, &installed)))
 }
 
 /// What calls with 1 and with 2 give after an installation for two hits.
@@ -130,8 +174,9 @@ fn call_and_install<N: Name, R: Wait>(
     call(pass, 1)?;
     call(pass, 1)?;
     ensure(flush(rt, live, pass)? == 0, "no change")?;
-    let installed = plan_and_install(rt, alloc, live)?;
-    ensure(learn(pass, &installed) == 1, "one change")?;
+    publish(rt, alloc, live, 6)?;
+    let installed = install(rt, live, pass)?;
+    ensure(installed == (true, 1), "one link, by one change")?;
     Ok([call(pass, 1)?, call(pass, 2)?])
 }
 
@@ -217,6 +262,24 @@ fn an_office_tells_what_it_refuses(rt: HostRuntime) -> Result<(), Fail> {
     Ok(())
 }
 
+/// How long the list of a retargeting is.
+fn front_of_change<N: Name, R: Wait>(rt: &R, alloc: Global, live: &Live<N>) -> Result<u64, Fail> {
+    let changed = retarget(rt, alloc, live)?;
+    Ok(changed.front().len())
+}
+
+/// How long the list of a snapshot is.
+fn front_of_snapshot<N: Name, R: Wait>(rt: &R, live: &Live<N>) -> Result<u64, Fail> {
+    let taken = live.snapshot(rt)?;
+    Ok(taken.front().len())
+}
+
+/// How long the list of a publication is.
+fn front_of_plan<N: Name, R: Wait>(rt: &R, live: &Live<N>, plan: SharedPlan) -> Result<u64, Fail> {
+    let published = live.publish(rt, 1, plan)?;
+    Ok(published.front().len())
+}
+
 /// A change, and a flush, a snapshot and a publication after it: how long the list of each receipt
 /// is.
 fn fronts_after_a_change<N: Name, R: Wait>(
@@ -225,16 +288,11 @@ fn fronts_after_a_change<N: Name, R: Wait>(
     live: &Live<N>,
     pass: &mut Pass<N>,
 ) -> Result<[u64; 4], Fail> {
-    let changed = live.set_target(rt, 0, successor(alloc)?)?;
+    let changed = front_of_change(rt, alloc, live)?;
     let flushed = flush(rt, live, pass)?;
-    let taken = live.snapshot(rt)?;
-    let published = live.publish(rt, 1, plan(alloc, 0)?)?;
-    Ok([
-        changed.front().len(),
-        flushed,
-        taken.front().len(),
-        published.front().len(),
-    ])
+    let taken = front_of_snapshot(rt, live)?;
+    let published = front_of_plan(rt, live, plan(alloc, 0)?)?;
+    Ok([changed, flushed, taken, published])
 }
 
 /// The fronts of four events, which fill the history; what a call gives then; and why a fifth event
@@ -273,17 +331,27 @@ fn receipts_have_the_list_of_their_time(rt: HostRuntime) -> Result<(), Fail> {
     Ok(())
 }
 
-/// A retargeting by the office that is lent, which is open before and after.
+/// A retargeting by the office that is lent: its receipt; whether the office is closed then; and
+/// how many changes it counts.
 fn retarget_by_its_office<N: Name, R: Wait>(
     rt: &R,
-    alloc: Global,
     live: &Live<N>,
-) -> Result<Receipt<N>, Fail> {
+    tree: Declared,
+) -> Result<(Receipt<N>, bool, u64), Fail> {
     let mut office = live.office(rt);
-    let receipt = office.target(rt, 0, successor(alloc)?)?;
-    ensure(!office.closed(), "an office that is not closed")?;
-    ensure(office.front().len() == 1, "one change")?;
-    Ok(receipt)
+    let receipt = office.target(rt, 0, tree)?;
+    Ok((receipt, office.closed(), office.front().len()))
+}
+
+/// The same, where the receipt is learnt: how long its list is.
+fn learn_of_its_office<N: Name, R: Wait>(
+    rt: &R,
+    live: &Live<N>,
+    pass: &mut Pass<N>,
+    tree: Declared,
+) -> Result<(u64, bool, u64), Fail> {
+    let (receipt, closed, changes) = retarget_by_its_office(rt, live, tree)?;
+    Ok((learn(pass, &receipt), closed, changes))
 }
 
 /// What a call gives after it.
@@ -293,8 +361,8 @@ fn retarget_and_call<N: Name, R: Wait>(
     live: &Live<N>,
     pass: &mut Pass<N>,
 ) -> Result<CallAnswer, Fail> {
-    let receipt = retarget_by_its_office(rt, alloc, live)?;
-    ensure(learn(pass, &receipt) == 1, "one change")?;
+    let learnt = learn_of_its_office(rt, live, pass, successor(alloc)?)?;
+    ensure(learnt == (1, false, 1), "one change, and an open office")?;
     Ok(call(pass, 2)?)
 }
 

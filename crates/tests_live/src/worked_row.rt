@@ -73,32 +73,33 @@ fn call_gives<N: Name>(pass: &mut Pass<N>, argument: i32, wanted: CallAnswer) ->
     ensure(answer == wanted, "the answer that a call is to give")
 }
 
-/// Both passes learn a receipt, whose list is to be this long.
-fn learn_both<N: Name>(
-    running: &mut Running<N>,
-    receipt: &Receipt<N>,
-    front: u64,
-) -> Result<(), Fail> {
-    let learnt = running.learn(receipt);
-    ensure(learnt == front, "as many changes as a receipt is to have")
+/// Flushes the first pass: whether it is done, and how long the list is that both passes learn.
+fn flush<N: Name, R: Wait>(rt: &R, running: &mut Running<N>) -> Result<(bool, u64), Fail> {
+    let flushed = running.live.flush(rt, &mut running.first)?;
+    Ok((is_done(&flushed), running.learn(&flushed)))
 }
 
 /// Both passes call, and the first flushes.
 fn hits_are_flushed<N: Name, R: Wait>(rt: &R, running: &mut Running<N>) -> Result<(), Fail> {
     call_gives(&mut running.first, 1, given(100, 6, 0))?;
     call_gives(&mut running.first, 1, given(100, 6, 0))?;
-    let flushed = running.live.flush(rt, &mut running.first)?;
-    ensure(is_done(&flushed), "a flush")?;
-    learn_both(running, &flushed, 0)?;
+    ensure(
+        flush(rt, running)? == (true, 0),
+        "a flush before any change",
+    )?;
     call_gives(&mut running.second, 2, given(3, 6, 0))
+}
+
+/// Takes a snapshot: whether it is the first, and how long the list is that both passes learn.
+fn take<N: Name, R: Wait>(rt: &R, running: &mut Running<N>) -> Result<(bool, u64), Fail> {
+    let taken = running.live.snapshot(rt)?;
+    let first = matches!(taken.reply(), Reply::Taken { snapshot: 1 });
+    Ok((first, running.learn(&taken)))
 }
 
 /// A snapshot is taken.
 fn snapshot_is_taken<N: Name, R: Wait>(rt: &R, running: &mut Running<N>) -> Result<(), Fail> {
-    let taken = running.live.snapshot(rt)?;
-    let first = matches!(taken.reply(), Reply::Taken { snapshot: 1 });
-    ensure(first, "the first snapshot")?;
-    learn_both(running, &taken, 0)
+    ensure(take(rt, running)? == (true, 0), "the first snapshot")
 }
 
 /// Whether a plan has the link 0 with its point, a value of 1, and all of the point's cost carried.
@@ -117,26 +118,64 @@ fn is_published<N: Name>(receipt: &Receipt<N>) -> bool {
     }
 }
 
+/// The plan of the snapshot's problem.
+fn planned<N: Name, R: Wait + Threads + Sync>(
+    rt: &R,
+    alloc: Global,
+    live: &Live<N>,
+) -> Result<SharedPlan, Fail> {
+    let problem = live.problem(rt, 1)?;
+    Ok(SharedPlan::new(alloc, plan(rt, alloc, &problem, 1, &OpenGate)?)?)
+}
+
+/// Publishes a plan: whether it is what was wanted, and how long the list is that both passes
+/// learn.
+fn publish<N: Name, R: Wait>(
+    rt: &R,
+    running: &mut Running<N>,
+    planned: SharedPlan,
+) -> Result<(bool, u64), Fail> {
+    let published = running.live.publish(rt, 1, planned)?;
+    Ok((is_published(&published), running.learn(&published)))
+}
+
 /// The snapshot's problem is planned, and the plan published.
 fn plan_is_published<N: Name, R: Wait + Threads + Sync>(
     rt: &R,
     alloc: Global,
     running: &mut Running<N>,
 ) -> Result<(), Fail> {
-    let problem = running.live.problem(rt, 1)?;
-    let planned = SharedPlan::new(alloc, plan(rt, alloc, &problem, 1, &OpenGate)?)?;
-    let published = running.live.publish(rt, 1, planned)?;
-    ensure(is_published(&published), "the plan as the first")?;
-    learn_both(running, &published, 0)
+    let planned = planned(rt, alloc, &running.live)?;
+    let published = publish(rt, running, planned)?;
+    ensure(published == (true, 0), "the plan as the first")
+}
+
+/// Installs the plan: what it made of the site, and how long the list is that both passes learn.
+fn install<N: Name, R: Wait>(
+    rt: &R,
+    running: &mut Running<N>,
+) -> Result<(Option<Linkage>, u64), Fail> {
+    let installed = running.live.install(rt, 1)?;
+    Ok((linkage(&installed), running.learn(&installed)))
 }
 
 /// The plan is installed, and the site linked to one link.
 fn plan_is_installed<N: Name, R: Wait>(rt: &R, running: &mut Running<N>) -> Result<(), Fail> {
-    let installed = running.live.install(rt, 1)?;
-    ensure(linkage(&installed) == Some(Linkage::Linked(1)), "one link")?;
-    learn_both(running, &installed, 1)?;
+    let installed = install(rt, running)?;
+    ensure(installed == (Some(Linkage::Linked(1)), 1), "one link")?;
     call_gives(&mut running.first, 1, given(100, 6, 1))?;
     call_gives(&mut running.second, 2, given(3, 9, 1))
+}
+
+/// Invalidates the point 0: whether it is done, and how long the list is that both passes learn.
+fn invalidate<N: Name, R: Wait>(
+    rt: &R,
+    alloc: Global,
+    running: &mut Running<N>,
+) -> Result<(bool, u64), Fail> {
+    let points = Listing::from_vec(Vec::from_slice(alloc, &[0])?);
+    let invalidated = running.live.invalidate(rt, points)?;
+    Ok((is_done(&invalidated), running.learn(&invalidated)))
 }
 
 /// The point of the link is invalidated.
@@ -145,11 +184,20 @@ fn point_is_invalidated<N: Name, R: Wait>(
     alloc: Global,
     running: &mut Running<N>,
 ) -> Result<(), Fail> {
-    let points = Listing::from_vec(Vec::from_slice(alloc, &[0])?);
-    let invalidated = running.live.invalidate(rt, points)?;
-    ensure(is_done(&invalidated), "an invalidation")?;
-    learn_both(running, &invalidated, 2)?;
+    let invalidated = invalidate(rt, alloc, running)?;
+    ensure(invalidated == (true, 2), "an invalidation")?;
     call_gives(&mut running.first, 1, given(-1, 6, 2))
+}
+
+/// Gives the site the negation: whether it is done, and how long the list is that both passes
+/// learn.
+fn retarget<N: Name, R: Wait>(
+    rt: &R,
+    alloc: Global,
+    running: &mut Running<N>,
+) -> Result<(bool, u64), Fail> {
+    let targeted = running.live.set_target(rt, 0, negation(alloc)?)?;
+    Ok((is_done(&targeted), running.learn(&targeted)))
 }
 
 /// The site is retargeted.
@@ -158,20 +206,16 @@ fn site_is_retargeted<N: Name, R: Wait>(
     alloc: Global,
     running: &mut Running<N>,
 ) -> Result<(), Fail> {
-    let targeted = running.live.set_target(rt, 0, negation(alloc)?)?;
-    ensure(is_done(&targeted), "a retargeting")?;
-    learn_both(running, &targeted, 3)?;
+    let targeted = retarget(rt, alloc, running)?;
+    ensure(targeted == (true, 3), "a retargeting")?;
     call_gives(&mut running.second, 1, given(-1, 1, 3))
 }
 
 /// The plan is installed again, which skips the site.
 fn site_is_skipped<N: Name, R: Wait>(rt: &R, running: &mut Running<N>) -> Result<(), Fail> {
-    let installed = running.live.install(rt, 1)?;
-    ensure(
-        linkage(&installed) == Some(Linkage::Skipped),
-        "a site that is skipped",
-    )?;
-    learn_both(running, &installed, 4)?;
+    let installed = install(rt, running)?;
+    let skipped = (Some(Linkage::Skipped), 4);
+    ensure(installed == skipped, "a site that is skipped")?;
     call_gives(&mut running.first, 1, given(-1, 1, 4))?;
     call_gives(&mut running.second, 1, given(-1, 1, 4))
 }

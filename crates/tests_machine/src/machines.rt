@@ -2,25 +2,31 @@
 
 use crate::making::{limits, plain_site, tree_of, two_points};
 use mh_core::{Arguments, Book, Event, Machine, Refusal, Reply};
-use mh_site::{Definition, Listing};
+use mh_site::{Definition, Listing, Site};
 use mh_type::{Kind, Op, Outcome, Text, Value};
 use std::alloc::Global;
 use std::test::Fail;
 
-/// Two points, a site `f` that negates, and a site `g` that counts the bytes of a text.
-fn definition(alloc: Global) -> Result<Definition, Fail> {
-    let points = two_points(alloc)?;
+/// A site `f` that negates, and a site `g` that counts the bytes of a text.
+fn sites(alloc: Global) -> Result<Listing<Site>, Fail> {
     let mut sites = Vec::new(alloc);
     sites.push(plain_site(alloc, "f", Kind::Int, Op::Ineg)?)?;
     sites.push(plain_site(alloc, "g", Kind::Text, Op::Len)?)?;
-    let made = Definition::new(alloc, points, Listing::from_vec(sites))?;
+    Ok(Listing::from_vec(sites))
+}
+
+/// Two points and these sites.
+fn definition(alloc: Global) -> Result<Definition, Fail> {
+    let sites = sites(alloc)?;
+    let made = Definition::new(alloc, two_points(alloc)?, sites)?;
     Ok(made)
 }
 
 /// A machine of two workers.
 fn machine(alloc: Global, history: u64) -> Result<Machine, Fail> {
+    let limits = limits(history, 1, 0)?;
     let definition = definition(alloc)?;
-    Ok(Machine::open(alloc, &definition, 2, limits(history, 1, 0)?)?)
+    Ok(Machine::open(alloc, &definition, 2, limits)?)
 }
 
 /// A call with one argument.

@@ -4,7 +4,7 @@
 use crate::making::{limits, link, linked_site, two_points};
 use mh_cert::Plan;
 use mh_core::{Arguments, Event, Machine, Reply, SharedPlan};
-use mh_site::{Definition, Link, Listing};
+use mh_site::{Definition, Link, Listing, Site};
 use mh_tree::{Declared, Handle};
 use mh_type::{Kind, Op, Value};
 use std::alloc::Global;
@@ -35,23 +35,31 @@ fn links(alloc: Global) -> Result<Vec<Link>, Fail> {
     Ok(links)
 }
 
-/// The points and the site.
-fn definition(alloc: Global) -> Result<Definition, Fail> {
-    let points = two_points(alloc)?;
+/// The site.
+fn sites(alloc: Global) -> Result<Listing<Site>, Fail> {
     let mut sites = Vec::new(alloc);
     sites.push(linked_site(alloc, "f", target(alloc)?, links(alloc)?)?)?;
-    let made = Definition::new(alloc, points, Listing::from_vec(sites))?;
+    Ok(Listing::from_vec(sites))
+}
+
+/// The points and the site.
+fn definition(alloc: Global) -> Result<Definition, Fail> {
+    let sites = sites(alloc)?;
+    let made = Definition::new(alloc, two_points(alloc)?, sites)?;
     Ok(made)
 }
 
 /// Both links for three calls of the first and nine of the second: they gain 9 each, and their
 /// points cost 12.
 fn plan(alloc: Global) -> Result<SharedPlan, Fail> {
+    let links = Listing::from_vec(Vec::from_slice(alloc, &[0, 1])?);
+    let points = Listing::from_vec(Vec::from_slice(alloc, &[0, 1])?);
+    let flow = Listing::from_vec(Vec::from_slice(alloc, &[(0, 0, 5), (1, 1, 7)])?);
     let plan = Plan {
-        links: Listing::from_vec(Vec::from_slice(alloc, &[0, 1])?),
-        points: Listing::from_vec(Vec::from_slice(alloc, &[0, 1])?),
+        links,
+        points,
         value: 6,
-        flow: Listing::from_vec(Vec::from_slice(alloc, &[(0, 0, 5), (1, 1, 7)])?),
+        flow,
     };
     Ok(SharedPlan::new(alloc, plan)?)
 }
@@ -89,8 +97,9 @@ fn install(machine: &mut Machine, alloc: Global) -> Result<(), Fail> {
 
 /// A machine of one worker.
 fn machine(alloc: Global) -> Result<Machine, Fail> {
+    let limits = limits(99, 9, 9)?;
     let definition = definition(alloc)?;
-    Ok(Machine::open(alloc, &definition, 1, limits(99, 9, 9)?)?)
+    Ok(Machine::open(alloc, &definition, 1, limits)?)
 }
 
 /// Three calls with 1 and nine with 2, and the plan that pays for them.

@@ -32,13 +32,23 @@ pub(crate) fn example(alloc: Global) -> Result<Handle, Fail> {
     Ok(Handle::point(alloc, 0, &guard, &op(alloc, Op::Ineg)?)?)
 }
 
-/// The same with its code, where each part of a guard and of a point was prepared before.
+/// A handle with its code.
+fn prepared(handle: Handle) -> Result<Prepared, Fail> {
+    Ok(Prepared::new(&handle)?)
+}
+
+/// The guard of the example, each part of which was prepared before.
+fn prepared_guard(alloc: Global) -> Result<Prepared, Fail> {
+    let test = prepared(with_one(alloc, Op::Ieq)?)?;
+    let next = prepared(with_one(alloc, Op::Iadd)?)?;
+    let hundred = prepared(hundred(alloc)?)?;
+    Ok(Prepared::guard(alloc, &test, &hundred, &next)?)
+}
+
+/// The example with its code, where each part of its guard and of its point was prepared before.
 pub(crate) fn prepared_example(alloc: Global) -> Result<Prepared, Fail> {
-    let test = Prepared::new(&with_one(alloc, Op::Ieq)?)?;
-    let next = Prepared::new(&with_one(alloc, Op::Iadd)?)?;
-    let hundred = Prepared::new(&hundred(alloc)?)?;
-    let guard = Prepared::guard(alloc, &test, &hundred, &next)?;
-    let negation = Prepared::new(&op(alloc, Op::Ineg)?)?;
+    let guard = prepared_guard(alloc)?;
+    let negation = prepared(op(alloc, Op::Ineg)?)?;
     Ok(Prepared::point(alloc, 0, &guard, &negation)?)
 }
 
