@@ -1,11 +1,8 @@
 //! Calls of the site 0 with one whole number.
 
-ghost use Rattle.std.specs.Prelude.{◌≡◌};
-
-use mh_live::{Answer, CallFault, Live, Name, Opening, Pass, Receipt, Settled};
+use mh_live::{Answer, CallFault, Live, Name, Pass, Settled};
 use mh_type::{Outcome, Value};
 use std::sync::Wait;
-use std::test::Fail;
 
 /// What a call gave: a whole number, or None for any other outcome; the steps; and the number of
 /// controls.
@@ -68,39 +65,10 @@ pub(crate) fn sums<N: Name>(settled: &Settled<N>) -> Option<(u128, u64, u128)> {
     Some((settled.made(0), settled.total(0), settled.unflushed(0)))
 }
 
-/// Flushes a pass, and answers how long the list of its receipt is.
-pub(crate) fn flush<N: Name, R: Wait>(
-    rt: &R,
-    live: &Live<N>,
-    pass: &mut Pass<N>,
-) -> Result<u64, Fail> {
-    Ok(live.flush(rt, pass)?.front().len())
-}
-
-/// Learns a receipt, and answers how long its list is.
-pub(crate) fn learn<N: Name>(pass: &mut Pass<N>, receipt: &Receipt<N>) -> u64 {
-    pass.learn(receipt);
-    receipt.front().len()
-}
-
-/// Fails with what was expected, where it does not hold. A scenario ends so, and asserts nothing:
-/// each assertion beside passes that are owned makes the proof long.
-pub(crate) fn ensure(holds: bool, expected: &str) -> Result<(), Fail> {
-    if holds {
-        Ok(())
-    } else {
-        Err(Fail::from(expected))
-    }
-}
-
-/// An office and the last of its passes.
-pub(crate) fn open_one<N: Name>(opening: Opening) -> Result<(Live<N>, Pass<N>), Fail>
-    requires name { opening.name ≡ N.book }
-    requires definition { opening.definition ≡ N.definition }
-{
-    let (live, mut passes) = opening.open::<N>()?;
-    match passes.pop() {
-        Some(pass) => Ok((live, pass)),
-        None => Err(Fail::from("there is no pass")),
+/// Flushes a pass, and answers whether it is done and before any change.
+pub(crate) fn flush<N: Name, R: Wait>(rt: &R, live: &Live<N>, pass: &mut Pass<N>) -> bool {
+    match live.flush(rt, pass) {
+        Ok(receipt) => receipt.front().len() == 0,
+        Err(_) => false,
     }
 }

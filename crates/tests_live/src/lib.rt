@@ -8,9 +8,13 @@ mod calling;
 #[cfg(test)]
 mod definitions;
 #[cfg(test)]
+mod learning;
+#[cfg(test)]
 mod offices;
 #[cfg(test)]
 mod opened;
+#[cfg(test)]
+mod scenario;
 #[cfg(test)]
 mod settling;
 #[cfg(test)]

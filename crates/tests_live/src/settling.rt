@@ -2,7 +2,7 @@
 
 ghost use Rattle.std.specs.Prelude.{◌≡◌};
 
-use crate::calling::{call, ensure, flush, given, hits, sums};
+use crate::calling::{call, flush, given, sums};
 use crate::definitions::open_plain;
 use mh_live::{Live, Name, Opening, Pass, SettleFault, Settled, Unsettled};
 use std::alloc::Global;
@@ -10,32 +10,23 @@ use std::marker::Brand;
 use std::sync::Wait;
 use std::test::Fail;
 
-/// A call that hits the link.
-fn hit<N: Name>(pass: &mut Pass<N>) -> Result<(), Fail> {
-    let answer = call(pass, 1)?;
-    ensure(answer == given(-1, 1, 0), "-1 in one step")
+/// Calls so that the link is hit, and answers whether -1 came in one step.
+fn hit<N: Name>(pass: &mut Pass<N>) -> bool {
+    call(pass, 1) == Ok(given(-1, 1, 0))
 }
 
 /// Two calls that hit the link, a flush, and one more.
-fn work<N: Name, R: Wait>(rt: &R, live: &Live<N>, pass: &mut Pass<N>) -> Result<(), Fail> {
-    hit(pass)?;
-    hit(pass)?;
-    let front = flush(rt, live, pass)?;
-    ensure(front == 0, "a flush before any change")?;
-    hit(pass)
+fn work<N: Name, R: Wait>(rt: &R, live: &Live<N>, pass: &mut Pass<N>) -> bool {
+    hit(pass) && hit(pass) && flush(rt, live, pass) && hit(pass)
 }
 
-/// What comes back from a settlement that is refused.
-fn fail_to_settle<N: Name, R: Wait>(
-    rt: &R,
-    alloc: Global,
-    live: Live<N>,
-    passes: Vec<Pass<N>>,
-) -> Result<Unsettled<N>, Fail> {
-    match live.settle(rt, alloc, passes) {
-        Ok(_) => Err(Fail::from("it is settled")),
-        Err(unsettled) => Ok(unsettled),
+/// Each pass works.
+fn work_each<N: Name, R: Wait>(rt: &R, live: &Live<N>, passes: &mut Vec<Pass<N>>) -> bool {
+    let mut right = true;
+    for pass in passes.iter_mut() {
+        right = work(rt, live, pass) && right;
     }
+    right
 }
 
 /// What stands after a settlement.
@@ -51,103 +42,94 @@ fn settle<N: Name, R: Wait>(
     }
 }
 
-/// The hits of the link 0: made, flushed, and not flushed.
-type Sums = Option<(u128, u64, u128)>;
+/// The hits of the link 0, made, flushed and not flushed; how many changes there were; and how many
+/// records.
+type Counts = (Option<(u128, u64, u128)>, u64, usize);
 
-/// Each pass works.
-fn work_each<N: Name, R: Wait>(
-    rt: &R,
-    live: &Live<N>,
-    passes: &mut Vec<Pass<N>>,
-) -> Result<(), Fail> {
-    for pass in passes.iter_mut() {
-        work(rt, live, pass)?;
-    }
-    Ok(())
+fn counts<N: Name>(settled: &Settled<N>) -> Counts {
+    let (front, records) = (settled.front().len(), settled.book().records().len());
+    (sums(settled), front, records)
 }
 
-/// The sums after each pass worked, and how many records there are.
+/// Whether each pass works, and what is counted then.
 fn settles_all_hits<N: Name, R: Wait>(
     rt: &R,
     alloc: Global,
     opening: Opening,
-) -> Result<(Sums, usize), Fail>
+) -> Result<(bool, Counts), Fail>
     requires name { opening.name ≡ N.book }
     requires definition { opening.definition ≡ N.definition }
 {
     let (live, mut passes) = opening.open::<N>()?;
-    work_each(rt, &live, &mut passes)?;
+    let right = work_each(rt, &live, &mut passes);
     let settled = settle(rt, alloc, live, passes)?;
-    ensure(settled.front().len() == 0, "no change")?;
-    Ok((sums(&settled), settled.book().records().len()))
+    Ok((right, counts(&settled)))
 }
 
 #[test]
 fn all_hits_are_settled(rt: HostRuntime) -> Result<(), Fail> {
     let opening = open_plain(rt.alloc(), 3, 9, 9)?;
-    let (sums, records) = settles_all_hits::<Brand, _>(&rt, rt.alloc(), opening)?;
-    assert_eq!(rt; sums, Some((9, 6, 3)));
-    assert_eq!(rt; records, 3);
+    let told = settles_all_hits::<Brand, _>(&rt, rt.alloc(), opening)?;
+    assert_eq!(rt; told, (true, (Some((9, 6, 3)), 0, 3)));
     Ok(())
 }
 
-/// What a settlement without the last pass is refused with, and that pass.
-fn leave_one_out<N: Name, R: Wait>(
+/// Why a settlement without a pass is refused; how many passes come back; whether they work; and
+/// what is counted once the missing one has flushed and is there.
+type Late = (SettleFault, usize, bool, Counts);
+
+/// The passes that came back work, and that which was missing flushes: then all is settled.
+fn settle_with_all<N: Name, R: Wait>(
     rt: &R,
     alloc: Global,
-    opening: Opening,
-) -> Result<(Unsettled<N>, Pass<N>), Fail>
+    unsettled: Unsettled<N>,
+    mut missing: Pass<N>,
+) -> Result<Late, Fail> {
+    let Unsettled {
+        live,
+        mut passes,
+        fault,
+    } = unsettled;
+    let back = passes.len();
+    let right = flush(rt, &live, &mut missing) && work_each(rt, &live, &mut passes);
+    // Where there is no room for it, the settlement misses it again.
+    let _kept = passes.push(missing);
+    let settled = settle(rt, alloc, live, passes)?;
+    Ok((fault, back, right, counts(&settled)))
+}
+
+/// What comes of a settlement without a pass that has worked.
+fn settle_without<N: Name, R: Wait>(
+    rt: &R,
+    alloc: Global,
+    live: Live<N>,
+    passes: Vec<Pass<N>>,
+    mut missing: Pass<N>,
+) -> Result<Late, Fail> {
+    let _right = work(rt, &live, &mut missing);
+    match live.settle(rt, alloc, passes) {
+        Ok(_) => Err(Fail::from("it is settled")),
+        Err(unsettled) => settle_with_all(rt, alloc, unsettled, missing),
+    }
+}
+
+fn settles_late<N: Name, R: Wait>(rt: &R, alloc: Global, opening: Opening) -> Result<Late, Fail>
     requires name { opening.name ≡ N.book }
     requires definition { opening.definition ≡ N.definition }
 {
     let (live, mut passes) = opening.open::<N>()?;
-    let mut kept = passes.pop().ok_or("there is no pass")?;
-    work(rt, &live, &mut kept)?;
-    let unsettled = fail_to_settle(rt, alloc, live, passes)?;
-    Ok((unsettled, kept))
-}
-
-/// The pass that came back works, and that which was missing flushes: then all is settled.
-fn works_and_settles<N: Name, R: Wait>(
-    rt: &R,
-    alloc: Global,
-    unsettled: Unsettled<N>,
-    mut kept: Pass<N>,
-) -> Result<Sums, Fail> {
-    let Unsettled {
-        live,
-        mut passes,
-        fault: _,
-    } = unsettled;
-    work_each(rt, &live, &mut passes)?;
-    flush(rt, &live, &mut kept)?;
-    ensure(hits(&kept) == Some((0, 3)), "three hits that are flushed")?;
-    passes.push(kept)?;
-    let settled = settle(rt, alloc, live, passes)?;
-    Ok(sums(&settled))
-}
-
-/// Why a settlement without a pass is refused, how many passes come back, and the sums when it is
-/// there.
-fn settles_with_all<N: Name, R: Wait>(
-    rt: &R,
-    alloc: Global,
-    opening: Opening,
-) -> Result<(SettleFault, usize, Sums), Fail>
-    requires name { opening.name ≡ N.book }
-    requires definition { opening.definition ≡ N.definition }
-{
-    let (unsettled, kept) = leave_one_out::<N, R>(rt, alloc, opening)?;
-    let (fault, back) = (unsettled.fault, unsettled.passes.len());
-    Ok((fault, back, works_and_settles(rt, alloc, unsettled, kept)?))
+    match passes.pop() {
+        Some(missing) => settle_without(rt, alloc, live, passes, missing),
+        None => Err(Fail::from("there is no pass")),
+    }
 }
 
 #[test]
 fn a_missing_pass_is_told_and_all_is_back(rt: HostRuntime) -> Result<(), Fail> {
     let opening = open_plain(rt.alloc(), 2, 9, 9)?;
-    let (fault, back, sums) = settles_with_all::<Brand, _>(&rt, rt.alloc(), opening)?;
+    let (fault, back, right, counts) = settles_late::<Brand, _>(&rt, rt.alloc(), opening)?;
     assert_eq!(rt; (fault, fault.number()), (SettleFault::MissingPass, 2));
-    assert_eq!(rt; back, 1);
-    assert_eq!(rt; sums, Some((6, 5, 1)));
+    assert_eq!(rt; (back, right), (1, true));
+    assert_eq!(rt; counts, (Some((6, 5, 1)), 0, 3));
     Ok(())
 }

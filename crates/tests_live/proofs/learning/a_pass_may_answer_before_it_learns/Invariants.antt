@@ -1,4 +1,4 @@
-use Rattle.tests_live.proofs.offices.a_pass_may_answer_before_it_learns.Given as goal
+use Rattle.tests_live.proofs.learning.a_pass_may_answer_before_it_learns.Given as goal
 
 -- the list and the definition that were just opened
 abbrev pub ghosts-calls_around_a_receipt : goal.ghosts-calls_around_a_receipt

@@ -1,0 +1,5 @@
+use Rattle.tests_live.proofs.scenario.play.Given as goal
+
+-- the list and the definition that were just opened
+abbrev pub ghosts-play_named : goal.ghosts-play_named
+ghosts-play_named g a = record { book = a.opening.name; definition = a.opening.definition }

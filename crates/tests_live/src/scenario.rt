@@ -1,0 +1,368 @@
+//! Scenarios: what an office and its passes are asked one after another, and what each tells.
+
+ghost use Rattle.std.specs.Prelude.{◌≡◌};
+
+use crate::calling::hits;
+use crate::definitions::{negation, successor, sum};
+use mh_base::Listing;
+use mh_cert::Plan;
+use mh_core::{Refusal, SharedPlan};
+use mh_live::{Declared, Live, Name, Opening, Pass, Receipt};
+use mh_plan::{OpenGate, plan};
+use mh_type::Value;
+use std::alloc::Global;
+use std::marker::Brand;
+use std::sync::Wait;
+use std::test::Fail;
+use std::thread::Threads;
+
+/// A tree that a site is given.
+#[derive(Clone, Copy)]
+pub(crate) enum Tree {
+    /// The argument negated: 1 step.
+    Negation,
+    /// One more than the argument: 2 steps.
+    Successor,
+    /// A tree of the type (int,int)int.
+    Sum,
+}
+
+/// What is asked. Passes, sites, points and receipts are numbered from 0, snapshots and plans from
+/// 1.
+#[derive(Clone, Copy)]
+pub(crate) enum Step {
+    /// A pass calls the site 0 with an int.
+    Call(usize, i32),
+    /// A pass calls a site with no argument.
+    CallBare(usize, usize),
+    /// What a pass counts of the link 0.
+    Count(usize),
+    /// A pass is flushed.
+    Flush(usize),
+    /// A site gets a tree.
+    Target(usize, Tree),
+    /// The site 0 gets a tree by the office that is lent.
+    TargetByOffice(Tree),
+    /// A point becomes invalid.
+    Invalidate(u32),
+    /// A snapshot is taken.
+    Snapshot,
+    /// The problem of a snapshot is asked for.
+    Problem(usize),
+    /// The planner's plan of a snapshot is published.
+    Plan(usize),
+    /// The link 0, without a point, is published for a snapshot with this value.
+    Publish(usize, i64),
+    /// A plan is installed.
+    Install(usize),
+    /// A pass learns a receipt.
+    Learn(usize, usize),
+    /// Each pass learns the last receipt.
+    LearnAll,
+}
+
+/// An office with its passes, and the receipts of what it accepted.
+#[derive(Drop)]
+struct Running<N: Name> {
+    live: Live<N>,
+    passes: Vec<Pass<N>>,
+    receipts: Vec<Receipt<N>>,
+}
+
+fn tree_of(alloc: Global, tree: &Tree) -> Result<Declared, Fail> {
+    match tree {
+        Tree::Negation => negation(alloc),
+        Tree::Successor => successor(alloc),
+        Tree::Sum => sum(alloc),
+    }
+}
+
+/// The pass at a place.
+fn pass_at<N: Name>(passes: &mut Vec<Pass<N>>, place: usize) -> Result<&mut Pass<N>, Fail> {
+    match passes.get_mut(place) {
+        Some(pass) => Ok(pass),
+        None => Err(Fail::from("there is no such pass")),
+    }
+}
+
+/// What a call gives, its steps, and the number of changes by whose world it is answered.
+fn call<N: Name>(
+    alloc: Global,
+    pass: &mut Pass<N>,
+    site: usize,
+    arguments: &[Value],
+) -> Result<String, Fail> {
+    match pass.call(site, arguments) {
+        Ok(answer) => {
+            let (steps, front) = (answer.steps, answer.front);
+            Ok(format!(in alloc; "{}, steps {steps}, front {front}", answer.outcome)?)
+        }
+        Err(fault) => Ok(format!(in alloc; "refused {fault}")?),
+    }
+}
+
+/// Which pass it is, the hits of the link 0, and how many changes it has seen.
+fn count<N: Name>(alloc: Global, pass: &Pass<N>) -> Result<String, Fail> {
+    let Some((unflushed, made)) = hits(pass) else {
+        return Err(Fail::from("there is no link"));
+    };
+    let (worker, front) = (pass.worker(), pass.front().len());
+    Ok(format!(in alloc; "worker {worker}, unflushed {unflushed} of {made}, front {front}")?)
+}
+
+/// What a receipt says.
+fn read<N: Name>(alloc: Global, receipt: &Receipt<N>) -> Result<String, Fail> {
+    let front = receipt.front().len();
+    Ok(format!(in alloc; "{}, front {front}", receipt.reply())?)
+}
+
+/// Keeps the receipt of an event that was accepted, and answers what it says.
+fn keep<N: Name>(
+    alloc: Global,
+    receipts: &mut Vec<Receipt<N>>,
+    receipt: Receipt<N>,
+) -> Result<String, Fail> {
+    receipts.push(receipt)?;
+    match receipts.last() {
+        Some(receipt) => read(alloc, receipt),
+        None => Err(Fail::from("there is no receipt")),
+    }
+}
+
+/// Keeps the receipt of an event, and answers what it says, or why there is none.
+fn keep_or_tell<N: Name>(
+    alloc: Global,
+    receipts: &mut Vec<Receipt<N>>,
+    told: Result<Receipt<N>, Refusal>,
+) -> Result<String, Fail> {
+    match told {
+        Ok(receipt) => keep(alloc, receipts, receipt),
+        Err(refusal) => Ok(format!(in alloc; "refused {refusal}")?),
+    }
+}
+
+/// The link 0, no point, and this value.
+fn one_link(alloc: Global, value: i64) -> Result<SharedPlan, Fail> {
+    let plan = Plan {
+        links: Listing::from_vec(Vec::from_slice(alloc, &[0])?),
+        points: Listing::from_vec(Vec::new(alloc)),
+        value,
+        flow: Listing::from_vec(Vec::new(alloc)),
+    };
+    Ok(SharedPlan::new(alloc, plan)?)
+}
+
+/// The planner's plan of a snapshot.
+fn planned<N: Name, R: Wait + Threads + Sync>(
+    rt: &R,
+    alloc: Global,
+    live: &Live<N>,
+    snapshot: usize,
+) -> Result<SharedPlan, Fail> {
+    let problem = live.problem(rt, snapshot)?;
+    Ok(SharedPlan::new(alloc, plan(rt, alloc, &problem, 1, &OpenGate)?)?)
+}
+
+/// How many links the problem of a snapshot has.
+fn problem<N: Name, R: Wait>(
+    rt: &R,
+    alloc: Global,
+    live: &Live<N>,
+    snapshot: usize,
+) -> Result<String, Fail> {
+    match live.problem(rt, snapshot) {
+        Ok(problem) => Ok(format!(in alloc; "links {}", problem.links())?),
+        Err(refusal) => Ok(format!(in alloc; "refused {refusal}")?),
+    }
+}
+
+/// Retargets the site 0 by the office that is lent: whether it is closed then, and how many changes
+/// it counts.
+fn target_by_office<N: Name, R: Wait>(
+    rt: &R,
+    alloc: Global,
+    live: &Live<N>,
+    tree: Declared,
+) -> Result<String, Fail> {
+    let mut office = live.office(rt);
+    office.target(rt, 0, tree)?;
+    let (closed, front) = (office.closed(), office.front().len());
+    Ok(format!(in alloc; "closed {closed}, front {front}")?)
+}
+
+/// A point becomes invalid.
+fn invalidate<N: Name, R: Wait>(
+    rt: &R,
+    alloc: Global,
+    running: &mut Running<N>,
+    point: u32,
+) -> Result<String, Fail> {
+    let points = Listing::from_vec(Vec::from_slice(alloc, &[point])?);
+    let told = running.live.invalidate(rt, points);
+    keep_or_tell(alloc, &mut running.receipts, told)
+}
+
+/// A site gets a tree.
+fn target<N: Name, R: Wait>(
+    rt: &R,
+    alloc: Global,
+    running: &mut Running<N>,
+    site: usize,
+    tree: &Tree,
+) -> Result<String, Fail> {
+    let tree = tree_of(alloc, tree)?;
+    let told = running.live.set_target(rt, site, tree);
+    keep_or_tell(alloc, &mut running.receipts, told)
+}
+
+/// A plan is published for a snapshot.
+fn publish<N: Name, R: Wait>(
+    rt: &R,
+    alloc: Global,
+    running: &mut Running<N>,
+    snapshot: usize,
+    plan: SharedPlan,
+) -> Result<String, Fail> {
+    let told = running.live.publish(rt, snapshot, plan);
+    keep_or_tell(alloc, &mut running.receipts, told)
+}
+
+/// A pass is flushed.
+fn flush<N: Name, R: Wait>(
+    rt: &R,
+    alloc: Global,
+    running: &mut Running<N>,
+    pass: usize,
+) -> Result<String, Fail> {
+    let pass = pass_at(&mut running.passes, pass)?;
+    match running.live.flush(rt, pass) {
+        Ok(receipt) => keep(alloc, &mut running.receipts, receipt),
+        Err(fault) => Ok(format!(in alloc; "refused {fault}")?),
+    }
+}
+
+/// A pass learns a receipt.
+fn learn<N: Name>(
+    alloc: Global,
+    running: &mut Running<N>,
+    pass: usize,
+    receipt: usize,
+) -> Result<String, Fail> {
+    let Some(receipt) = running.receipts.get(receipt) else {
+        return Err(Fail::from("there is no such receipt"));
+    };
+    let pass = pass_at(&mut running.passes, pass)?;
+    pass.learn(receipt);
+    Ok(format!(in alloc; "front {}", pass.front().len())?)
+}
+
+/// Each pass learns the last receipt.
+fn learn_all<N: Name>(alloc: Global, running: &mut Running<N>) -> Result<String, Fail> {
+    let Some(receipt) = running.receipts.last() else {
+        return Err(Fail::from("there is no receipt"));
+    };
+    for pass in running.passes.iter_mut() {
+        pass.learn(receipt);
+    }
+    Ok(format!(in alloc; "front {}", receipt.front().len())?)
+}
+
+/// Asks, and answers what is told.
+fn ask<N: Name, R: Wait + Threads + Sync>(
+    rt: &R,
+    alloc: Global,
+    running: &mut Running<N>,
+    step: &Step,
+) -> Result<String, Fail> {
+    match step {
+        Step::Call(pass, argument) => {
+            let pass = pass_at(&mut running.passes, *pass)?;
+            call(alloc, pass, 0, &[Value::Int(*argument)])
+        }
+        Step::CallBare(pass, site) => call(alloc, pass_at(&mut running.passes, *pass)?, *site, &[]),
+        Step::Count(pass) => count(alloc, pass_at(&mut running.passes, *pass)?),
+        Step::Flush(pass) => flush(rt, alloc, running, *pass),
+        Step::Learn(pass, receipt) => learn(alloc, running, *pass, *receipt),
+        Step::LearnAll => learn_all(alloc, running),
+        _ => ask_office(rt, alloc, running, step),
+    }
+}
+
+/// Asks the office.
+fn ask_office<N: Name, R: Wait + Threads + Sync>(
+    rt: &R,
+    alloc: Global,
+    running: &mut Running<N>,
+    step: &Step,
+) -> Result<String, Fail> {
+    match step {
+        Step::Target(site, tree) => target(rt, alloc, running, *site, tree),
+        Step::TargetByOffice(tree) => {
+            target_by_office(rt, alloc, &running.live, tree_of(alloc, tree)?)
+        }
+        Step::Invalidate(point) => invalidate(rt, alloc, running, *point),
+        Step::Problem(snapshot) => problem(rt, alloc, &running.live, *snapshot),
+        Step::Plan(snapshot) => {
+            let plan = planned(rt, alloc, &running.live, *snapshot)?;
+            publish(rt, alloc, running, *snapshot, plan)
+        }
+        Step::Publish(snapshot, value) => {
+            publish(rt, alloc, running, *snapshot, one_link(alloc, *value)?)
+        }
+        Step::Install(plan) => {
+            let told = running.live.install(rt, *plan);
+            keep_or_tell(alloc, &mut running.receipts, told)
+        }
+        _ => {
+            let told = running.live.snapshot(rt);
+            keep_or_tell(alloc, &mut running.receipts, told)
+        }
+    }
+}
+
+/// Asks all, and answers how many steps told what stands beside them, which are all of them: fails
+/// with what the first tells that does not.
+fn ask_all<N: Name, R: Wait + Threads + Sync>(
+    rt: &R,
+    alloc: Global,
+    running: &mut Running<N>,
+    table: &[(Step, &str)],
+) -> Result<usize, Fail> {
+    for (step, wanted) in table {
+        let told = ask(rt, alloc, running, step)?;
+        if told.as_str() != *wanted {
+            return Err(Fail::from(format!(in alloc; "{told}, where {wanted} was to come")?));
+        }
+    }
+    Ok(table.len())
+}
+
+/// Plays the scenario under a name.
+fn play_named<N: Name, R: Wait + Threads + Sync>(
+    rt: &R,
+    alloc: Global,
+    opening: Opening,
+    table: &[(Step, &str)],
+) -> Result<usize, Fail>
+    requires name { opening.name ≡ N.book }
+    requires definition { opening.definition ≡ N.definition }
+{
+    let (live, passes) = opening.open::<N>()?;
+    let mut running = Running {
+        live,
+        passes,
+        receipts: Vec::new(alloc),
+    };
+    ask_all(rt, alloc, &mut running, table)
+}
+
+/// Asks an office that is just opened, and its passes, what the table has, and answers how many
+/// steps told what stands beside them: all, or it fails with what the first tells that does not.
+pub(crate) fn play<R: Wait + Threads + Sync>(
+    rt: &R,
+    alloc: Global,
+    opening: Opening,
+    table: &[(Step, &str)],
+) -> Result<usize, Fail> {
+    play_named::<Brand, _>(rt, alloc, opening, table)
+}
