@@ -28,7 +28,9 @@ fn definition(alloc: Global) -> Result<Definition, Fail> {
 
 /// A book of one worker, and its ledger.
 fn open(alloc: Global) -> Result<(Book, Ledger), Fail> {
-    let (book, mut ledgers) = Book::open(alloc, &definition(alloc)?, 1, limits(9, 9, 9)?)?;
+    let limits = limits(9, 9, 9)?;
+    let definition = definition(alloc)?;
+    let (book, mut ledgers) = Book::open(alloc, &definition, 1, limits)?;
     match ledgers.pop() {
         Some(ledger) => Ok((book, ledger)),
         None => Err(Fail::from("there is no ledger")),
@@ -122,22 +124,48 @@ fn open_with_a_snapshot(alloc: Global) -> Result<Book, Fail> {
     Ok(book)
 }
 
-/// What a book answers to a plan of a wrong value, to the right one, and to this for a snapshot
-/// that was not taken.
-fn answers_to_plans(alloc: Global) -> Result<[Result<usize, Refusal>; 3], Fail> {
+/// What a book answers to the plan of this value for a snapshot.
+fn offer(
+    book: &mut Book,
+    alloc: Global,
+    snapshot: usize,
+    value: i64,
+) -> Result<Result<usize, Refusal>, Fail> {
+    Ok(book.publish(snapshot, plan(alloc, value)?))
+}
+
+/// What it answers to a plan of a wrong value, to the right one, and to that for a snapshot that
+/// was not taken.
+fn answers_to_plans(book: &mut Book, alloc: Global) -> Result<[Result<usize, Refusal>; 3], Fail> {
+    Ok([
+        offer(book, alloc, 1, 2)?,
+        offer(book, alloc, 1, 1)?,
+        offer(book, alloc, 2, 1)?,
+    ])
+}
+
+fn answers_after_a_snapshot(alloc: Global) -> Result<[Result<usize, Refusal>; 3], Fail> {
     let mut book = open_with_a_snapshot(alloc)?;
-    let wrong = book.publish(1, plan(alloc, 2)?);
-    let offered = plan(alloc, 1)?;
-    let right = book.publish(1, offered.share()?);
-    Ok([wrong, right, book.publish(2, offered)])
+    answers_to_plans(&mut book, alloc)
 }
 
 #[test]
 fn a_plan_that_matches_is_published(rt: HostRuntime) -> Result<(), Fail> {
     let wrong = Refusal::PlanRefused(CheckFault::ValueWrong);
-    let answers = answers_to_plans(rt.alloc())?;
+    let answers = answers_after_a_snapshot(rt.alloc())?;
     assert_eq!(rt; answers, [Err(wrong), Ok(1), Err(Refusal::NoSnapshot)]);
-    assert_eq!(rt; plan(rt.alloc(), 1)?.plan().value, 1);
+    Ok(())
+}
+
+/// The value of a plan by a further owner, once the first is gone.
+fn shared_value(alloc: Global) -> Result<i64, Fail> {
+    let plan = plan(alloc, 1)?;
+    Ok(plan.share()?.plan().value)
+}
+
+#[test]
+fn a_plan_has_further_owners(rt: HostRuntime) -> Result<(), Fail> {
+    assert_eq!(rt; shared_value(rt.alloc())?, 1);
     Ok(())
 }
 

@@ -19,27 +19,26 @@ fn define(alloc: Global, sites: Vec<Site>) -> Result<Definition, Fail> {
 
 /// A link for 1 that needs the point 0, and one for 2 that needs both.
 fn two_links(alloc: Global) -> Result<Vec<Link>, Fail> {
-    let mut links = Vec::new(alloc);
-    links.push(link(alloc, 1, 3, &[0])?)?;
-    links.push(link(alloc, 2, 1, &[1, 0])?)?;
-    Ok(links)
+    let first = link(alloc, 1, 3, &[0])?;
+    let second = link(alloc, 2, 1, &[1, 0])?;
+    Ok(vec![in alloc; first, second]?)
 }
 
 /// A link for 1 that needs the point 0.
 fn one_link(alloc: Global) -> Result<Vec<Link>, Fail> {
-    let mut links = Vec::new(alloc);
-    links.push(link(alloc, 1, 3, &[0])?)?;
-    Ok(links)
+    Ok(vec![in alloc; link(alloc, 1, 3, &[0])?]?)
+}
+
+/// A site of the negation with these links.
+fn negating_site(alloc: Global, name: &str, links: Vec<Link>) -> Result<Site, Fail> {
+    linked_site(alloc, name, tree_of(alloc, Op::Ineg)?, links)
 }
 
 /// A site with two links, and one with one.
 fn two_linked_sites(alloc: Global) -> Result<Definition, Fail> {
-    let mut sites = Vec::new(alloc);
-    let target = tree_of(alloc, Op::Ineg)?;
-    sites.push(linked_site(alloc, "f", target, two_links(alloc)?)?)?;
-    let target = tree_of(alloc, Op::Ineg)?;
-    sites.push(linked_site(alloc, "g", target, one_link(alloc)?)?)?;
-    define(alloc, sites)
+    let first = negating_site(alloc, "f", two_links(alloc)?)?;
+    let second = negating_site(alloc, "g", one_link(alloc)?)?;
+    define(alloc, vec![in alloc; first, second]?)
 }
 
 /// Whether the first site's links need these points.
@@ -104,9 +103,10 @@ fn links_are_numbered_site_by_site(rt: HostRuntime) -> Result<(), Fail> {
 
 /// One site without links.
 fn one_plain_site(alloc: Global) -> Result<Definition, Fail> {
-    let mut sites = Vec::new(alloc);
-    sites.push(plain_site(alloc, "f", Kind::Int, Op::Ineg)?)?;
-    define(alloc, sites)
+    define(
+        alloc,
+        vec![in alloc; plain_site(alloc, "f", Kind::Int, Op::Ineg)?]?,
+    )
 }
 
 /// How many of the two points are valid first, and after an invalidation of the second and a
@@ -155,9 +155,7 @@ fn is_relinking(relinking: &Relinking) -> bool {
 
 /// Whether an installation has the relinking that it was made of, and the front after it.
 fn installation(alloc: Global) -> Result<(bool, u64), Fail> {
-    let mut changes = Vec::new(alloc);
-    changes.push(relink(alloc)?)?;
-    let installation = Installation::new(changes);
+    let installation = Installation::new(vec![in alloc; relink(alloc)?]?);
     let whole = match installation.as_slice() {
         [relinking] => is_relinking(relinking),
         _ => false,

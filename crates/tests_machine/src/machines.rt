@@ -9,17 +9,16 @@ use std::test::Fail;
 
 /// A site `f` that negates, and a site `g` that counts the bytes of a text.
 fn sites(alloc: Global) -> Result<Listing<Site>, Fail> {
-    let mut sites = Vec::new(alloc);
-    sites.push(plain_site(alloc, "f", Kind::Int, Op::Ineg)?)?;
-    sites.push(plain_site(alloc, "g", Kind::Text, Op::Len)?)?;
-    Ok(Listing::from_vec(sites))
+    let first = plain_site(alloc, "f", Kind::Int, Op::Ineg)?;
+    let second = plain_site(alloc, "g", Kind::Text, Op::Len)?;
+    Ok(Listing::from_vec(vec![in alloc; first, second]?))
 }
 
 /// Two points and these sites.
 fn definition(alloc: Global) -> Result<Definition, Fail> {
+    let points = two_points(alloc)?;
     let sites = sites(alloc)?;
-    let made = Definition::new(alloc, two_points(alloc)?, sites)?;
-    Ok(made)
+    Ok(Definition::new(alloc, points, sites)?)
 }
 
 /// A machine of two workers.
@@ -115,17 +114,15 @@ fn int_at(values: &[Value], place: usize) -> Option<i32> {
 
 /// Three ints as arguments.
 fn three(alloc: Global) -> Result<Arguments, Fail> {
-    let mut values = Vec::new(alloc);
-    values.push(Value::Int(5))?;
-    values.push(Value::Int(6))?;
-    values.push(Value::Int(7))?;
+    let values = vec![in alloc; Value::Int(5), Value::Int(6), Value::Int(7)]?;
     Ok(Arguments::from_vec(values))
 }
 
 /// What three, two, one and no arguments are.
 fn lists_of_arguments(alloc: Global) -> Result<[[Option<i32>; 3]; 4], Fail> {
+    let three = three(alloc)?;
     Ok([
-        ints(&three(alloc)?),
+        ints(&three),
         ints(&Arguments::two(Value::Int(1), Value::Int(2))),
         ints(&Arguments::one(Value::Int(1))),
         ints(&Arguments::none()),
@@ -152,12 +149,20 @@ fn four_calls(alloc: Global) -> Result<Vec<Event>, Fail> {
     Ok(events)
 }
 
-/// The refusals of four calls where two events fill the history, and whether it is full then.
-fn refusals_of_a_full_history(alloc: Global) -> Result<([Option<Refusal>; 4], bool), Fail> {
-    let mut machine = machine(alloc, 2)?;
-    let replies = machine.run(four_calls(alloc)?)?;
+/// The refusals of four calls, and whether the history is full then.
+type Refused = ([Option<Refusal>; 4], bool);
+
+fn refusals_of_four(machine: &mut Machine, alloc: Global) -> Result<Refused, Fail> {
+    let events = four_calls(alloc)?;
+    let replies = machine.run(events)?;
     let full = machine.book().is_full(machine.calls());
     Ok((refusals(replies.as_slice()), full))
+}
+
+/// Where two events fill the history.
+fn refusals_of_a_full_history(alloc: Global) -> Result<Refused, Fail> {
+    let mut machine = machine(alloc, 2)?;
+    refusals_of_four(&mut machine, alloc)
 }
 
 #[test]
@@ -171,7 +176,9 @@ fn a_full_history_is_tested_last(rt: HostRuntime) -> Result<(), Fail> {
 
 /// A book of one worker with room for three records.
 fn book(alloc: Global) -> Result<Book, Fail> {
-    let (book, _) = Book::open(alloc, &definition(alloc)?, 1, limits(3, 1, 0)?)?;
+    let limits = limits(3, 1, 0)?;
+    let definition = definition(alloc)?;
+    let (book, _) = Book::open(alloc, &definition, 1, limits)?;
     Ok(book)
 }
 
@@ -182,10 +189,15 @@ fn keeps_its_parts(book: &Book) -> bool {
         && matches!(book.world().valid(), [false, true])
 }
 
-/// What a book answers to a retargeting of no site, to one of a site, and to an invalidation.
+/// What a book answers to a retargeting of a site to the negation.
+fn target(book: &mut Book, alloc: Global, site: usize) -> Result<Result<(), Refusal>, Fail> {
+    Ok(book.target(site, tree_of(alloc, Op::Ineg)?))
+}
+
+/// What it answers to one of no site, to one of a site, and to an invalidation.
 fn changes(book: &mut Book, alloc: Global) -> Result<[Result<(), Refusal>; 3], Fail> {
-    let refused = book.target(2, tree_of(alloc, Op::Ineg)?);
-    let targeted = book.target(0, tree_of(alloc, Op::Ineg)?);
+    let refused = target(book, alloc, 2)?;
+    let targeted = target(book, alloc, 0)?;
     let points = Listing::from_vec(Vec::from_slice(alloc, &[0])?);
     Ok([refused, targeted, book.invalidate(points)])
 }
@@ -200,10 +212,16 @@ fn room(book: &Book) -> Option<usize> {
 }
 
 /// What a book answers to three changes, and how many records it has then.
-fn changes_of_a_book(alloc: Global) -> Result<([Result<(), Refusal>; 3], Option<usize>), Fail> {
+type Changes = ([Result<(), Refusal>; 3], Option<usize>);
+
+fn changes_and_room(book: &mut Book, alloc: Global) -> Result<Changes, Fail> {
+    let answers = changes(book, alloc)?;
+    Ok((answers, room(book)))
+}
+
+fn changes_of_a_book(alloc: Global) -> Result<Changes, Fail> {
     let mut book = book(alloc)?;
-    let answers = changes(&mut book, alloc)?;
-    Ok((answers, room(&book)))
+    changes_and_room(&mut book, alloc)
 }
 
 #[test]

@@ -21,10 +21,9 @@ fn point(alloc: Global, name: &str, cost: u64) -> Result<Point, Fail> {
 
 /// The points `a` of cost 5 and `b` of cost 7.
 pub(crate) fn two_points(alloc: Global) -> Result<Listing<Point>, Fail> {
-    let mut points = Vec::new(alloc);
-    points.push(point(alloc, "a", 5)?)?;
-    points.push(point(alloc, "b", 7)?)?;
-    Ok(Listing::from_vec(points))
+    let first = point(alloc, "a", 5)?;
+    let second = point(alloc, "b", 7)?;
+    Ok(Listing::from_vec(vec![in alloc; first, second]?))
 }
 
 /// The calls with this key gain so much each, and need these points.

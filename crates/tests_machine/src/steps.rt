@@ -5,61 +5,74 @@ use crate::making::{limits, link, linked_site, two_points};
 use mh_cert::Plan;
 use mh_core::{Arguments, Event, Machine, Reply, SharedPlan};
 use mh_site::{Definition, Link, Listing, Site};
-use mh_tree::{Declared, Handle};
+use mh_tree::{Declared, Handle, TreeFault};
 use mh_type::{Kind, Op, Value};
 use std::alloc::Global;
 use std::test::Fail;
 
 /// An operation behind the argument 1.
-fn with_one(alloc: Global, op: Op) -> Result<Handle, Fail> {
-    let mut one = Vec::new(alloc);
-    one.push(Value::Int(1))?;
-    Ok(Handle::insert(alloc, &Handle::op(alloc, op)?, 1, &one)?)
+fn with_one(alloc: Global, op: Op) -> Result<Handle, TreeFault> {
+    let handle = Handle::op(alloc, op)?;
+    Handle::insert(alloc, &handle, 1, &[Value::Int(1)])
 }
 
-/// While the point 0 is valid, 100 for 1 and one more for any other; else the argument negated.
-fn target(alloc: Global) -> Result<Declared, Fail> {
+/// 100, whatever the argument.
+fn hundred(alloc: Global) -> Result<Handle, TreeFault> {
     let hundred = Handle::constant(alloc, &Value::Int(100))?;
-    let hundred = Handle::drop(alloc, &hundred, 0, &[Kind::Int])?;
-    let equal = with_one(alloc, Op::Ieq)?;
-    let guard = Handle::guard(alloc, &equal, &hundred, &with_one(alloc, Op::Iadd)?)?;
-    let point = Handle::point(alloc, 0, &guard, &Handle::op(alloc, Op::Ineg)?)?;
-    Ok(Declared::new(&point)?)
+    Handle::drop(alloc, &hundred, 0, &[Kind::Int])
+}
+
+/// 100 for 1, and one more for any other.
+fn guarded(alloc: Global) -> Result<Handle, TreeFault> {
+    let test = with_one(alloc, Op::Ieq)?;
+    let next = with_one(alloc, Op::Iadd)?;
+    let hundred = hundred(alloc)?;
+    Handle::guard(alloc, &test, &hundred, &next)
+}
+
+/// The guard while the point 0 is valid; else the argument negated.
+fn pointed(alloc: Global) -> Result<Handle, TreeFault> {
+    let guard = guarded(alloc)?;
+    let negation = Handle::op(alloc, Op::Ineg)?;
+    Handle::point(alloc, 0, &guard, &negation)
+}
+
+fn target(alloc: Global) -> Result<Declared, Fail> {
+    let handle = pointed(alloc)?;
+    Ok(Declared::new(&handle)?)
 }
 
 /// A link for 1 that needs the point 0, and one for 2 that needs both.
 fn links(alloc: Global) -> Result<Vec<Link>, Fail> {
-    let mut links = Vec::new(alloc);
-    links.push(link(alloc, 1, 3, &[0])?)?;
-    links.push(link(alloc, 2, 1, &[0, 1])?)?;
-    Ok(links)
+    let first = link(alloc, 1, 3, &[0])?;
+    let second = link(alloc, 2, 1, &[0, 1])?;
+    Ok(vec![in alloc; first, second]?)
 }
 
 /// The site.
-fn sites(alloc: Global) -> Result<Listing<Site>, Fail> {
-    let mut sites = Vec::new(alloc);
-    sites.push(linked_site(alloc, "f", target(alloc)?, links(alloc)?)?)?;
-    Ok(Listing::from_vec(sites))
+fn site(alloc: Global) -> Result<Site, Fail> {
+    let links = links(alloc)?;
+    linked_site(alloc, "f", target(alloc)?, links)
 }
 
 /// The points and the site.
 fn definition(alloc: Global) -> Result<Definition, Fail> {
-    let sites = sites(alloc)?;
-    let made = Definition::new(alloc, two_points(alloc)?, sites)?;
-    Ok(made)
+    let points = two_points(alloc)?;
+    let sites = vec![in alloc; site(alloc)?]?;
+    Ok(Definition::new(alloc, points, Listing::from_vec(sites))?)
 }
 
 /// Both links for three calls of the first and nine of the second: they gain 9 each, and their
 /// points cost 12.
 fn plan(alloc: Global) -> Result<SharedPlan, Fail> {
-    let links = Listing::from_vec(Vec::from_slice(alloc, &[0, 1])?);
-    let points = Listing::from_vec(Vec::from_slice(alloc, &[0, 1])?);
-    let flow = Listing::from_vec(Vec::from_slice(alloc, &[(0, 0, 5), (1, 1, 7)])?);
+    let links = Vec::from_slice(alloc, &[0, 1])?;
+    let points = Vec::from_slice(alloc, &[0, 1])?;
+    let flow = Vec::from_slice(alloc, &[(0, 0, 5), (1, 1, 7)])?;
     let plan = Plan {
-        links,
-        points,
+        links: Listing::from_vec(links),
+        points: Listing::from_vec(points),
         value: 6,
-        flow,
+        flow: Listing::from_vec(flow),
     };
     Ok(SharedPlan::new(alloc, plan)?)
 }
@@ -115,10 +128,14 @@ fn steps(machine: &mut Machine) -> Result<[u64; 3], Fail> {
 }
 
 /// The steps of calls with 1, 2 and 3 after an installation.
+fn steps_after_an_installation(machine: &mut Machine, alloc: Global) -> Result<[u64; 3], Fail> {
+    call_and_install(machine, alloc)?;
+    steps(machine)
+}
+
 fn steps_of_a_cache(alloc: Global) -> Result<[u64; 3], Fail> {
     let mut machine = machine(alloc)?;
-    call_and_install(&mut machine, alloc)?;
-    steps(&mut machine)
+    steps_after_an_installation(&mut machine, alloc)
 }
 
 /// The steps of such calls before any.
