@@ -182,8 +182,9 @@ fn target_by_office<N: Name, R: Wait>(
     rt: &R,
     alloc: Global,
     live: &Live<N>,
-    tree: Declared,
+    tree: &Tree,
 ) -> Result<String, Fail> {
+    let tree = tree_of(alloc, tree)?;
     let mut office = live.office(rt);
     office.target(rt, 0, tree)?;
     let (closed, front) = (office.closed(), office.front().len());
@@ -267,6 +268,34 @@ fn learn_all<N: Name>(alloc: Global, running: &mut Running<N>) -> Result<String,
     Ok(format!(in alloc; "front {}", receipt.front().len())?)
 }
 
+/// A snapshot is taken.
+fn take<N: Name, R: Wait>(rt: &R, alloc: Global, running: &mut Running<N>) -> Result<String, Fail> {
+    let told = running.live.snapshot(rt);
+    keep_or_tell(alloc, &mut running.receipts, told)
+}
+
+/// The planner's plan of a snapshot is published.
+fn publish_planned<N: Name, R: Wait + Threads + Sync>(
+    rt: &R,
+    alloc: Global,
+    running: &mut Running<N>,
+    snapshot: usize,
+) -> Result<String, Fail> {
+    let plan = planned(rt, alloc, &running.live, snapshot)?;
+    publish(rt, alloc, running, snapshot, plan)
+}
+
+/// A plan is installed.
+fn install<N: Name, R: Wait>(
+    rt: &R,
+    alloc: Global,
+    running: &mut Running<N>,
+    plan: usize,
+) -> Result<String, Fail> {
+    let told = running.live.install(rt, plan);
+    keep_or_tell(alloc, &mut running.receipts, told)
+}
+
 /// Asks, and answers what is told.
 fn ask<N: Name, R: Wait + Threads + Sync>(
     rt: &R,
@@ -282,41 +311,18 @@ fn ask<N: Name, R: Wait + Threads + Sync>(
         Step::CallBare(pass, site) => call(alloc, pass_at(&mut running.passes, *pass)?, *site, &[]),
         Step::Count(pass) => count(alloc, pass_at(&mut running.passes, *pass)?),
         Step::Flush(pass) => flush(rt, alloc, running, *pass),
-        Step::Learn(pass, receipt) => learn(alloc, running, *pass, *receipt),
-        Step::LearnAll => learn_all(alloc, running),
-        _ => ask_office(rt, alloc, running, step),
-    }
-}
-
-/// Asks the office.
-fn ask_office<N: Name, R: Wait + Threads + Sync>(
-    rt: &R,
-    alloc: Global,
-    running: &mut Running<N>,
-    step: &Step,
-) -> Result<String, Fail> {
-    match step {
         Step::Target(site, tree) => target(rt, alloc, running, *site, tree),
-        Step::TargetByOffice(tree) => {
-            target_by_office(rt, alloc, &running.live, tree_of(alloc, tree)?)
-        }
+        Step::TargetByOffice(tree) => target_by_office(rt, alloc, &running.live, tree),
         Step::Invalidate(point) => invalidate(rt, alloc, running, *point),
+        Step::Snapshot => take(rt, alloc, running),
         Step::Problem(snapshot) => problem(rt, alloc, &running.live, *snapshot),
-        Step::Plan(snapshot) => {
-            let plan = planned(rt, alloc, &running.live, *snapshot)?;
-            publish(rt, alloc, running, *snapshot, plan)
-        }
+        Step::Plan(snapshot) => publish_planned(rt, alloc, running, *snapshot),
         Step::Publish(snapshot, value) => {
             publish(rt, alloc, running, *snapshot, one_link(alloc, *value)?)
         }
-        Step::Install(plan) => {
-            let told = running.live.install(rt, *plan);
-            keep_or_tell(alloc, &mut running.receipts, told)
-        }
-        _ => {
-            let told = running.live.snapshot(rt);
-            keep_or_tell(alloc, &mut running.receipts, told)
-        }
+        Step::Install(plan) => install(rt, alloc, running, *plan),
+        Step::Learn(pass, receipt) => learn(alloc, running, *pass, *receipt),
+        Step::LearnAll => learn_all(alloc, running),
     }
 }
 
