@@ -157,7 +157,7 @@ fn a_plan_that_matches_is_published(rt: HostRuntime) -> Result<(), Fail> {
     Ok(())
 }
 
-/// The value of a plan by a further owner, once the first is gone.
+/// The value of a plan, by a further owner.
 fn shared_value(alloc: Global) -> Result<i64, Fail> {
     let plan = plan(alloc, 1)?;
     Ok(plan.share()?.plan().value)
