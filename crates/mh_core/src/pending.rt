@@ -127,7 +127,8 @@ impl Book {
         ensures refused { OnErr result (self.new ≡ self.old) }
     {
         let base = share(&tree)?;
-        let control = Control::Target(Retargeting::new(site, base)?);
+        let retargeting = Retargeting::new(&mut self.codes, site, base)?;
+        let control = Control::Target(retargeting);
         self.records.reserve(1)?;
         let entry = Record::Targeted { site, tree };
         Ok(PendingChange {

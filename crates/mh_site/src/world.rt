@@ -60,8 +60,8 @@ impl Model for World {
 
 impl World {
     /// The world of a definition before any control: all points are valid, and each site runs its
-    /// target, whose code is made here, and shared where trees have the same parts. Refused where a growth was refused, or a further owner of a
-    /// tree.
+    /// target, whose code is made here, and shared where trees have the same parts. Refused where a
+    /// growth was refused, or a further owner of a tree.
     pub fn open(alloc: Global, definition: &Definition) -> Result<World, NoMemory>
         ensures value { IfOk result (λ w. w ≡ opened definition.now) }
         ensures replays { IfOk result (λ w. w ≡ replay (opened definition.now) []) }
