@@ -33,6 +33,18 @@ pub(crate) fn call(machine: &mut Machine, argument: i32) -> Option<i32>
     }
 }
 
+/// The hits of worker 0 are added to the totals.
+pub(crate) fn flush(rt: &impl Print, machine: &mut Machine) -> anyhow::Result<()> {
+    let reply = machine.step(Event::Flush { worker: 0 });
+    tell(rt, "flush", &reply)
+}
+
+/// The totals are kept under the next number, with the points that are valid.
+pub(crate) fn take_snapshot(rt: &impl Print, machine: &mut Machine) -> anyhow::Result<()> {
+    let reply = machine.step(Event::Snapshot);
+    tell(rt, "snapshot", &reply)
+}
+
 /// The point `a` becomes invalid, for good.
 pub(crate) fn invalidate(
     rt: &impl Print,

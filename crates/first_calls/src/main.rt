@@ -1,27 +1,52 @@
-//! The program `first_calls`: how code makes a definition, opens a machine, and calls, invalidates
-//! and retargets. It has the tree of `examples/first-calls.json`, and prints a line for each event.
+//! The program `first_calls`: how code makes a definition, opens a machine, calls, plans for what the
+//! calls hit, installs the plan, invalidates and retargets. It has the point, the site and the first
+//! link of `examples/counted-calls.json`, and prints a line for each event.
 #![tactic(auto)]
 
 mod definition;
 mod events;
+mod planning;
 mod telling;
 
 use crate::definition::open;
-use crate::events::{invalidate, retarget};
+use crate::events::{flush, invalidate, retarget, take_snapshot};
+use crate::planning::{install, publish};
 use crate::telling::tell_call;
 use mh_core::Machine;
 use std::alloc::Global;
+use std::thread::Threads;
 
 fn main(rt: HostRuntime) -> anyhow::Result<()> {
     let alloc = rt.alloc();
     let mut machine = open(alloc)?;
-    make_events(&rt, alloc, &mut machine)
+    count_hits(&rt, &mut machine)?;
+    link_site(&rt, alloc, &mut machine)?;
+    change_site(&rt, alloc, &mut machine)
 }
 
-/// Calls before and after an invalidation, and after a retargeting.
-fn make_events(rt: &impl Print, alloc: Global, machine: &mut Machine) -> anyhow::Result<()> {
+/// Calls, of which two hit the link, and the hits in a snapshot.
+fn count_hits(rt: &impl Print, machine: &mut Machine) -> anyhow::Result<()> {
+    tell_call(rt, machine, 1)?;
     tell_call(rt, machine, 1)?;
     tell_call(rt, machine, 2)?;
+    flush(rt, machine)?;
+    take_snapshot(rt, machine)
+}
+
+/// A plan for the snapshot, its installation, and calls through the inline cache and past it.
+fn link_site<R: Print + Threads + Sync>(
+    rt: &R,
+    alloc: Global,
+    machine: &mut Machine,
+) -> anyhow::Result<()> {
+    publish(rt, alloc, machine)?;
+    install(rt, machine)?;
+    tell_call(rt, machine, 1)?;
+    tell_call(rt, machine, 2)
+}
+
+/// Calls after an invalidation, and after a retargeting.
+fn change_site(rt: &impl Print, alloc: Global, machine: &mut Machine) -> anyhow::Result<()> {
     invalidate(rt, alloc, machine)?;
     tell_call(rt, machine, 1)?;
     retarget(rt, alloc, machine)?;
