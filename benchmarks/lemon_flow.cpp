@@ -1,10 +1,11 @@
 // Times LEMON's Preflow on a problem of selection, for planner.py.
 //
-// Standard input has the numbers of links and points, the gains, the costs, and for each link the number of its needs and
-// the needs. Standard output has the value of the flow, and the least seconds of several runs: Preflow made, run, and the
-// source's side of a least cut read, over a network that was built before.
-#include <chrono>
+// Standard input has the numbers of links and points, the gains, the charges, the costs, and for each link the number of its
+// needs and the needs. A charge is an arc from its link to the sink of that capacity, and where there is none there is no arc: a
+// private point would be a node between, for the same flow. Standard output has the value of the flow, and the least seconds that
+// several runs took of a processor: Preflow made, run, and the source's side of a least cut read, over a network that was built before.
 #include <cstdio>
+#include <ctime>
 #include <lemon/preflow.h>
 #include <lemon/smart_graph.h>
 #include <vector>
@@ -31,6 +32,8 @@ int main() {
         all += gain;
         room[graph.addArc(source, nodes[link])] = gain;
     }
+    for (int link = 0; link < links; ++link)
+        if (const long long charge = number()) room[graph.addArc(nodes[link], sink)] = charge;
     for (int point = 0; point < points; ++point) room[graph.addArc(nodes[links + point], sink)] = number();
     for (int link = 0; link < links; ++link)
         for (long long needs = number(); needs > 0; --needs)
@@ -38,14 +41,14 @@ int main() {
     double least = 1e9;
     long long value = 0;
     for (int turn = 0; turn < 7; ++turn) {
-        const auto start = std::chrono::steady_clock::now();
+        const std::clock_t start = std::clock();
         Preflow<SmartDigraph, SmartDigraph::ArcMap<long long>> preflow(graph, room, source, sink);
         preflow.run();
         int chosen = 0;
         for (int link = 0; link < links; ++link) chosen += preflow.minCut(nodes[link]);
-        const std::chrono::duration<double> taken = std::chrono::steady_clock::now() - start;
+        const double taken = double(std::clock() - start) / CLOCKS_PER_SEC;
         value = preflow.flowValue();
-        if (chosen >= 0 && taken.count() < least) least = taken.count();
+        if (chosen >= 0 && taken < least) least = taken;
     }
     std::printf("%lld %.9f\n", value, least);
 }

@@ -6,47 +6,55 @@ g++ and LEMON (Debian's liblemon-dev); without them its column is empty. For eac
 part by part and over the whole, and in milliseconds, the least of several runs: the whole of `mhlink plan` on one worker, on
 two and on four; the reading of its input, which is `mhlink check` on the same problem with no plan beside it; planning, which
 is the difference of the first and this; `max_flow` on the whole problem, read before, which is a run of FLOW_BENCH less one
-that finds no flow; and LEMON's Preflow over a network that was built before. All have to find flows of the same value.
-Numbers are drawn from a fixed seed, so the problems are always the same.
+that finds no flow; and LEMON's Preflow over a network that was built before. The last two are what they took of a processor,
+all others are by the clock. All have to find flows of the same value. Numbers are drawn from a fixed seed, so the problems are
+always the same: as large as version 1 lets them be, with charges too, and as large as version 2 does.
 """
-import json, random, subprocess, sys, tempfile, time
+import json, random, resource, subprocess, sys, tempfile, time
 from pathlib import Path
 
 HERE = Path(__file__).resolve().parent
 LINKS, POINTS = 4096, 1024
+LARGEST = 16384, 4096
 RUNS = 9
-# how often a run of FLOW_BENCH finds a greatest flow
-ROUNDS = 50
+# how many links a run of FLOW_BENCH goes over: fifty flows of 4,096 links, twelve of 16,384
+ALL_LINKS = 204800
 
 
 def problem(gains, costs, needs):
     links = [{"gain": gain, "needs": sorted(set(points))} for gain, points in zip(gains, needs)]
-    return {"version": 1, "costs": costs, "links": links}
+    return {"version": 2 if len(links) > LINKS or len(costs) > POINTS else 1, "costs": costs, "links": links}
 
 
-def uniform(gain, cost, seed):
+def charged(most, given):
+    """The same problem, in which each link has a charge of its own."""
+    draw = random.Random(most)
+    return given | {"version": 2, "links": [link | {"charge": draw.randint(0, most)} for link in given["links"]]}
+
+
+def uniform(gain, cost, seed, links=LINKS, points=POINTS):
     """Each link needs up to eight points drawn from all."""
     draw = random.Random(seed)
-    needs = [draw.sample(range(POINTS), draw.randint(1, 8)) for _ in range(LINKS)]
-    return problem([draw.randint(1, gain) for _ in needs], [draw.randint(1, cost) for _ in range(POINTS)], needs)
+    needs = [draw.sample(range(points), draw.randint(1, 8)) for _ in range(links)]
+    return problem([draw.randint(1, gain) for _ in needs], [draw.randint(1, cost) for _ in range(points)], needs)
 
 
-def blocks(cost):
-    """Link i needs point i div 4: 1,024 parts."""
-    return problem([3] * LINKS, [cost] * POINTS, [[link // 4] for link in range(LINKS)])
+def blocks(cost, links=LINKS, points=POINTS):
+    """Link i needs point i div 4, so there are as many parts as points."""
+    return problem([3] * links, [cost] * points, [[link // 4] for link in range(links)])
 
 
-def chain(seed):
+def chain(seed, links=LINKS, points=POINTS):
     """Each link needs two neighbouring points, so that paths are long."""
     draw = random.Random(seed)
-    needs = [[link % (POINTS - 1), link % (POINTS - 1) + 1] for link in range(LINKS)]
-    return problem([draw.randint(1, 99) for _ in needs], [draw.randint(1, 400) for _ in range(POINTS)], needs)
+    needs = [[link % (points - 1), link % (points - 1) + 1] for link in range(links)]
+    return problem([draw.randint(1, 99) for _ in needs], [draw.randint(1, 400) for _ in range(points)], needs)
 
 
-def staircase():
+def staircase(links=LINKS, points=POINTS):
     """Point p costs more than the points before it, and each link needs a run of eight of them."""
-    needs = [range(link % (POINTS - 8), link % (POINTS - 8) + 8) for link in range(LINKS)]
-    return problem([link % 97 + 1 for link in range(LINKS)], [point // 4 + 1 for point in range(POINTS)], needs)
+    needs = [range(link % (points - 8), link % (points - 8) + 8) for link in range(links)]
+    return problem([link % 97 + 1 for link in range(links)], [point // 4 + 1 for point in range(points)], needs)
 
 
 def apart(size):
@@ -67,16 +75,33 @@ PROBLEMS = {
     "staircase": staircase(),
     "64 chains apart": apart(16),
     "8 chains apart": apart(128),
+    "up to eight needs, cheap points, charges to 30": charged(30, uniform(100, 100, 1)),
+    "up to eight needs, cheap points, charges to 60": charged(60, uniform(100, 100, 1)),
+    "up to eight needs, even, charges to 60": charged(60, uniform(100, 1000, 2)),
+    "one long chain, charges to 40": charged(40, chain(4)),
+    "largest, i div 4, cost 11": blocks(11, *LARGEST),
+    "largest, up to eight needs, even": uniform(100, 1000, 5, *LARGEST),
+    "largest, up to eight needs, even, charges to 60": charged(60, uniform(100, 1000, 5, *LARGEST)),
+    "largest, up to eight needs, large numbers": uniform(2**40, 2**42, 6, *LARGEST),
+    "largest, one long chain": chain(7, *LARGEST),
+    "largest, one long chain, charges to 40": charged(40, chain(7, *LARGEST)),
+    "largest, staircase": staircase(*LARGEST),
 }
 
 
-def least(words, text):
+def taken():
+    """The seconds that the programs which have ended took of processors."""
+    used = resource.getrusage(resource.RUSAGE_CHILDREN)
+    return used.ru_utime + used.ru_stime
+
+
+def least(words, text, clock=time.perf_counter):
     """The least milliseconds of several runs, and what the last one printed."""
     best, said = float("inf"), b""
     for _ in range(RUNS):
-        start = time.perf_counter()
+        start = clock()
         said = subprocess.run(words, input=text, stdout=subprocess.PIPE, stderr=subprocess.DEVNULL, check=False).stdout
-        best = min(best, time.perf_counter() - start)
+        best = min(best, clock() - start)
     return best * 1000, said.decode()
 
 
@@ -84,6 +109,7 @@ def numbers(given):
     links, costs = given["links"], given["costs"]
     yield f"{len(links)} {len(costs)}"
     yield " ".join(str(link["gain"]) for link in links)
+    yield " ".join(str(link.get("charge", 0)) for link in links)
     yield " ".join(map(str, costs))
     for link in links:
         yield " ".join(map(str, [len(link["needs"]), *link["needs"]]))
@@ -91,9 +117,10 @@ def numbers(given):
 
 def flow_alone(program, given):
     """The milliseconds of one `max_flow` without its reading, the value of the flow, and its phases."""
-    (none, _), (some, said) = (least([program], "\n".join([str(rounds), *numbers(given)]).encode()) for rounds in (0, ROUNDS))
+    often, text = ALL_LINKS // len(given["links"]), "\n".join(numbers(given))
+    (none, _), (some, said) = (least([program], f"{rounds}\n{text}".encode(), taken) for rounds in (0, often))
     _, value, _, phases = said.split()
-    return (some - none) / ROUNDS, value, phases
+    return (some - none) / often, value, phases
 
 
 def lemon_in(room):

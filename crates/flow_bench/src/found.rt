@@ -33,7 +33,7 @@ fn find_once(alloc: Global, problem: &Problem) -> Result<Found, NoMemory>
     flow_bounds_worth(problem);
     let run = max_flow(alloc, problem)?;
     Ok(Found {
-        value: carried(run.rows()),
+        value: carried(run.rows(), run.charges()),
         phases: run.phases(),
     })
 }

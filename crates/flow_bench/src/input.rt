@@ -1,6 +1,6 @@
 //! What the program reads.
 
-ghost use Rattle.std.specs.Prelude.{◌≡◌, All, IfOk, map, true};
+ghost use Rattle.std.specs.Prelude.{◌≡◌, All, IfOk, length, map, true};
 
 use crate::numbers::Numbers;
 use mh_network::{LinkRow, Listing, Problem};
@@ -14,32 +14,41 @@ pub(crate) struct Input {
 }
 
 impl Input {
-    /// Reads the rounds, the numbers of links and of points, the gains, the costs, and for each
-    /// link the number of its needs and the needs, ascending.
+    /// Reads the rounds, the numbers of links and of points, the gains, the charges, the costs, and
+    /// for each link the number of its needs and the needs, ascending.
     pub(crate) fn read(alloc: Global, text: &str) -> anyhow::Result<Input> {
         let mut numbers = Numbers::of(text);
         let rounds = numbers.next()?;
         let links = numbers.next()?;
         let points = numbers.next()?;
         let gains = numbers.list(alloc, links)?;
+        let charges = numbers.list(alloc, links)?;
         let costs = numbers.list(alloc, points)?;
-        let rows = rows(alloc, &mut numbers, &gains)?;
+        let rows = rows(alloc, &mut numbers, &gains, &charges)?;
         let problem = Problem::new(alloc, &rows, &costs)?;
         Ok(Input { rounds, problem })
     }
 }
 
-/// A link for each gain, which may be chosen, with the needs that come next.
-fn rows(alloc: Global, numbers: &mut Numbers<'_>, gains: &[u64]) -> anyhow::Result<Vec<LinkRow>>
+/// A link for each gain and charge, which may be chosen, with the needs that come next.
+fn rows(
+    alloc: Global,
+    numbers: &mut Numbers<'_>,
+    gains: &[u64],
+    charges: &[u64],
+) -> anyhow::Result<Vec<LinkRow>>
+    requires same { length gains.now ≡ length charges.now }
+    ensures charges { IfOk result (λ rows. map (λ r. r.charge) rows.items ≡ charges.now) }
     ensures gains { IfOk result (λ rows. map (λ r. r.gain) rows.items ≡ gains.now) }
     ensures eligible { IfOk result (λ rows. All (λ r. r.eligible ≡ true) rows.items) }
 {
     let mut rows = Vec::new(alloc);
-    for gain in gains {
+    for link in 0..gains.len() {
         rows.push(LinkRow {
-            gain: *gain,
+            gain: gains[link],
             eligible: true,
             needs: needs(alloc, numbers)?,
+            charge: charges[link],
         })?;
     }
     Ok(rows)

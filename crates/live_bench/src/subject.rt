@@ -2,7 +2,7 @@
 
 use mh_live::mh_core::{
     Declared, Definition, Handle, Kind, Limits, Link, Listing, MethodType, Name, Op, Point, Site,
-    TreeFault, Value,
+    TreeFault, Value, Version,
 };
 use std::alloc::Global;
 
@@ -41,7 +41,7 @@ pub(crate) fn define(alloc: Global, tree: &Declared) -> anyhow::Result<Definitio
         links: links(alloc)?,
     };
     let sites = Listing::from_vec(vec![in alloc; site]?);
-    let definition = Definition::new(alloc, points(alloc)?, sites)?;
+    let definition = Definition::new(alloc, Version::Two, points(alloc)?, sites)?;
     Ok(definition)
 }
 
@@ -74,6 +74,7 @@ fn link(alloc: Global, when: i32, weight: u64, needs: &[u32]) -> anyhow::Result<
     Ok(Link {
         when: Value::Int(when),
         weight,
+        charge: 0,
         needs: Listing::from_vec(Vec::from_slice(alloc, needs)?),
     })
 }

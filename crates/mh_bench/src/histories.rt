@@ -5,7 +5,7 @@ ghost use Rattle.std.specs.Prelude.{◌≡◌, IfOk};
 use crate::request::Way;
 use crate::tally::Tally;
 use mh_core::{Arguments, Event, Limits, Machine, NoMemory, Refusal, Reply};
-use mh_site::{Definition, Link, Listing, Name, Point, Site};
+use mh_site::{Definition, Link, Listing, Name, Point, Site, Version};
 use mh_tree::{Declared, Handle};
 use mh_type::{Outcome, Value};
 use std::alloc::Global;
@@ -44,7 +44,7 @@ pub(crate) fn define(
     };
     let points = Listing::from_vec(vec![in alloc; point]?);
     let sites = Listing::from_vec(vec![in alloc; site]?);
-    let definition = Definition::new(alloc, points, sites)?;
+    let definition = Definition::new(alloc, Version::Two, points, sites)?;
     Ok(definition)
 }
 
@@ -53,6 +53,7 @@ fn link_of(alloc: Global, argument: &Value) -> anyhow::Result<Link> {
     Ok(Link {
         when: argument.share()?,
         weight: 1,
+        charge: 0,
         needs: Listing::from_vec(Vec::new(alloc)),
     })
 }

@@ -10,7 +10,7 @@ use Rattle.mh_network.specs.declared.link_row.LinkRow.{LinkRow}
 use Rattle.std.proofs.lemmas.List.Sums.{sum_by_more_le}
 use Rattle.mh_network.specs.Sums.{amount_at}
 use Rattle.mh_network.specs.Problems.{ProblemData, IsProblem, link_at, gain_of, cost_of, needs_point, no_link}
-use Rattle.mh_network.specs.Selection.{Row, member, union_of_needs, cost_sum}
+use Rattle.mh_network.specs.Selection.{member, union_of_needs, cost_sum}
 use Rattle.mh_cert.specs.Plans.{IsUnion}
 
 -- past the last there is no gain and no cost
@@ -60,11 +60,11 @@ marked_below numbers marks same = λ k d l.
     ]
 
 -- where a row carries more than what the rows before it leave at its end, all rows carry more there than there was
-pub exceeds : (key : Row → ℕ) (rows : List Row) (i at spare most : ℕ) → i < length rows → at ≡ key (slice_index_or rows i (0, 0, 0)) →
-    spare + amount_at key (λ r. r.2) (take i rows) at ≡ most → spare < (slice_index_or rows i (0, 0, 0)).2 → amount_at key (λ r. r.2) rows at ≤ most → ⊥
-exceeds key rows i at spare most l e left more within =
-    let row : Row = slice_index_or rows i (0, 0, 0) in
-    let whole : amount_at key (λ r. r.2) (take i rows) at + cond (key row == at) (row.2) 0 ≤ amount_at key (λ r. r.2) rows at =
-    sum_by_more_le (λ (r : Row). cond (key r == at) (r.2) 0) rows i (0, 0, 0) l in
-    let here : cond (key row == at) (row.2) 0 ≡ row.2 = cond-true (key row == at) (row.2) 0 (eq-eqb (key row) at (sym e)) in
+pub exceeds : {X : Type 0} (key amount : X → ℕ) (o : X) (rows : List X) (i at spare most : ℕ) → i < length rows → at ≡ key (slice_index_or rows i o) →
+    spare + amount_at key amount (take i rows) at ≡ most → spare < amount (slice_index_or rows i o) → amount_at key amount rows at ≤ most → ⊥
+exceeds {X} key amount o rows i at spare most l e left more within =
+    let row : X = slice_index_or rows i o in
+    let whole : amount_at key amount (take i rows) at + cond (key row == at) (amount row) 0 ≤ amount_at key amount rows at =
+    sum_by_more_le (λ (r : X). cond (key r == at) (amount r) 0) rows i o l in
+    let here : cond (key row == at) (amount row) 0 ≡ amount row = cond-true (key row == at) (amount row) 0 (eq-eqb (key row) at (sym e)) in
     omega arith

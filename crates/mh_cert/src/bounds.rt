@@ -1,9 +1,9 @@
 //! The bounds that gains and costs set to a flow.
 
-ghost use Rattle.std.specs.Prelude.{◌≡◌, ◌≤◌, ◌<◌, ◌↔◌, ℕ, All, IfOk, IfErr, IsTrue, length, slice_index, true};
+ghost use Rattle.std.specs.Prelude.{◌≡◌, ◌≤◌, ◌<◌, ◌+◌, ◌↔◌, ℕ, All, IfOk, IfErr, IsTrue, length, slice_index, true};
 ghost use Rattle.mh_cert.specs.Ends.{end_of};
-ghost use Rattle.mh_network.specs.Problems.{IsProblem, gain_of, cost_of, needs_point};
-ghost use Rattle.mh_network.specs.Selection.{from_link, into_point};
+ghost use Rattle.mh_network.specs.Problems.{IsProblem, gain_of, charge_of, cost_of, needs_point};
+ghost use Rattle.mh_network.specs.Selection.{from_link, into_charge, into_point};
 ghost use Rattle.mh_network.specs.Sums.{amount_at};
 
 use crate::fault::CheckFault;
@@ -17,19 +17,36 @@ pub(crate) enum End {
     Point,
 }
 
-// Whether the amounts of each link are at most its gain.
+// Whether the amounts of each link, that of its charge included, are at most its gain.
 pub(crate) fn keeps_gains(
     alloc: Global,
     problem: &Problem,
     flow: &[(u32, u32, u64)],
+    charges: &[(u32, u64)],
 ) -> Result<bool, CheckFault>
     requires needed { All (λ r. needs_point problem.now r.0 r.1 ≡ true) flow.now }
-    ensures value { IfOk result (λ keeps. IsTrue keeps
-        ↔ ((j : ℕ) → from_link flow.now j ≤ gain_of problem.now j)) }
+    requires listed { All (λ r. r.0 < length problem.now.links) charges.now }
+    ensures value { IfOk result (λ keeps. IsTrue keeps ↔ ((j : ℕ) → from_link flow.now j
+        + into_charge charges.now j ≤ gain_of problem.now j)) }
     ensures refused { IfErr result (λ e. e ≡ CheckFault.NoMemory) }
 {
     let mut left = gains(alloc, problem)?;
-    Ok(covers(&mut left, flow, End::Link))
+    Ok(pays(&mut left, charges) && covers(&mut left, flow, End::Link))
+}
+
+// Whether the amounts of each charge are at most the charge.
+pub(crate) fn keeps_charges(
+    alloc: Global,
+    problem: &Problem,
+    charges: &[(u32, u64)],
+) -> Result<bool, CheckFault>
+    requires listed { All (λ r. r.0 < length problem.now.links) charges.now }
+    ensures value { IfOk result (λ keeps. IsTrue keeps
+        ↔ ((j : ℕ) → into_charge charges.now j ≤ charge_of problem.now j)) }
+    ensures refused { IfErr result (λ e. e ≡ CheckFault.NoMemory) }
+{
+    let mut left = own_charges(alloc, problem)?;
+    Ok(pays(&mut left, charges))
 }
 
 // Whether the amounts of each point are at most its cost.
@@ -66,6 +83,27 @@ fn covers(left: &mut Vec<u64>, flow: &[(u32, u32, u64)], end: End) -> bool
     true
 }
 
+// Takes the amounts of the charges from what is left of each link, and returns whether that was
+// enough.
+fn pays(left: &mut Vec<u64>, charges: &[(u32, u64)]) -> bool
+    requires inside { All (λ r. r.0 < length left.old.items) charges.now }
+    ensures count { length left.new.items ≡ length left.old.items }
+    ensures value { IsTrue result ↔ ((k : ℕ) → into_charge charges.now k
+        ≤ slice_index left.old.items k) }
+    ensures left { IsTrue result → (k : ℕ) → slice_index left.new.items k
+        + into_charge charges.now k ≡ slice_index left.old.items k }
+{
+    for charge in charges {
+        let at = charge.0 as usize;
+        let spare = left[at];
+        if charge.1 > spare {
+            return false;
+        }
+        left[at] = spare - charge.1;
+    }
+    true
+}
+
 fn place(end: End, row: &(u32, u32, u64)) -> usize
     ensures value { result ≡ end_of end row.now }
 {
@@ -86,6 +124,19 @@ fn gains(alloc: Global, problem: &Problem) -> Result<Vec<u64>, CheckFault>
         gains.push(gain).map_err(|_| CheckFault::NoMemory)?;
     }
     Ok(gains)
+}
+
+fn own_charges(alloc: Global, problem: &Problem) -> Result<Vec<u64>, CheckFault>
+    ensures count { IfOk result (λ v. length v.items ≡ length problem.now.links) }
+    ensures value { IfOk result (λ v. (j : ℕ) → slice_index v.items j ≡ charge_of problem.now j) }
+    ensures refused { IfErr result (λ e. e ≡ CheckFault.NoMemory) }
+{
+    let mut charges = Vec::new(alloc);
+    for link in 0..problem.links() {
+        let charge = problem.charge(link);
+        charges.push(charge).map_err(|_| CheckFault::NoMemory)?;
+    }
+    Ok(charges)
 }
 
 fn costs(alloc: Global, problem: &Problem) -> Result<Vec<u64>, CheckFault>

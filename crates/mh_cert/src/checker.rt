@@ -1,12 +1,13 @@
 //! The check of a plan.
 
 ghost use Rattle.std.specs.Prelude.{◌≡◌, ◌⊎◌, ◌↔◌, All, IfErr, IsTrue, MatchResult, OnOk, true, false};
-ghost use Rattle.mh_cert.specs.Plans.{Matches, plan_tests};
+ghost use Rattle.mh_cert.specs.Plans.{AreCharges, AreRows, Matches, plan_tests};
 ghost use Rattle.mh_network.specs.Problems.{IsProblem, link_at};
 ghost use Rattle.mh_network.specs.Selection.{IsBest, member};
 ghost use Rattle.mh_base.specs.Tests.{Passes, Refuses};
 
-use crate::bounds::{keeps_costs, keeps_gains};
+use crate::bounds::{keeps_charges, keeps_costs, keeps_gains};
+use crate::charges::are_charges;
 use crate::fault::CheckFault;
 use crate::laws::matching_is_best;
 use crate::plan::Plan;
@@ -18,9 +19,9 @@ use mh_network::Problem;
 use std::alloc::Global;
 
 /// Tests that a plan matches its problem: that its links are eligible and ascending, its points are
-/// the ascending union of their needs, its rows are a flow of positive amounts in order, and its
-/// value is both what the links are worth and what the flow leaves of all gains. The links are then
-/// best: no set of eligible links is worth more. O(links + points + rows).
+/// the ascending union of their needs, its rows and charges are a flow of positive amounts in order,
+/// and its value is both what the links are worth and what the flow leaves of all gains. The links
+/// are then best: no set of eligible links is worth more. O(links + points + rows).
 ///
 /// Refused with the first part that fails, as `CheckFault` tells them, or with NoMemory, only where
 /// a growth was refused. A plan that matches is refused with nothing else.
@@ -45,21 +46,24 @@ fn test(alloc: Global, problem: &Problem, plan: &Plan) -> Result<(), CheckFault>
     let links = plan.links.as_slice();
     let points = plan.points.as_slice();
     let flow = plan.flow.as_slice();
+    let charges = plan.charges.as_slice();
     demand(all_eligible(problem, links), CheckFault::LinkNotEligible)?;
     demand(is_ascending(links), CheckFault::LinksNotAscending)?;
     let is_union = is_union(alloc, problem, links, points)?;
     demand(is_union, CheckFault::PointsNotUnion)?;
-    demand(are_rows(problem, flow), CheckFault::BadFlowRow)?;
-    let keeps_gains = keeps_gains(alloc, problem, flow)?;
+    demand(are_amounts(problem, flow, charges), CheckFault::BadFlowRow)?;
+    let keeps_gains = keeps_gains(alloc, problem, flow, charges)?;
     demand(keeps_gains, CheckFault::GainExceeded)?;
     let keeps_costs = keeps_costs(alloc, problem, flow)?;
     demand(keeps_costs, CheckFault::CostExceeded)?;
+    let keeps_charges = keeps_charges(alloc, problem, charges)?;
+    demand(keeps_charges, CheckFault::ChargeExceeded)?;
     demand(
         is_worth(plan.value, problem, links, points),
         CheckFault::ValueWrong,
     )?;
     demand(
-        balances(plan.value, problem, flow),
+        balances(plan.value, problem, flow, charges),
         CheckFault::FlowNotMatching,
     )
 }
@@ -68,6 +72,14 @@ fn all_eligible(problem: &Problem, links: &[u32]) -> bool
     ensures value { IsTrue result ↔ All (λ j. (link_at problem.now j).eligible ≡ true) links.now }
 {
     links.iter().all(|link| is_eligible(problem, *link))
+}
+
+// Whether the rows and the charges are positive amounts, in order.
+fn are_amounts(problem: &Problem, flow: &[(u32, u32, u64)], charges: &[(u32, u64)]) -> bool
+    ensures value { IsTrue result ↔ (AreRows problem.now flow.now
+        × AreCharges problem.now charges.now) }
+{
+    are_rows(problem, flow) && are_charges(problem, charges)
 }
 
 fn is_eligible(problem: &Problem, link: u32) -> bool

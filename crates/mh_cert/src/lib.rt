@@ -9,6 +9,7 @@
 #![tactic(auto)]
 
 mod bounds;
+mod charges;
 mod checker;
 mod fault;
 mod laws;

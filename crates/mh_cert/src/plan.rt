@@ -11,14 +11,17 @@ pub struct Plan {
     pub links: Listing<u32>,
     /// The points that they need, ascending.
     pub points: Listing<u32>,
-    /// What the links are worth: their gains less the costs of the points.
+    /// What the links are worth: their gains less the costs of the points and their charges.
     pub value: i64,
     /// A flow: a link, a point that it needs, and a positive amount, ascending by link and then
     /// point. The amounts of a link are at most its gain, those of a point at most its cost.
     pub flow: Listing<(u32, u32, u64)>,
+    /// What links pay of their charges: a link and a positive amount, at most its charge, ascending
+    /// by link. It counts in what the link carries.
+    pub charges: Listing<(u32, u64)>,
 }
 
-/// Links and points by number, the value, and the sum of the flow's amounts, as
+/// Links and points by number, the value, and the sum of the amounts of the flow and the charges, as
 /// `links 0,1 points 0,1,2 value 1 flow 15`. An empty list is `-`.
 impl fmt::Display for Plan {
     ghost use Rattle.std.specs.Prelude.{Some};
@@ -33,7 +36,7 @@ impl fmt::Display for Plan {
         let points = Numbers {
             numbers: self.points.as_slice(),
         };
-        let flow = carried(self.flow.as_slice());
+        let flow = carried(self.flow.as_slice(), self.charges.as_slice());
         write!(
             f,
             "links {links} points {points} value {} flow {flow}",

@@ -24,7 +24,7 @@ pub record PublishedPlan : Type 0 where
   pub plan : Plan
 
 abbrev pub no_plan : PublishedPlan
-no_plan = record { snapshot = 0; plan = record { links = []; points = []; value = pos 0; flow = [] } }
+no_plan = record { snapshot = 0; plan = record { links = []; points = []; value = pos 0; flow = []; charges = [] } }
 
 -- the plan of a number, from 1
 abbrev pub plan_at : List Record → ℕ → PublishedPlan

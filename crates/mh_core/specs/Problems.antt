@@ -12,9 +12,9 @@ use Rattle.mh_core.specs.Records.{numbers, is_valid, total, past, snapshots}
 abbrev pub is_eligible : DefinitionData → List Record → ℕ → Bool
 is_eligible d r j = list_all (is_valid r) (link_at d j).1.needs
 
--- a link gains its weight for each hit that was flushed
+-- a link gains its weight for each hit that was flushed, and has the charge that is declared
 abbrev pub row : DefinitionData → List Record → ℕ → LinkRow
-row d r j = record { gain = (link_at d j).1.weight * total r j; eligible = is_eligible d r j; needs = (link_at d j).1.needs }
+row d r j = record { gain = (link_at d j).1.weight * total r j; eligible = is_eligible d r j; needs = (link_at d j).1.needs; charge = (link_at d j).1.charge }
 
 -- the links and costs of a definition after these records; a link that is not eligible gains nothing
 abbrev pub problem_after : DefinitionData → List Record → ProblemData

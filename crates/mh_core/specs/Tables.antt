@@ -11,4 +11,9 @@ abbrev pub are_valid : List Bool → List ℕ → Bool
 are_valid valid points = list_all (λ p. slice_index_or valid p false) points
 
 abbrev pub row_in : DefinitionData → List ℕ → List Bool → ℕ → LinkRow
-row_in d totals valid j = record { gain = (link_at d j).1.weight * at totals j; eligible = are_valid valid (link_at d j).1.needs; needs = (link_at d j).1.needs }
+row_in d totals valid j = record {
+  gain = (link_at d j).1.weight * at totals j;
+  eligible = are_valid valid (link_at d j).1.needs;
+  needs = (link_at d j).1.needs;
+  charge = (link_at d j).1.charge;
+}

@@ -53,8 +53,8 @@ pub use mh_cert::{CheckFault, Plan};
 pub use mh_ledger::{Ledger, Totals};
 pub use mh_network::{LinkRow, Problem, ProblemFault};
 pub use mh_site::{
-    Control, Definition, DefinitionFault, GREATEST_COST, GREATEST_WEIGHT, LONGEST_NAME, Link,
-    MOST_LINKS, MOST_NEEDS, MOST_POINTS, MOST_SITES, Name, Point, Site, World,
+    Control, Definition, DefinitionFault, GREATEST_CHARGE, GREATEST_COST, GREATEST_WEIGHT,
+    LONGEST_NAME, Link, MOST_LINKS, MOST_NEEDS, Name, Point, Site, Version, World,
 };
 pub use mh_tree::{
     DEEPEST, DEEPEST_DECLARED, Declared, Handle, LARGEST, LARGEST_DECLARED, Prepared, TreeFault,

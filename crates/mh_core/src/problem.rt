@@ -87,6 +87,7 @@ fn make_row(
         gain: declared.weight * totals[link],
         eligible: all_valid(needs, valid),
         needs: Listing::from_vec(needs.to_vec(alloc)?),
+        charge: declared.charge,
     })
 }
 

@@ -1,4 +1,4 @@
-use Rattle.std.proofs.Common.{◌≡◌, ◌<◌, ℕ, zero, suc, List, [], ◌∷◌, length, arith, refl, sym, ◌∙◌, ap, subst, cond, Bool, true, false, inl, inr}
+use Rattle.std.proofs.Common.{◌≡◌, ◌+◌, ◌<◌, ℕ, zero, suc, List, [], ◌∷◌, length, arith, refl, sym, ◌∙◌, ap, subst, cond, Bool, true, false, inl, inr}
 use Rattle.std.specs.Prelude.{map, nat_lt, ◌==◌, All, AllPairs, filter, pos, ◌+ℤ◌}
 use Rattle.std.specs.List.{sum_by}
 use Rattle.std.proofs.Math.Path.{fun_ext}
@@ -9,12 +9,14 @@ use Rattle.std.proofs.lemmas.List.Elements.{All-cons, All-filter, All-head, All-
 use Rattle.std.proofs.lemmas.List.{get_or_past}
 use Rattle.mh_network.specs.Needs.{AreNeeds}
 use Rattle.mh_network.specs.Problems.{ProblemData, no_link, IsProblem, needs_point, gain_of, cost_of, sum_of_gains}
-use Rattle.mh_network.specs.Selection.{IsBefore, Row, IsFlow, from_link, into_point, value_of, worth, member, IsLeast}
+use Rattle.mh_network.specs.Selection.{IsBefore, Row, Charge, IsFlow, from_link, into_point, value_of, worth, member, IsLeast}
 use Rattle.mh_network.specs.declared.link_row.LinkRow.{LinkRow}
 use Rattle.mh_flow.specs.declared.need_row.NeedRow.{NeedRow}
 use Rattle.mh_flow.specs.Carried.{row_at, number_at, out_of_link}
 use Rattle.mh_flow.specs.Carried as flow
+use Rattle.mh_flow.specs.Charged.{paid_of, paid_charges}
 use Rattle.mh_flow.specs.Run.{IsRun, IsOrdered, needs_below, positive_rows, row_of, is_reached}
+use Rattle.mh_flow.proofs.Paying.{paid_at, paid_in_charge, paid_in_gain, paid_listed}
 use Rattle.mh_flow.proofs.Runs.{run_start}
 
 -- sums over the rows that carry something
@@ -51,12 +53,14 @@ positive_at G (r ∷ rs) h (suc k) l some =
       | inr idle ↦ positive_at G rs (rw idle at h) k (omega arith) some
     ]
 
-pub positive_flow : (P : ProblemData) (rows : List NeedRow) (left cost_left : List ℕ) → IsRun P rows left cost_left → IsFlow P (positive_rows rows)
+pub positive_flow : (P : ProblemData) (rows : List NeedRow) (left cost_left : List ℕ) → IsRun P rows left cost_left → IsFlow P (positive_rows rows) (paid_charges P)
 positive_flow P rows left cost_left run = record {
   needed = All-map (λ (r : Row). needs_point P r.0 r.1 ≡ true) row_of (filter (λ (r : NeedRow). nat_lt 0 r.amount) rows)
       (All-filter (λ (r : NeedRow). nat_lt 0 r.amount) (λ (r : NeedRow). needs_point P r.link r.point ≡ true) rows run.needed);
-  gains = λ j. omega (arith, run.gains j, positive_out rows j);
+  listed = paid_listed P;
+  gains = λ j. omega (arith, run.gains j, positive_out rows j, paid_at P j);
   costs = λ p. omega (arith, run.costs p, positive_into rows p);
+  charged = λ j. omega (arith, paid_at P j, paid_in_charge P j);
 }
 
 pairs-map : (rows : List NeedRow) → IsOrdered rows → AllPairs IsBefore (map row_of rows)
@@ -80,12 +84,14 @@ positive_some (r ∷ rs) =
     ]
 
 pub run_new : (P : ProblemData) (left cost_left : List ℕ) → AreNeeds P → IsProblem P → length left ≡ length P.links → length cost_left ≡ length P.costs →
-    ((j : ℕ) → j < length left → number_at left j ≡ gain_of P j) → ((p : ℕ) → p < length cost_left → number_at cost_left p ≡ cost_of P p) → IsRun P (needs_below P (length P.links)) left cost_left
+    ((j : ℕ) → j < length left → number_at left j + paid_of P j ≡ gain_of P j) → ((p : ℕ) → p < length cost_left → number_at cost_left p ≡ cost_of P p) → IsRun P (needs_below P (length P.links)) left cost_left
 run_new P left cost_left needs problem links points gains costs =
     run_start P left cost_left needs problem links points
     (λ j. elim (cases_lt j (length left)) [
       | inl m ↦ gains j m
-      | inr m ↦ get_or_past left j 0 m ∙ sym (ap (λ (l : LinkRow). l.gain) (get_or_past P.links j no_link (omega (arith, m, links))))
+      | inr m ↦
+          let none : gain_of P j ≡ 0 = ap (λ (l : LinkRow). l.gain) (get_or_past P.links j no_link (omega (arith, m, links))) in
+          omega (arith, get_or_past left j 0 m, none, paid_in_gain P j)
     ])
     (λ p. elim (cases_lt p (length cost_left)) [
       | inl m ↦ costs p m
@@ -95,9 +101,9 @@ run_new P left cost_left needs problem links points gains costs =
 same_set : (xs links : List ℕ) → ((j : ℕ) → member xs j ≡ is_reached links j) → member xs ≡ is_reached links
 same_set xs links h = fun_ext h
 
-pub answered_equal : (P : ProblemData) (rows : List NeedRow) (links xs : List ℕ) → ((j : ℕ) → member xs j ≡ is_reached links j) →
-    worth P (is_reached links) +ℤ pos (value_of (positive_rows rows)) ≡ pos (sum_of_gains P) → worth P (member xs) +ℤ pos (value_of (positive_rows rows)) ≡ pos (sum_of_gains P)
-answered_equal P rows links xs h equal = subst (λ (S : ℕ → Bool). worth P S +ℤ pos (value_of (positive_rows rows)) ≡ pos (sum_of_gains P)) (sym (same_set xs links h)) equal
+pub answered_equal : (P : ProblemData) (rows : List NeedRow) (charges : List Charge) (links xs : List ℕ) → ((j : ℕ) → member xs j ≡ is_reached links j) →
+    worth P (is_reached links) +ℤ pos (value_of (positive_rows rows) charges) ≡ pos (sum_of_gains P) → worth P (member xs) +ℤ pos (value_of (positive_rows rows) charges) ≡ pos (sum_of_gains P)
+answered_equal P rows charges links xs h equal = subst (λ (S : ℕ → Bool). worth P S +ℤ pos (value_of (positive_rows rows) charges) ≡ pos (sum_of_gains P)) (sym (same_set xs links h)) equal
 
 pub answered_least : (P : ProblemData) (links xs : List ℕ) → ((j : ℕ) → member xs j ≡ is_reached links j) → IsLeast P (is_reached links) → IsLeast P (member xs)
 answered_least P links xs h least = subst (λ (S : ℕ → Bool). IsLeast P S) (sym (same_set xs links h)) least

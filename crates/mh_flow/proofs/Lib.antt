@@ -2,9 +2,11 @@ mod Pushing
 mod Bounds
 mod Chaining
 mod Spreading
+mod Sweeping
 mod Searching
 mod Starts
 mod Runs
+mod Paying
 mod Answered
 mod Ended
 mod Phases

@@ -7,9 +7,10 @@ use Rattle.std.proofs.lemmas.List.Sums.{count_by-le-length}
 use Rattle.mh_network.specs.Cuts.{CutsAreLeast}
 use Rattle.mh_network.specs.Needs.{AreNeeds}
 use Rattle.mh_network.specs.Problems.{ProblemData, IsProblem, sum_of_gains}
-use Rattle.mh_network.specs.Selection.{IsBefore, Row, IsFlow, IsLeast, worth, member, value_of}
+use Rattle.mh_network.specs.Selection.{IsBefore, IsChargeBefore, Row, Charge, IsFlow, IsLeast, worth, member, value_of}
 use Rattle.mh_flow.specs.declared.need_row.NeedRow.{NeedRow}
 use Rattle.mh_flow.specs.Carried.{row_at, no_row, number_at}
+use Rattle.mh_flow.specs.Charged.{paid_charges}
 use Rattle.mh_flow.specs.Levels.{far}
 use Rattle.mh_flow.specs.LayerData.{LayerData, IsLayerRun, IsSameFlow, IsSinkLevel}
 use Rattle.mh_flow.specs.Over.{IsOpen, IsOver, IsSameLevels, IsRaised, IsBetween}
@@ -17,6 +18,7 @@ use Rattle.mh_flow.specs.Run.{IsLayered, is_reached, positive_rows}
 use Rattle.mh_flow.specs.Spent.{IsPhase}
 use Rattle.mh_flow.proofs.Answered.{positive_flow, positive_some, positive_ordered, answered_equal, answered_least}
 use Rattle.mh_flow.proofs.Blocked.{over_blocked, open_link, open_point}
+use Rattle.mh_flow.proofs.Paying.{paid_ordered, paid_positive}
 use Rattle.mh_flow.proofs.Phases.{sink_rises}
 use Rattle.mh_flow.proofs.Ended.{run_end}
 
@@ -82,29 +84,34 @@ phases_few a between = elim between [ inl none ↦ omega (arith, none) | inr rai
 pub phases_fit : (a : LayerData) → IsLayerRun a → IsBetween a → a.phases + 1 < 2 ^ 64
 phases_fit a kept between = omega (arith, phases_few a between, kept.known.links, kept.known.points)
 
-pub record IsAnswer (P : ProblemData) (rows : List Row) (reached : List ℕ) : Type 0 where
-  pub flow : IsFlow P rows
+pub record IsAnswer (P : ProblemData) (rows : List Row) (charges : List Charge) (reached : List ℕ) : Type 0 where
+  pub flow : IsFlow P rows charges
   pub positive : All (λ r. 0 < r.2) rows
   pub ordered : AllPairs IsBefore rows
-  pub equal : worth P (member reached) +ℤ pos (value_of rows) ≡ pos (sum_of_gains P)
+  pub paid : All (λ r. 0 < r.1) charges
+  pub paid_ordered : AllPairs IsChargeBefore charges
+  pub equal : worth P (member reached) +ℤ pos (value_of rows charges) ≡ pos (sum_of_gains P)
   pub least : IsLeast P (member reached)
 
 -- a run whose sink has no level is at its end
-pub finished : (P : ProblemData) (b : LayerData) (rows : List Row) (reached : List ℕ) → AreNeeds b.problem → (IsProblem b.problem → CutsAreLeast b.problem) → b.problem ≡ P → IsLayerRun b → IsLayered b.rows b.gain_left b.links b.points → IsSinkLevel b.cost_left b.points b.sink →
-    far ≤ b.sink → rows ≡ positive_rows b.rows → ((j : ℕ) → member reached j ≡ is_reached b.links j) → IsAnswer P rows reached
-finished P b rows reached needs cuts same kept layered level none e members =
+pub finished : (P : ProblemData) (b : LayerData) (rows : List Row) (charges : List Charge) (reached : List ℕ) → AreNeeds b.problem → (IsProblem b.problem → CutsAreLeast b.problem) → b.problem ≡ P → IsLayerRun b → IsLayered b.rows b.gain_left b.links b.points → IsSinkLevel b.cost_left b.points b.sink →
+    far ≤ b.sink → rows ≡ positive_rows b.rows → charges ≡ paid_charges b.problem → ((j : ℕ) → member reached j ≡ is_reached b.links j) → IsAnswer P rows charges reached
+finished P b rows charges reached needs cuts same kept layered level none e f members =
     let full : (p : ℕ) → p < length b.points → number_at b.points p < far → number_at b.cost_left p ≡ 0 = λ p l f.
     elim (cases_lt 0 (number_at b.cost_left p)) [
       | inl room ↦ absurd (omega (arith, level.least p l room, none, low_levels b kept layered p f, kept.known.links, kept.known.points))
       | inr empty ↦ omega (arith, empty)
     ] in
     let end = run_end b.problem b.rows b.gain_left b.cost_left b.links b.points needs (cuts kept.known) kept.known kept.run layered kept.point_levels full in
-    let answer : IsAnswer b.problem (positive_rows b.rows) reached = record {
+    let answer : IsAnswer b.problem (positive_rows b.rows) (paid_charges b.problem) reached = record {
       flow = positive_flow b.problem b.rows b.gain_left b.cost_left kept.run;
       positive = positive_some b.rows;
       ordered = positive_ordered b.rows kept.run.ordered;
-      equal = answered_equal b.problem b.rows b.links reached members end.0;
+      paid = paid_positive b.problem;
+      paid_ordered = paid_ordered b.problem;
+      equal = answered_equal b.problem b.rows (paid_charges b.problem) b.links reached members end.0;
       least = answered_least b.problem b.links reached members end.1;
     } in
-    let placed : IsAnswer P (positive_rows b.rows) reached = subst (λ (Q : ProblemData). IsAnswer Q (positive_rows b.rows) reached) same answer in
-    subst (λ (rs : List Row). IsAnswer P rs reached) (sym e) placed
+    let listed : IsAnswer b.problem rows charges reached =
+    subst (λ (rs : List Row). IsAnswer b.problem rs charges reached) (sym e) (subst (λ (cs : List Charge). IsAnswer b.problem (positive_rows b.rows) cs reached) (sym f) answer) in
+    subst (λ (Q : ProblemData). IsAnswer Q rows charges reached) same listed

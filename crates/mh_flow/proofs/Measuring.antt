@@ -11,6 +11,7 @@ use Rattle.mh_flow.specs.Distances.Node.{source, link, point, sink}
 use Rattle.mh_flow.specs.Levels.{far, reached_count}
 use Rattle.mh_flow.specs.LayerData.{LayerData, IsLayerRun, IsSinkLevel}
 use Rattle.mh_flow.specs.Run.{IsLayered}
+use Rattle.mh_flow.proofs.Paying.{no_charge, paid_whole, reached_gains}
 
 module _ (a : LayerData) (kept : IsLayerRun a) (layered : IsLayered a.rows a.gain_left a.links a.points) (level : IsSinkLevel a.cost_left a.points a.sink) where
   few : reached_count a.links + reached_count a.points + 2 < far
@@ -35,12 +36,16 @@ module _ (a : LayerData) (kept : IsLayerRun a) (layered : IsLayered a.rows a.gai
         | inr m ↦ absurd (omega (arith, room, get_or_past a.cost_left p 0 (omega (arith, m, kept.point_levels, kept.run.point_count))))
       ] in
       (level.least p inside room, omega (arith, level.least p inside room, layered.bounded.point_levels p f, few))
+  onward (link j) sink room f =
+      elim (cases_lt j (length a.links)) [
+        | inl m ↦ absurd (omega (arith, room, paid_whole a.problem j (reached_gains a.problem a.rows a.gain_left a.cost_left a.links a.points kept.run layered j m f)))
+        | inr m ↦ absurd (omega (arith, room, no_charge a.problem j (omega (arith, m, kept.link_levels))))
+      ]
   onward source source room f = absurd room
   onward source (point p) room f = absurd room
   onward source sink room f = absurd room
   onward (link j) source room f = absurd room
   onward (link j) (link i) room f = absurd room
-  onward (link j) sink room f = absurd room
   onward (point p) source room f = absurd room
   onward (point p) (point q) room f = absurd room
   onward sink source room f = absurd room

@@ -1,13 +1,13 @@
 use Rattle.std.proofs.Common.{◌≡◌, ℕ, ◌+◌, ◌-◌, ◌≤◌, ◌<◌, List, [], ◌∷◌, Bool, true, false, cond, refl, arith, sym, ◌∙◌, ap, inl, inr, length, get_or, get_or-set_same, get_or-set_other, subst, drop, take}
-use Rattle.std.specs.Prelude.{◌==◌, slice_set}
+use Rattle.std.specs.Prelude.{◌==◌, map, min, slice_set}
 use Rattle.std.proofs.lemmas.Bool.{cases_eq, eq-eqb}
 use Rattle.std.proofs.Math.Seq.{take-length}
 use Rattle.std.proofs.lemmas.List.Sums.{sum_by-set, get_or-le-sum_by}
 use Rattle.mh_network.specs.Sums.{amount_at}
 use Rattle.mh_flow.specs.declared.need_row.NeedRow.{NeedRow}
 use Rattle.mh_flow.specs.declared.path.Turn.{Turn}
-use Rattle.mh_flow.specs.Carried.{row_at, no_row}
-use Rattle.mh_flow.specs.Layers.{IsPath, IsPushed, IsMoved, IsSameRow, IsTurn}
+use Rattle.mh_flow.specs.Carried.{row_at, no_row, number_at}
+use Rattle.mh_flow.specs.Layers.{IsPath, IsPushed, IsMoved, IsSameRow, IsTurn, least_of, room}
 
 -- a row with another amount
 abbrev pub with_amount : NeedRow → ℕ → NeedRow
@@ -52,6 +52,23 @@ path_rest rows left links points p first (turn ∷ rest) d l h =
     let whole : take (length (turn ∷ rest) - 1) rest ≡ rest = ap (λ n. take n rest) less ∙ take-length rest in
     let P : List Turn → Type 0 = λ r. IsPath rows left links points (row_at rows turn.back).point r first in
     subst P (sym whole) h.1
+
+min_swap : (a b c : ℕ) → min (min a b) c ≡ min (min a c) b
+min_swap a b c = omega arith
+
+-- the limit after a turn leaves the rest of a path the room that the whole has
+pub room_turn : (rows : List NeedRow) (left : List ℕ) (limit within first : ℕ) (turns : List Turn) (d : Turn) → 1 ≤ length turns →
+    within ≡ min limit (row_at rows (get_or turns 0 d).back).amount →
+    room rows left within (take (length turns - 1) (drop 1 turns)) first ≡ room rows left limit turns first
+room_turn rows left limit within first [] d l e = absurd (omega arith)
+room_turn rows left limit within first (turn ∷ rest) d l e =
+    let less : length (turn ∷ rest) - 1 ≡ length rest = omega arith in
+    let whole : take (length (turn ∷ rest) - 1) rest ≡ rest = ap (λ n. take n rest) less ∙ take-length rest in
+    let gain : ℕ = number_at left (row_at rows first).link in
+    let amounts : List ℕ = map (λ t. (row_at rows t.back).amount) rest in
+    ap (λ (r : List Turn). room rows left within r first) whole
+    ∙ (ap (λ (n : ℕ). least_of (min n gain) amounts) e
+    ∙ ap (λ (n : ℕ). least_of n amounts) (min_swap limit (row_at rows turn.back).amount gain))
 
 pub pushed_on : (old mid new : List NeedRow) (left0 left1 : List ℕ) (links points : ℕ → ℕ) (p forth back d : ℕ) →
     IsTurn old links points p forth back →

@@ -1,5 +1,5 @@
 -- A run when it begins, and after a push.
-use Rattle.std.proofs.Common.{◌≡◌, ◌<◌, ◌≤◌, ◌-◌, ℕ, List, length, arith, refl, sym, ◌∙◌, ap, subst, get_or, inl, inr, true}
+use Rattle.std.proofs.Common.{◌≡◌, ◌+◌, ◌<◌, ◌≤◌, ◌-◌, ℕ, List, length, arith, refl, sym, ◌∙◌, ap, subst, get_or, inl, inr, true}
 use Rattle.std.specs.Prelude.{map, All, slice_set, replicate}
 use Rattle.std.proofs.lemmas.Grind.{common_steps}
 use Rattle.std.proofs.lemmas.Bool.{cases_lt}
@@ -10,6 +10,7 @@ use Rattle.mh_network.specs.Needs.{AreNeeds}
 use Rattle.mh_network.specs.Problems.{ProblemData, IsProblem, needs_point, gain_of, cost_of}
 use Rattle.mh_flow.specs.declared.need_row.NeedRow.{NeedRow}
 use Rattle.mh_flow.specs.Carried.{row_at, no_row, number_at}
+use Rattle.mh_flow.specs.Charged.{paid_of}
 use Rattle.mh_flow.specs.Chains.{IsChained}
 use Rattle.mh_flow.specs.Layers.{IsPushed}
 use Rattle.mh_flow.specs.Levels.{IsInRange, far}
@@ -90,7 +91,7 @@ replicated : (n : ℕ) → length (replicate n far) ≡ n
 replicated n = grind (arith, common_steps)
 
 pub begun : (P : ProblemData) (rows : List NeedRow) (left cost_left links points : List ℕ) → AreNeeds P → IsProblem P → rows ≡ needs_below P (length P.links) →
-    length left ≡ length P.links → ((j : ℕ) → j < length left → number_at left j ≡ gain_of P j) → length cost_left ≡ length P.costs → ((p : ℕ) → p < length cost_left → number_at cost_left p ≡ cost_of P p) →
+    length left ≡ length P.links → ((j : ℕ) → j < length left → number_at left j + paid_of P j ≡ gain_of P j) → length cost_left ≡ length P.costs → ((p : ℕ) → p < length cost_left → number_at cost_left p ≡ cost_of P p) →
     links ≡ replicate (length P.links) far → points ≡ replicate (length P.costs) far →
     IsLayerRun record { problem = P; rows = rows; gain_left = left; cost_left = cost_left; links = links; points = points; sink = far; phases = 0 }
 begun P rows left cost_left links points needs problem e gain_count gains cost_count costs l p = record {

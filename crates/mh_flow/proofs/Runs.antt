@@ -14,7 +14,8 @@ use Rattle.mh_network.specs.Problems.{ProblemData, no_link, IsProblem, needs_poi
 use Rattle.mh_network.specs.Selection.{IsBefore}
 use Rattle.mh_network.specs.declared.link_row.LinkRow.{LinkRow}
 use Rattle.mh_flow.specs.declared.need_row.NeedRow.{NeedRow}
-use Rattle.mh_flow.specs.Carried.{row_at, no_row, number_at, into_point}
+use Rattle.mh_flow.specs.Carried.{carried, row_at, no_row, number_at, into_point}
+use Rattle.mh_flow.specs.Charged.{paid_of}
 use Rattle.mh_flow.specs.Layers.{IsPushed, IsWithin, IsSameRow}
 use Rattle.mh_flow.specs.Run.{IsRun, IsOrdered, needs_below, row_of}
 
@@ -41,10 +42,20 @@ below-zero P (suc n) =
     All-append (λ r. r.amount ≡ 0) (needs_below P n) (map (idle n) (link_at P n).needs) (below-zero P n)
     (All-map (λ r. r.amount ≡ 0) (idle n) (link_at P n).needs (λ k d l. refl))
 
+carried-none : (rows : List NeedRow) → All (λ r. r.amount ≡ 0) rows → carried rows ≡ 0
+carried-none [] h = refl
+carried-none (r ∷ rows) h =
+    let none : r.amount ≡ 0 = All-head (λ x. x.amount ≡ 0) r rows h in
+    omega (arith, sum_by-cons (λ (x : NeedRow). x.amount) r rows, none, carried-none rows (All-tail (λ x. x.amount ≡ 0) r rows h))
+
+-- the rows that a run begins with carry nothing
+pub begun-idle : (P : ProblemData) (rows : List NeedRow) → rows ≡ needs_below P (length P.links) → carried rows ≡ 0
+begun-idle P rows e = ap carried e ∙ carried-none (needs_below P (length P.links)) (below-zero P (length P.links))
+
 abbrev IsRowBefore : NeedRow → NeedRow → Type 0
 IsRowBefore r s = IsBefore (row_of r) (row_of s)
 
-pairs-append : {X : Type 0} (R : X → X → Type 0) (xs ys : List X) → AllPairs R xs → AllPairs R ys → All (λ x. All (R x) ys) xs → AllPairs R (xs ++ ys)
+pub pairs-append : {X : Type 0} (R : X → X → Type 0) (xs ys : List X) → AllPairs R xs → AllPairs R ys → All (λ x. All (R x) ys) xs → AllPairs R (xs ++ ys)
 pairs-append R [] ys f g h = g
 pairs-append R (x ∷ xs) ys f g h =
     AllPairs-cons R x (xs ++ ys)
@@ -138,7 +149,7 @@ none_carried key q (r ∷ rs) h =
     omega (arith, sum_by-cons (λ (x : NeedRow). cond (key x == q) x.amount 0) r rs, term, none_carried key q rs (All-tail (λ (x : NeedRow). x.amount ≡ 0) r rs h))
 
 pub run_start : (P : ProblemData) (left cost_left : List ℕ) → AreNeeds P → IsProblem P → length left ≡ length P.links → length cost_left ≡ length P.costs →
-    ((j : ℕ) → number_at left j ≡ gain_of P j) → ((p : ℕ) → number_at cost_left p ≡ cost_of P p) → IsRun P (needs_below P (length P.links)) left cost_left
+    ((j : ℕ) → number_at left j + paid_of P j ≡ gain_of P j) → ((p : ℕ) → number_at cost_left p ≡ cost_of P p) → IsRun P (needs_below P (length P.links)) left cost_left
 run_start P left cost_left needs problem links points gains costs = record {
   needed = below-needed P (length P.links);
   ordered = below-ordered P problem (length P.links);
@@ -203,6 +214,6 @@ run_pushed P old new left left' cost_left links points top p d run pushed same l
       (found.0, omega (arith, found.1, pushed.length), (pushed.places found.0).link ∙ found.2, (pushed.places found.0).point ∙ found.3);
   link_count = same ∙ run.link_count;
   point_count = length-set cost_left p (number_at cost_left p - d) ∙ run.point_count;
-  gains = λ j. pushed.out j ∙ run.gains j;
+  gains = λ j. omega (arith, pushed.out j, run.gains j);
   costs = λ q. cost_set cost_left p d (into_point old q) (into_point new q) q (cost_of P q) l m (run.costs q) (pushed.into q);
 }

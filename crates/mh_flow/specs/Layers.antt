@@ -1,5 +1,5 @@
 -- Paths up the levels, and what a push along one changes (Dinitz 1970).
-use Rattle.std.specs.Prelude.{ℕ, ◌+◌, ◌≡◌, ◌≤◌, ◌<◌, ◌^◌, List, [], ◌∷◌, cond, ◌==◌, length}
+use Rattle.std.specs.Prelude.{ℕ, ◌+◌, ◌≡◌, ◌≤◌, ◌<◌, ◌^◌, List, [], ◌∷◌, cond, ◌==◌, length, map, min}
 use Rattle.std.specs.List.{All}
 use Rattle.mh_flow.specs.declared.need_row.NeedRow.{NeedRow}
 use Rattle.mh_flow.specs.declared.path.Turn.{Turn}
@@ -30,6 +30,17 @@ abbrev pub IsPath : List NeedRow → List ℕ → (ℕ → ℕ) → (ℕ → ℕ
 IsPath rows gain_left links points p [] first = IsFirst rows gain_left links points p first
 IsPath rows gain_left links points p (turn ∷ rest) first =
     IsTurn rows links points p turn.forth turn.back × IsPath rows gain_left links points (row_at rows turn.back).point rest first
+
+-- the least of a number and those of a list
+abbrev pub least_of : ℕ → List ℕ → ℕ
+least_of n [] = n
+least_of n (m ∷ rest) = least_of (min n m) rest
+
+-- what the edges of a path leave, where `limit` is left of the edge to the sink: from the source what is left of the gain,
+-- and back over each row what that carries
+abbrev pub room : List NeedRow → List ℕ → ℕ → List Turn → ℕ → ℕ
+room rows gain_left limit turns first =
+    least_of (min limit (number_at gain_left (row_at rows first).link)) (map (λ t. (row_at rows t.back).amount) turns)
 
 -- the turns lead from point p down to point q
 abbrev pub IsWalk : List NeedRow → (ℕ → ℕ) → (ℕ → ℕ) → ℕ → List Turn → ℕ → Type 0

@@ -4,6 +4,7 @@ use Rattle.mh_network.specs.Problems.{ProblemData, needs_point, gain_of, cost_of
 use Rattle.mh_network.specs.Selection.{Row, IsBefore}
 use Rattle.mh_flow.specs.declared.need_row.NeedRow.{NeedRow}
 use Rattle.mh_flow.specs.Carried.{row_at, number_at, out_of_link, into_point}
+use Rattle.mh_flow.specs.Charged.{paid_of}
 use Rattle.mh_flow.specs.Levels.{far, IsSupported, IsSettledRow, IsInRange, IsBounded}
 
 -- the needs of the links below n, by link and then point, with nothing carried
@@ -25,7 +26,7 @@ pub record IsRun (P : ProblemData) (rows : List NeedRow) (gain_left cost_left : 
   pub complete : (j p : ℕ) → needs_point P j p ≡ true → (k : ℕ) × (k < length rows) × ((row_at rows k).link ≡ j) × ((row_at rows k).point ≡ p)
   pub link_count : length gain_left ≡ length P.links
   pub point_count : length cost_left ≡ length P.costs
-  pub gains : (j : ℕ) → number_at gain_left j + out_of_link rows j ≡ gain_of P j
+  pub gains : (j : ℕ) → number_at gain_left j + (out_of_link rows j + paid_of P j) ≡ gain_of P j
   pub costs : (p : ℕ) → number_at cost_left p + into_point rows p ≡ cost_of P p
 
 -- levels of the links and points that the source reaches over edges with room left

@@ -24,7 +24,7 @@ pub(crate) fn chain_of(alloc: Global, keys: &[u32], count: usize) -> Result<Chai
         (length keys.now) count c.last.items c.before.items) }
 {
     let mut last = vec![in alloc; 0; count]?;
-    let mut before = Vec::new(alloc);
+    let mut before = Vec::with_capacity(alloc, keys.len())?;
     for at in 0..keys.len() {
         let key = keys[at] as usize;
         before.push(last[key])?;

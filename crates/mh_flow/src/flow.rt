@@ -2,7 +2,7 @@
 
 ghost use Rattle.std.specs.Prelude.{◌≡◌, ◌≤◌, ◌<◌, ◌+◌, ◌+ℤ◌, pos, length, All, AllPairs, IfOk};
 ghost use Rattle.mh_network.specs.Problems.{sum_of_gains};
-ghost use Rattle.mh_network.specs.Selection.{IsBefore, IsFlow, IsLeast, worth, member, value_of};
+ghost use Rattle.mh_network.specs.Selection.{IsBefore, IsChargeBefore, IsFlow, IsLeast, worth, member, value_of};
 
 use crate::blocking::block;
 use crate::layer_run::{FlowRun, LayerRun};
@@ -11,16 +11,18 @@ use mh_network::{Problem, cuts_are_least, needs_are_of_links};
 use std::alloc::Global;
 
 /// A greatest flow of a problem, and the links that its source still reaches, which are the least
-/// best links (Picard 1976). The rows are positive amounts by link and then point. At most two
-/// phases more than there are links and points.
+/// best links (Picard 1976). The rows are positive amounts by link and then point, the charges
+/// positive amounts by link. At most two phases more than there are links and points.
 ///
 /// Refused only where a growth was refused.
 pub fn max_flow(alloc: Global, problem: &Problem) -> Result<FlowRun, NoMemory>
-    ensures flow { IfOk result (λ run. IsFlow problem.now run.rows) }
+    ensures flow { IfOk result (λ run. IsFlow problem.now run.rows run.charges) }
     ensures positive { IfOk result (λ run. All (λ r. 0 < r.2) run.rows) }
     ensures ordered { IfOk result (λ run. AllPairs IsBefore run.rows) }
+    ensures paid { IfOk result (λ run. All (λ r. 0 < r.1) run.charges) }
+    ensures paid_ordered { IfOk result (λ run. AllPairs IsChargeBefore run.charges) }
     ensures equal { IfOk result (λ run. worth problem.now (member run.reached) +ℤ pos
-        (value_of run.rows) ≡ pos (sum_of_gains problem.now)) }
+        (value_of run.rows run.charges) ≡ pos (sum_of_gains problem.now)) }
     ensures least { IfOk result (λ run. IsLeast problem.now (member run.reached)) }
     ensures some { IfOk result (λ run. 1 ≤ run.phases) }
     ensures phases { IfOk result (λ run. run.phases

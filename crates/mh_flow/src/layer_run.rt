@@ -1,11 +1,13 @@
 //! A run of the flow.
 
 ghost use Rattle.std.specs.Prelude.{◌≡◌, ◌<◌, ◌+◌, ◌^◌, ◌↔◌, length, ℕ, IfOk, OnOk, OnErr, IsTrue, MatchBool};
+ghost use Rattle.mh_network.specs.Problems.{gain_of};
 ghost use Rattle.mh_network.specs.Selection.{member};
-ghost use Rattle.mh_flow.specs.Carried.{number_at};
+ghost use Rattle.mh_flow.specs.Carried.{carried, number_at};
+ghost use Rattle.mh_flow.specs.Charged.{paid_charges, paid_of};
 ghost use Rattle.mh_flow.specs.Distances.{AreDistances};
 ghost use Rattle.mh_flow.specs.LayerData.{IsLayerRun, IsSameFlow, IsEnd, IsPathPushed, IsSinkLevel};
-ghost use Rattle.mh_flow.specs.Layers.{IsPath};
+ghost use Rattle.mh_flow.specs.Layers.{IsPath, room};
 ghost use Rattle.mh_flow.specs.Levels.{far, IsLower};
 ghost use Rattle.mh_flow.specs.Run.{IsLayered, is_reached, positive_rows};
 ghost use Rattle.mh_flow.specs.Spent.{IsPhase, IsSpent};
@@ -13,7 +15,7 @@ ghost use Rattle.mh_flow.specs.Spent.{IsPhase, IsSpent};
 use crate::chain::Chain;
 use crate::levels::{UNREACHED, levels_from, sink_level, unreached};
 use crate::need_row::NeedRow;
-use crate::outcome::{positive, reached_links};
+use crate::outcome::{paid_charges, positive, reached_links};
 use crate::path::Path;
 use crate::push::push_along;
 use crate::search::{Places, find_path};
@@ -63,6 +65,7 @@ impl<'p> fmt::Debug for LayerRun<'p> {
 #[derive(Debug, Drop)]
 pub struct FlowRun {
     rows: Vec<(u32, u32, u64)>,
+    charges: Vec<(u32, u64)>,
     reached: Vec<u32>,
     phases: u64,
 }
@@ -74,6 +77,7 @@ impl Model for FlowRun {
 
     ghost view = { λ a. record {
       rows = a.rows.items;
+      charges = a.charges.items;
       reached = a.reached.items;
       phases = a.phases;
     } };
@@ -85,6 +89,13 @@ impl FlowRun {
         ensures value { result.now ≡ self.now.rows }
     {
         self.rows.as_slice()
+    }
+
+    /// The amounts that links pay of their charges, where there are any.
+    pub fn charges(&self) -> &[(u32, u64)]
+        ensures value { result.now ≡ self.now.charges }
+    {
+        self.charges.as_slice()
     }
 
     /// The links that the source reaches.
@@ -103,10 +114,14 @@ impl FlowRun {
 }
 
 impl<'p> LayerRun<'p> {
-    /// A run that carries nothing, with no level built.
+    /// A run in which each link pays of its charge what its gain allows, and nothing else, with no
+    /// level built.
     pub fn new(alloc: Global, problem: &'p Problem) -> Result<LayerRun<'p>, NoMemory>
         ensures problem { IfOk result (λ run. run.problem ≡ problem.now) }
         ensures phases { IfOk result (λ run. run.phases ≡ 0) }
+        ensures idle { IfOk result (λ run. carried run.rows ≡ 0) }
+        ensures paid { IfOk result (λ run. (j : ℕ) → j < length run.gain_left
+            → number_at run.gain_left j + paid_of problem.now j ≡ gain_of problem.now j) }
         ensures kept { IfOk result (λ run. IsLayerRun run) }
     {
         needs_are_of_links();
@@ -167,13 +182,16 @@ impl<'p> LayerRun<'p> {
         self.sink < UNREACHED
     }
 
-    /// Pushes as much along a path as it allows.
+    /// Pushes along a path the least of what its edges leave.
     pub fn push_path(&mut self, path: &Path)
         requires path { IsPath self.old.rows self.old.gain_left (number_at self.old.links)
             (number_at self.old.points) path.now.point path.now.turns.items path.now.first }
         requires inside { path.now.point < length self.old.points }
         requires end { IsEnd self.old path.now.point }
         ensures pushed { IsPathPushed self.old self.new path.now.point }
+        ensures least { carried self.new.rows ≡ carried self.old.rows + room self.old.rows
+            self.old.gain_left (number_at self.old.cost_left path.now.point) path.now.turns.items
+            path.now.first }
         ensures kept { IsLayerRun self.new }
     {
         needs_are_of_links();
@@ -193,12 +211,14 @@ impl<'p> LayerRun<'p> {
     /// The flow, the links that have a level, and the count of phases.
     pub fn finish(self) -> Result<FlowRun, NoMemory>
         ensures rows { IfOk result (λ run. run.rows ≡ positive_rows self.entry.rows) }
+        ensures charges { IfOk result (λ run. run.charges ≡ paid_charges self.entry.problem) }
         ensures reached { IfOk result (λ run. (j : ℕ)
             → member run.reached j ≡ is_reached self.entry.links j) }
         ensures phases { IfOk result (λ run. run.phases ≡ self.entry.phases) }
     {
         Ok(FlowRun {
             rows: positive(self.alloc, &self.rows)?,
+            charges: paid_charges(self.alloc, self.problem)?,
             reached: reached_links(self.alloc, &self.links)?,
             phases: self.phases,
         })

@@ -146,6 +146,54 @@ fn spread_point(
     Ok(())
 }
 
+/// Lowers the levels of the points of all rows, in the order in which these lie, and lists those
+/// points.
+fn sweep_points(
+    alloc: Global,
+    rows: &[NeedRow],
+    gain_left: &[u64],
+    links: &[u32],
+    points: &mut [u32],
+) -> Result<Vec<usize>, NoMemory>
+    requires range { IsInRange rows.now links.now points.old }
+    requires levels { IsPointLevels rows.now gain_left.now links.now points.old }
+    ensures levels { OnOk result (IsPointLevels rows.now gain_left.now links.now points.new) }
+    ensures spread { IfOk result (λ lowered. IsSpread points.old points.new [] lowered.items) }
+    ensures settled { OnOk result ((j : ℕ) → IsLinkSettled rows.now links.now points.new j) }
+{
+    let mut lowered = Vec::new(alloc);
+    for row in 0..rows.len() {
+        if settle_point(rows, row, gain_left, links, points) {
+            lowered.push(rows[row].point as usize)?;
+        }
+    }
+    Ok(lowered)
+}
+
+/// Lowers the levels of the links of all rows that carry something, in the order in which these
+/// lie, and lists those links.
+fn sweep_links(
+    alloc: Global,
+    rows: &[NeedRow],
+    gain_left: &[u64],
+    links: &mut [u32],
+    points: &[u32],
+) -> Result<Vec<usize>, NoMemory>
+    requires range { IsInRange rows.now links.old points.now }
+    requires levels { IsPointLevels rows.now gain_left.now links.old points.now }
+    ensures levels { OnOk result (IsPointLevels rows.now gain_left.now links.new points.now) }
+    ensures spread { IfOk result (λ lowered. IsSpread links.old links.new [] lowered.items) }
+    ensures settled { OnOk result ((p : ℕ) → IsPointSettled rows.now links.new points.now p) }
+{
+    let mut lowered = Vec::new(alloc);
+    for row in 0..rows.len() {
+        if settle_link(rows, row, gain_left, links, points) {
+            lowered.push(rows[row].link as usize)?;
+        }
+    }
+    Ok(lowered)
+}
+
 /// Lowers the levels of the points that the listed links need, and lists those points.
 fn spread_links(
     alloc: Global,
@@ -167,6 +215,10 @@ fn spread_links(
     ensures spread { IfOk result (λ lowered. IsSpread points.old points.new [] lowered.items) }
     ensures settled { OnOk result ((j : ℕ) → IsLinkSettled rows.now links.now points.new j) }
 {
+    // Rows that lie one after another are read faster than those that a chain leads to.
+    if from.len() > links.len() / 2 {
+        return sweep_points(alloc, rows, gain_left, links, points);
+    }
     let mut lowered = Vec::new(alloc);
     for link in from {
         spread_link(rows, by_link, gain_left, *link, links, points, &mut lowered)?;
@@ -195,6 +247,10 @@ fn spread_points(
     ensures spread { IfOk result (λ lowered. IsSpread links.old links.new [] lowered.items) }
     ensures settled { OnOk result ((p : ℕ) → IsPointSettled rows.now links.new points.now p) }
 {
+    // Rows that lie one after another are read faster than those that a chain leads to.
+    if from.len() > points.len() / 2 {
+        return sweep_links(alloc, rows, gain_left, links, points);
+    }
     let mut lowered = Vec::new(alloc);
     for point in from {
         spread_point(

@@ -1,13 +1,15 @@
 //! What a run gives at its end.
 
-ghost use Rattle.std.specs.Prelude.{◌≡◌, ◌≤◌, length, ℕ, IfOk};
+ghost use Rattle.std.specs.Prelude.{◌≡◌, ◌≤◌, ◌<◌, length, ℕ, IfOk};
 ghost use Rattle.mh_network.specs.Selection.{member};
+ghost use Rattle.mh_flow.specs.Charged.{paid_charges as charges_paid, paid_of};
 ghost use Rattle.mh_flow.specs.Run.{is_reached, positive_rows};
 ghost use Rattle.mh_network.specs.Limits.{most_links};
 
 use crate::levels::UNREACHED;
 use crate::need_row::NeedRow;
 use mh_base::NoMemory;
+use mh_network::Problem;
 use std::alloc::Global;
 
 /// The rows that carry something.
@@ -20,6 +22,28 @@ pub(crate) fn positive(alloc: Global, rows: &[NeedRow]) -> Result<Vec<(u32, u32,
         .map(|row| (row.link, row.point, row.amount))
         .collect(alloc)?;
     Ok(positive)
+}
+
+/// What a link pays of its charge: as much as its gain allows.
+pub(crate) fn paid(problem: &Problem, link: usize) -> u64
+    requires inside { link < length problem.now.links }
+    ensures value { result ≡ paid_of problem.now link }
+{
+    problem.gain(link).min(problem.charge(link))
+}
+
+/// What each link pays of its charge, where it pays anything.
+pub(crate) fn paid_charges(alloc: Global, problem: &Problem) -> Result<Vec<(u32, u64)>, NoMemory>
+    ensures { IfOk result (λ v. v.items ≡ charges_paid problem.now) }
+{
+    let mut charges = Vec::new(alloc);
+    for link in 0..problem.links() {
+        let amount = paid(problem, link);
+        if amount > 0 {
+            charges.push((link as u32, amount))?;
+        }
+    }
+    Ok(charges)
 }
 
 /// The links that have a level.

@@ -1,14 +1,17 @@
-//! What a run begins with: rows for all needs, told by link and by point, and all gains and costs.
+//! What a run begins with: rows for all needs, by link and by point, what the charges leave of the
+//! gains, and all costs.
 
-ghost use Rattle.std.specs.Prelude.{◌≡◌, ◌<◌, ◌++◌, length, map, ℕ, All, IfOk, OnOk};
+ghost use Rattle.std.specs.Prelude.{◌≡◌, ◌<◌, ◌+◌, ◌++◌, length, map, ℕ, All, IfOk, OnOk};
 ghost use Rattle.mh_network.specs.Problems.{gain_of, cost_of};
 ghost use Rattle.mh_flow.specs.Carried.{number_at};
+ghost use Rattle.mh_flow.specs.Charged.{paid_of};
 ghost use Rattle.mh_flow.specs.Chains.{IsChained};
 ghost use Rattle.mh_flow.specs.Run.{needs_below};
 ghost use Rattle.mh_flow.specs.Spreads.{link_key, point_key};
 
 use crate::chain::{Chain, chain_of};
 use crate::need_row::NeedRow;
+use crate::outcome::paid;
 use mh_base::NoMemory;
 use mh_network::Problem;
 use std::alloc::Global;
@@ -82,15 +85,15 @@ fn points_of(alloc: Global, rows: &[NeedRow]) -> Result<Vec<u32>, NoMemory>
     Ok(keys)
 }
 
-/// The gain of each link.
+/// What each link keeps of its gain once it has paid of its charge.
 pub(crate) fn gains(alloc: Global, problem: &Problem) -> Result<Vec<u64>, NoMemory>
     ensures count { IfOk result (λ v. length v.items ≡ length problem.now.links) }
     ensures gains { IfOk result (λ v. (j : ℕ) → j < length v.items
-        → number_at v.items j ≡ gain_of problem.now j) }
+        → number_at v.items j + paid_of problem.now j ≡ gain_of problem.now j) }
 {
     let mut gains = Vec::new(alloc);
     for link in 0..problem.links() {
-        gains.push(problem.gain(link))?;
+        gains.push(problem.gain(link) - paid(problem, link))?;
     }
     Ok(gains)
 }

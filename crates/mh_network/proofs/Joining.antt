@@ -7,8 +7,8 @@ use Rattle.std.proofs.lemmas.List.{get_or_past}
 use Rattle.std.proofs.lemmas.Bool.{cases_Bool, cases_lt, true≢false, and_parts, and_from, or_cases}
 use Rattle.mh_network.specs.declared.link_row.LinkRow.{LinkRow}
 use Rattle.mh_network.specs.Sums.{sum_below, some_below, kept}
-use Rattle.mh_network.specs.Problems.{ProblemData, link_at, gain_of, cost_of, needs_point, no_link}
-use Rattle.mh_network.specs.Selection.{union_of_needs, gain_sum, cost_sum, worth, AllEligible, IsBest, IsLeast}
+use Rattle.mh_network.specs.Problems.{ProblemData, link_at, gain_of, charge_of, cost_of, needs_point, no_link}
+use Rattle.mh_network.specs.Selection.{union_of_needs, gain_sum, cost_sum, price, worth, AllEligible, IsBest, IsLeast}
 use Rattle.mh_network.specs.Laws.SumLaws.{sum_below-same, sum_below-add, sum_below-split}
 use Rattle.mh_network.specs.Laws.Optimal.{some_below-from, some_below-gives}
 
@@ -24,7 +24,7 @@ pub record IsSeparate (P : ProblemData) (A : ℕ → Bool) : Type 0 where
 
 -- T is worth no more than S
 abbrev pub NoBetter : ProblemData → (ℕ → Bool) → (ℕ → Bool) → Type 0
-NoBetter P T S = gain_sum P T + cost_sum P (union_of_needs P S) ≤ gain_sum P S + cost_sum P (union_of_needs P T)
+NoBetter P T S = gain_sum P T + price P S ≤ gain_sum P S + price P T
 
 difference-back : (a b c d : ℕ) → (pos a -ℤ pos c) ≤ℤ (pos b -ℤ pos d) → a + d ≤ b + c
 difference-back a b c d h = omega (arith, ints)
@@ -44,12 +44,16 @@ kept_meet S A f k = elim (S k) as (λ b. cond (A k) (cond b (f k) 0) 0 ≡ cond 
   | false ↦ elim (A k) as (λ c. cond {A = ℕ} c 0 0 ≡ 0) [ true ↦ refl | false ↦ refl ]
 ]
 
-pub gain_split : (P : ProblemData) (S A : ℕ → Bool) → gain_sum P (meet S A) + gain_sum P (less S A) ≡ gain_sum P S
-gain_split P S A =
-    let whole = sum_below-split (length P.links) A (kept S (gain_of P)) in
-    let first : sum_below (length P.links) (kept A (kept S (gain_of P))) ≡ gain_sum P (meet S A) = sum_below-same (length P.links) _ _ (λ k l. kept_meet S A (gain_of P) k) in
-    let second : sum_below (length P.links) (kept (λ k. not (A k)) (kept S (gain_of P))) ≡ gain_sum P (less S A) = sum_below-same (length P.links) _ _ (λ k l. kept_meet S (λ i. not (A i)) (gain_of P) k) in
+-- a sum over a set is that over its half in A and that over the other
+half_sums : (n : ℕ) (f : ℕ → ℕ) (S A : ℕ → Bool) → sum_below n (kept (meet S A) f) + sum_below n (kept (less S A) f) ≡ sum_below n (kept S f)
+half_sums n f S A =
+    let whole = sum_below-split n A (kept S f) in
+    let first : sum_below n (kept A (kept S f)) ≡ sum_below n (kept (meet S A) f) = sum_below-same n _ _ (λ k l. kept_meet S A f k) in
+    let second : sum_below n (kept (λ k. not (A k)) (kept S f)) ≡ sum_below n (kept (less S A) f) = sum_below-same n _ _ (λ k l. kept_meet S (λ i. not (A i)) f k) in
     omega arith
+
+pub gain_split : (P : ProblemData) (S A : ℕ → Bool) → gain_sum P (meet S A) + gain_sum P (less S A) ≡ gain_sum P S
+gain_split P S A = half_sums (length P.links) (gain_of P) S A
 
 not_gives : (b : Bool) → not b ≡ true → b ≡ false
 not_gives true e = absurd (true≢false (sym e))
@@ -67,7 +71,7 @@ parted u false true c f g h n = rw (h refl) (omega arith)
 parted true false false c f g h n = elim (f refl) [ inl e ↦ absurd (true≢false (sym e)) | inr e ↦ absurd (true≢false (sym e)) ]
 parted false false false c f g h n = refl
 
-pub cost_split : (P : ProblemData) (S A : ℕ → Bool) → IsSeparate P A →
+cost_split : (P : ProblemData) (S A : ℕ → Bool) → IsSeparate P A →
     cost_sum P (union_of_needs P (meet S A)) + cost_sum P (union_of_needs P (less S A)) ≡ cost_sum P (union_of_needs P S)
 cost_split P S A separate =
     let n : ℕ = length P.links in
@@ -100,6 +104,9 @@ cost_split P S A separate =
     sum_below-same (length P.costs) _ _ each in
     omega (arith, whole, sum_below-add (length P.costs) (kept (union_of_needs P (meet S A)) (cost_of P)) (kept (union_of_needs P (less S A)) (cost_of P)))
 
+pub price_split : (P : ProblemData) (S A : ℕ → Bool) → IsSeparate P A → price P (meet S A) + price P (less S A) ≡ price P S
+price_split P S A separate = omega (arith, cost_split P S A separate, half_sums (length P.links) (charge_of P) S A)
+
 -- best, and least, among the sets within A
 pub record IsBestWithin (P : ProblemData) (A S : ℕ → Bool) : Type 0 where
   pub inside : (j : ℕ) → S j ≡ true → A j ≡ true
@@ -113,13 +120,13 @@ pub record IsLeastWithin (P : ProblemData) (A S : ℕ → Bool) : Type 0 where
 -- two halves that are no better make a whole that is no better
 pub whole_no_better : (P : ProblemData) (T S A : ℕ → Bool) → IsSeparate P A → NoBetter P (meet T A) (meet S A) → NoBetter P (less T A) (less S A) → NoBetter P T S
 whole_no_better P T S A separate f g =
-    omega (arith, gain_split P T A, gain_split P S A, cost_split P T A separate, cost_split P S A separate)
+    omega (arith, gain_split P T A, gain_split P S A, price_split P T A separate, price_split P S A separate)
 
 pub half_no_better : (P : ProblemData) (T S A : ℕ → Bool) → IsSeparate P A → NoBetter P T S → less T A ≡ less S A → NoBetter P (meet T A) (meet S A)
 half_no_better P T S A separate h e =
     let gains : gain_sum P (less T A) ≡ gain_sum P (less S A) = ap (gain_sum P) e in
-    let costs : cost_sum P (union_of_needs P (less T A)) ≡ cost_sum P (union_of_needs P (less S A)) = ap (λ (U : ℕ → Bool). cost_sum P (union_of_needs P U)) e in
-    omega (arith, gain_split P T A, gain_split P S A, cost_split P T A separate, cost_split P S A separate)
+    let prices : price P (less T A) ≡ price P (less S A) = ap (price P) e in
+    omega (arith, gain_split P T A, gain_split P S A, price_split P T A separate, price_split P S A separate)
 
 pub eligible_inside : (P : ProblemData) (S : ℕ → Bool) → AllEligible P S → (j : ℕ) → S j ≡ true → j < length P.links
 eligible_inside P S h j e =

@@ -9,14 +9,14 @@ use Rattle.std.proofs.lemmas.Bool.{cases_lt, true≢false, eqb-true, lt-ltb}
 use Rattle.mh_network.specs.declared.link_row.LinkRow.{LinkRow}
 use Rattle.mh_network.specs.declared.part.Part.{Part}
 use Rattle.mh_network.specs.Sums.{sum_below, kept}
-use Rattle.mh_network.specs.Problems.{ProblemData, IsProblem, link_at, gain_of, cost_of, no_link, sum_of_gains, sum_of_costs}
-use Rattle.mh_network.specs.Selection.{member, gain_sum}
+use Rattle.mh_network.specs.Problems.{ProblemData, IsProblem, link_at, gain_of, charge_of, cost_of, no_link, sum_of_gains, sum_of_costs, sum_of_charges}
+use Rattle.mh_network.specs.Selection.{member, gain_sum, charge_sum}
 use Rattle.mh_network.specs.Parts.{IsPartOf, place_of, part_row, part_problem, restricted}
 use Rattle.mh_network.specs.Laws.Kept.{sum_below-list}
 use Rattle.mh_network.specs.Laws.Members.{found, listed_sum, all_members}
 use Rattle.mh_network.specs.Laws.SumLaws.{sum_below-same, sum_below-le}
 use Rattle.mh_network.proofs.Joining.{meet}
-use Rattle.mh_network.proofs.Renumbering.{num, place_in, member_at, any_map, row_here, gains_here}
+use Rattle.mh_network.proofs.Renumbering.{num, place_in, member_at, any_map, row_here, gains_here, charges_here}
 
 -- one more number of a list, as a function gives it
 pub mapped_more : (f : ℕ → ℕ) (old new xs : List ℕ) (i x : ℕ) → i < length xs → old ≡ map f (take i xs) → new ≡ old ++ x ∷ [] → x ≡ f (num xs i) → new ≡ map f (take (i + 1) xs)
@@ -84,21 +84,30 @@ module _ (P : ProblemData) (part : Part) (h : IsPartOf P part) (problem : IsProb
       let after : member part.points (num ns (i + 1)) ≡ true = h.needs_in j (num ns (i + 1)) inside (member_at ns (i + 1) short) in
       omega (arith, first, second, place_rises part.points (num ns i) (num ns (i + 1)) h.points here after (problem.ascending j i short))
 
-  -- the gains of a part are those of its links
-  pub part_gains : sum_of_gains (part_problem P part) ≡ gain_sum P (meet every (member part.links))
-  part_gains =
+  -- what all links of a part add up to is what they add up to in the whole
+  all_of_part : (f : LinkRow → ℕ) →
+      sum_below (length (part_problem P part).links) (λ k. f (link_at (part_problem P part) k)) ≡ sum_below (length (part_problem P part).links) (kept (restricted every part) (λ k. f (link_at (part_problem P part) k)))
+  all_of_part f =
       let count : length (part_problem P part).links ≡ length part.links = length-map part.links (part_row P part) in
-      let whole : sum_of_gains (part_problem P part) ≡ gain_sum (part_problem P part) (restricted every part) =
       sum_below-same (length (part_problem P part).links) _ _ (λ k l.
       let below : k < length part.links = omega (arith, l, count) in
-      sym (ap (λ (b : Bool). cond (b && true) (gain_of (part_problem P part) k) 0) (lt-ltb k (length part.links) below))) in
-      whole ∙ gains_here P part h every
+      sym (ap (λ (b : Bool). cond (b && true) (f (link_at (part_problem P part) k)) 0) (lt-ltb k (length part.links) below)))
+
+  half_within : (f : ℕ → ℕ) → sum_below (length P.links) (kept (meet every (member part.links)) f) ≤ sum_below (length P.links) f
+  half_within f = sum_below-le (length P.links) _ _ (λ k l.
+      elim (member part.links k) as (λ b. cond (true && b) (f k) 0 ≤ f k) [ true ↦ omega arith | false ↦ omega arith ])
+
+  -- the gains of a part are those of its links
+  pub part_gains : sum_of_gains (part_problem P part) ≡ gain_sum P (meet every (member part.links))
+  part_gains = all_of_part (λ (r : LinkRow). r.gain) ∙ gains_here P part h every
 
   gains_within : sum_of_gains (part_problem P part) ≤ sum_of_gains P
-  gains_within =
-      let kept_le : gain_sum P (meet every (member part.links)) ≤ sum_of_gains P = sum_below-le (length P.links) _ _ (λ k l.
-      elim (member part.links k) as (λ b. cond (true && b) (gain_of P k) 0 ≤ gain_of P k) [ true ↦ omega arith | false ↦ omega arith ]) in
-      omega (arith, part_gains, kept_le)
+  gains_within = omega (arith, part_gains, half_within (gain_of P))
+
+  charges_within : sum_of_charges (part_problem P part) ≤ sum_of_charges P
+  charges_within =
+      let same : sum_of_charges (part_problem P part) ≡ charge_sum P (meet every (member part.links)) = all_of_part (λ (r : LinkRow). r.charge) ∙ charges_here P part h every in
+      omega (arith, same, half_within (charge_of P))
 
   costs_within : sum_of_costs (part_problem P part) ≤ sum_of_costs P
   costs_within =
@@ -123,5 +132,5 @@ module _ (P : ProblemData) (part : Part) (h : IsPartOf P part) (problem : IsProb
     ascending = each_row (λ r. IsStrictlyIncreasing r.needs) (λ k l. absurd (omega arith)) needs_rise;
     ineligible = each_row (λ r. r.eligible ≡ false → r.gain ≡ 0) (λ e. refl) (λ j inside e. problem.ineligible j e);
     gains = omega (arith, gains_within, problem.gains);
-    costs = omega (arith, costs_within, problem.costs);
+    costs = omega (arith, costs_within, charges_within, problem.costs);
   }

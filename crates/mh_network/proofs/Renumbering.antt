@@ -10,8 +10,8 @@ use Rattle.std.proofs.lemmas.Bool.{cases_Bool, cases_lt, true≢false, and_parts
 use Rattle.mh_network.specs.declared.link_row.LinkRow.{LinkRow}
 use Rattle.mh_network.specs.declared.part.Part.{Part}
 use Rattle.mh_network.specs.Sums.{sum_below, kept}
-use Rattle.mh_network.specs.Problems.{ProblemData, IsProblem, link_at, gain_of, cost_of, needs_point, no_link}
-use Rattle.mh_network.specs.Selection.{member, union_of_needs, gain_sum, cost_sum, AllEligible, IsBest, IsLeast}
+use Rattle.mh_network.specs.Problems.{ProblemData, IsProblem, link_at, cost_of, needs_point, no_link}
+use Rattle.mh_network.specs.Selection.{member, union_of_needs, gain_sum, cost_sum, charge_sum, price, AllEligible, IsBest, IsLeast}
 use Rattle.mh_network.specs.Parts.{Item, IsItem, IsJoined, IsPartOf, part_at, holds, AreParts, place_of, part_row, part_problem, restricted, PartsJoin}
 use Rattle.mh_network.specs.Parts.Item.{link, point}
 use Rattle.mh_network.specs.Parts.IsJoined.{here, down, up}
@@ -109,23 +109,32 @@ module _ (P : ProblemData) (part : Part) (h : IsPartOf P part) where
       some_below-from (length (part_problem P part).links) (λ i. restricted S part i && needs_point (part_problem P part) i r) k (omega (arith, there.0, length-map part.links (part_row P part)))
       (and_from _ _ (and_from _ _ (lt-ltb k (length part.links) there.0) picked) (needs_here k r there.0 m ∙ needs)))
 
-  pub gains_here : (S : ℕ → Bool) → gain_sum (part_problem P part) (restricted S part) ≡ gain_sum P (meet S (member part.links))
-  gains_here S =
-      let g : ℕ → ℕ = kept S (gain_of P) in
+  -- what the links of the part that S has add up to
+  sums_here : (f : LinkRow → ℕ) → ((j : ℕ) → f (part_row P part j) ≡ f (link_at P j)) → (S : ℕ → Bool) →
+      sum_below (length (part_problem P part).links) (kept (restricted S part) (λ k. f (link_at (part_problem P part) k))) ≡ sum_below (length P.links) (kept (meet S (member part.links)) (λ j. f (link_at P j)))
+  sums_here f same S =
+      let g : ℕ → ℕ = kept S (λ j. f (link_at P j)) in
       let count : length (part_problem P part).links ≡ length part.links = length-map part.links (part_row P part) in
-      let first : gain_sum (part_problem P part) (restricted S part) ≡ sum_below (length part.links) (kept (restricted S part) (gain_of (part_problem P part))) =
-      ap (λ (n : ℕ). sum_below n (kept (restricted S part) (gain_of (part_problem P part)))) count in
-      let second : sum_below (length part.links) (kept (restricted S part) (gain_of (part_problem P part))) ≡ sum_below (length part.links) (λ k. g (num part.links k)) =
+      let first : sum_below (length (part_problem P part).links) (kept (restricted S part) (λ k. f (link_at (part_problem P part) k))) ≡ sum_below (length part.links) (kept (restricted S part) (λ k. f (link_at (part_problem P part) k))) =
+      ap (λ (n : ℕ). sum_below n (kept (restricted S part) (λ k. f (link_at (part_problem P part) k)))) count in
+      let second : sum_below (length part.links) (kept (restricted S part) (λ k. f (link_at (part_problem P part) k))) ≡ sum_below (length part.links) (λ k. g (num part.links k)) =
       sum_below-same (length part.links) _ _ (λ k l.
-      let value : gain_of (part_problem P part) k ≡ gain_of P (num part.links k) = ap (λ (x : LinkRow). x.gain) (row_here k l) in
+      let value : f (link_at (part_problem P part) k) ≡ f (link_at P (num part.links k)) = ap f (row_here k l) ∙ same (num part.links k) in
       let test : restricted S part k ≡ S (num part.links k) = rw (lt-ltb k (length part.links) l) refl in
-      ap (λ (b : Bool). cond b (gain_of (part_problem P part) k) 0) test ∙ ap (λ (v : ℕ). cond (S (num part.links k)) v 0) value) in
+      ap (λ (b : Bool). cond b (f (link_at (part_problem P part) k)) 0) test ∙ ap (λ (v : ℕ). cond (S (num part.links k)) v 0) value) in
       let third : sum_below (length part.links) (λ k. g (num part.links k)) ≡ sum_by g part.links = sum_below-list g 0 part.links in
       let fourth : sum_by g part.links ≡ sum_below (length P.links) (kept (member part.links) g) = listed_sum g (length P.links) part.links h.links (all_members (λ j. j < length P.links) part.links h.links_in) in
-      let fifth : sum_below (length P.links) (kept (member part.links) g) ≡ gain_sum P (meet S (member part.links)) = sum_below-same (length P.links) _ _ (λ k l. kept_meet S (member part.links) (gain_of P) k) in
+      let fifth : sum_below (length P.links) (kept (member part.links) g) ≡ sum_below (length P.links) (kept (meet S (member part.links)) (λ j. f (link_at P j))) =
+      sum_below-same (length P.links) _ _ (λ k l. kept_meet S (member part.links) (λ j. f (link_at P j)) k) in
       first ∙ (second ∙ (third ∙ (fourth ∙ fifth)))
 
-  pub costs_here : (S : ℕ → Bool) → cost_sum (part_problem P part) (union_of_needs (part_problem P part) (restricted S part)) ≡ cost_sum P (union_of_needs P (meet S (member part.links)))
+  pub gains_here : (S : ℕ → Bool) → gain_sum (part_problem P part) (restricted S part) ≡ gain_sum P (meet S (member part.links))
+  gains_here S = sums_here (λ (r : LinkRow). r.gain) (λ j. refl) S
+
+  pub charges_here : (S : ℕ → Bool) → charge_sum (part_problem P part) (restricted S part) ≡ charge_sum P (meet S (member part.links))
+  charges_here S = sums_here (λ (r : LinkRow). r.charge) (λ j. refl) S
+
+  costs_here : (S : ℕ → Bool) → cost_sum (part_problem P part) (union_of_needs (part_problem P part) (restricted S part)) ≡ cost_sum P (union_of_needs P (meet S (member part.links)))
   costs_here S =
       let U : ℕ → Bool = union_of_needs P (meet S (member part.links)) in
       let g : ℕ → ℕ = kept U (cost_of P) in
@@ -154,11 +163,14 @@ module _ (P : ProblemData) (part : Part) (h : IsPartOf P part) where
       ]) in
       first ∙ (second ∙ (third ∙ (fourth ∙ fifth)))
 
+  pub prices_here : (S : ℕ → Bool) → price (part_problem P part) (restricted S part) ≡ price P (meet S (member part.links))
+  prices_here S = omega (arith, costs_here S, charges_here S)
+
   into_whole : (T S : ℕ → Bool) → NoBetter (part_problem P part) (restricted T part) (restricted S part) → NoBetter P (meet T (member part.links)) (meet S (member part.links))
-  into_whole T S better = omega (arith, better, gains_here T, gains_here S, costs_here T, costs_here S)
+  into_whole T S better = omega (arith, better, gains_here T, gains_here S, prices_here T, prices_here S)
 
   into_part : (T S : ℕ → Bool) → NoBetter P (meet T (member part.links)) (meet S (member part.links)) → NoBetter (part_problem P part) (restricted T part) (restricted S part)
-  into_part T S better = omega (arith, better, gains_here T, gains_here S, costs_here T, costs_here S)
+  into_part T S better = omega (arith, better, gains_here T, gains_here S, prices_here T, prices_here S)
 
   met : (T : ℕ → Bool) → ((j : ℕ) → T j ≡ true → member part.links j ≡ true) → meet T (member part.links) ≡ T
   met T inside = fun_ext (λ j. elim (cases_Bool (T j)) [

@@ -67,7 +67,7 @@ pub record ArePlaces (points : List ℕ) (bound : ℕ) (places : List ℕ) : Typ
 
 -- a part as a problem of its own, with its links and points numbered anew
 abbrev pub part_row : ProblemData → Part → ℕ → LinkRow
-part_row P part j = record { gain = (link_at P j).gain; eligible = (link_at P j).eligible; needs = map (place_of part.points) (link_at P j).needs }
+part_row P part j = record { gain = (link_at P j).gain; eligible = (link_at P j).eligible; needs = map (place_of part.points) (link_at P j).needs; charge = (link_at P j).charge }
 
 abbrev pub part_problem : ProblemData → Part → ProblemData
 part_problem P part = record { links = map (part_row P part) part.links; costs = map (cost_of P) part.points }

@@ -81,6 +81,7 @@ fn part_row(
         gain: problem.gain(link),
         eligible: problem.eligible(link),
         needs: Listing::from_vec(needs),
+        charge: problem.charge(link),
     })
 }
 

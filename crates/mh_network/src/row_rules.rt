@@ -1,6 +1,6 @@
 //! The rules of a problem's rows and costs, in the order in which they are tested.
 
-ghost use Rattle.std.specs.Prelude.{◌≡◌, ◌↔◌, ◌≤◌, ◌<◌, ◌^◌, IsTrue, MatchResult, All, length, nat_le, true, false, sum};
+ghost use Rattle.std.specs.Prelude.{◌≡◌, ◌+◌, ◌↔◌, ◌≤◌, ◌<◌, ◌^◌, IsTrue, MatchResult, All, length, nat_le, true, false, sum};
 ghost use Rattle.std.specs.List.{sum_by};
 ghost use Rattle.std.specs.List.Sorted.{IsStrictlyIncreasing};
 ghost use Rattle.mh_network.specs.Problems.{kept_gain, problem_tests};
@@ -12,19 +12,19 @@ use crate::link_row::LinkRow;
 use mh_base::{are_below, demand, is_ascending};
 
 /// The most links of a problem.
-pub const MOST_LINKS: usize = 4096;
+pub const MOST_LINKS: usize = 16384;
 
 /// The most points of a problem.
-pub const MOST_POINTS: usize = 1024;
+pub const MOST_POINTS: usize = 4096;
 
 /// The most needs of a link.
 pub const MOST_NEEDS: usize = 8;
 
-/// The greatest sum of gains, and of costs.
+/// The greatest sum of gains, and of costs and charges.
 pub const GREATEST_SUM: u64 = 1 << 62;
 
 // All tests, in order.
-#[tactic(auto, using(crate::specs::Laws::Kept::kept_gains, crate::specs::Laws::Kept::kept_costs))]
+#[tactic(auto, using(crate::specs::Laws::Kept::kept_gains, crate::specs::Laws::Kept::kept_costs, crate::specs::Laws::Kept::kept_charges))]
 pub(crate) fn test(rows: &[LinkRow], costs: &[u64]) -> Result<(), ProblemFault>
     ensures value { MatchResult result (λ _. Passes (problem_tests rows.now costs.now))
         (λ e. Refuses (problem_tests rows.now costs.now) e) }
@@ -35,7 +35,7 @@ pub(crate) fn test(rows: &[LinkRow], costs: &[u64]) -> Result<(), ProblemFault>
     demand(need_known(rows, costs.len()), ProblemFault::NeedOutOfRange)?;
     demand(need_in_order(rows), ProblemFault::NeedsNotAscending)?;
     demand(gains_fit(rows), ProblemFault::GainTooLarge)?;
-    demand(costs_fit(costs), ProblemFault::CostTooLarge)
+    demand(costs_fit(rows, costs), ProblemFault::CostTooLarge)
 }
 
 fn need_few(rows: &[LinkRow]) -> bool
@@ -69,12 +69,16 @@ fn gains_fit(rows: &[LinkRow]) -> bool
     sum <= GREATEST_SUM
 }
 
-fn costs_fit(costs: &[u64]) -> bool
-    ensures value { result ≡ nat_le (sum costs.now) greatest_sum }
+// Whether the costs and the charges of all links fit.
+fn costs_fit(rows: &[LinkRow], costs: &[u64]) -> bool
+    ensures value { result ≡ nat_le (sum costs.now + sum_by (λ r. r.charge) rows.now) greatest_sum }
 {
     let mut sum: u64 = 0;
     for cost in costs {
         sum = sum.saturating_add(*cost);
+    }
+    for row in rows {
+        sum = sum.saturating_add(row.charge);
     }
     sum <= GREATEST_SUM
 }

@@ -19,14 +19,17 @@ pub fn all_gains(problem: &Problem) -> u64
     sum
 }
 
-/// What the rows of a flow carry together, whatever rows they are: no number of them makes the sum
-/// wrap. A flow of a problem carries at most 2^62. O(rows).
-pub fn carried(flow: &[(u32, u32, u64)]) -> u128
-    ensures value { result ≡ value_of flow.now }
+/// What the rows of a flow and its charges carry together, whatever rows they are: no number of
+/// them makes the sum wrap. A flow of a problem carries at most 2^62. O(rows).
+pub fn carried(flow: &[(u32, u32, u64)], charges: &[(u32, u64)]) -> u128
+    ensures value { result ≡ value_of flow.now charges.now }
 {
     let mut sum: u128 = 0;
     for row in flow {
         sum += u128::from(row.2);
+    }
+    for charge in charges {
+        sum += u128::from(charge.1);
     }
     sum
 }

@@ -1,6 +1,7 @@
 -- The links of all parts' runs are the least best of the whole, and their flows show it.
 use Rattle.std.proofs.Common.{◌≡◌, ℕ, ◌<◌, List, Bool, true, arith, sym, ◌∙◌, ap, length, get_or, subst}
 use Rattle.std.specs.Prelude.{All, nat_lt, pos, ℤ, ◌+ℤ◌, ◌-ℤ◌}
+use Rattle.std.specs.List.{sum_by}
 use Rattle.std.proofs.Math.Path.{fun_ext}
 use Rattle.std.proofs.lemmas.Int.{ints}
 use Rattle.std.proofs.lemmas.Bool.{and_parts, and_from, lt-ltb, ltb-true}
@@ -10,12 +11,13 @@ use Rattle.mh_network.specs.declared.part.Part.{Part}
 use Rattle.mh_network.specs.Problems.{ProblemData, sum_of_gains}
 use Rattle.mh_network.specs.Alone.{StandAlone}
 use Rattle.mh_network.specs.Parts.{AreParts, part_at, place_of, part_row, part_problem, restricted}
+use Rattle.mh_network.specs.Laws.SumLaws.{sum_below-add}
 use Rattle.mh_network.specs.Sums.{sum_below}
 use Rattle.mh_network.specs.Parts.Item.{link}
 use Rattle.mh_network.specs.Parts.IsJoined.{here}
-use Rattle.mh_network.specs.Selection.{Row, IsLeast, member, value_of, worth}
+use Rattle.mh_network.specs.Selection.{Row, Charge, IsLeast, member, value_of, worth}
 use Rattle.mh_flow.specs.FlowData.{FlowData}
-use Rattle.mh_plan.specs.Joined.{joined, links_of, rows_of, whole_link, whole_row}
+use Rattle.mh_plan.specs.Joined.{joined, charges_of, links_of, rows_of, whole_charge, whole_link, whole_row}
 use Rattle.mh_plan.specs.Solved.{AreSolved}
 use Rattle.mh_plan.proofs.Concat.{joined_all, joined_member, joined_gives, joined_sum, mapped_member, mapped_gives, sum_map}
 use Rattle.mh_plan.proofs.Members.{all_members, eligible_below, member_is, num, same_answer}
@@ -72,18 +74,29 @@ module _ (P : ProblemData) (parts : List Part) (are : AreParts P parts) (alone :
       alone.join (member chosen) chosen_inside
       (λ i l. subst (λ (S : ℕ → Bool). IsLeast (part_problem P (part_at parts i)) S) (fun_ext (chosen_here i l)) (solved i l).least)
 
-  -- of each part, its flow by the numbers of the whole and its links are worth all its gains
+  -- what the flow of a part carries, by the numbers of the whole
+  abbrev part_value : ℕ → ℕ
+  part_value i = value_of (rows_of parts run i) (charges_of parts run i)
+
+  -- of each part, its flow and its links are worth all its gains
   part_equal : (i : ℕ) → i < length parts →
-      worth (part_problem P (part_at parts i)) (restricted (member chosen) (part_at parts i)) +ℤ pos (value_of (rows_of parts run i)) ≡ pos (sum_of_gains (part_problem P (part_at parts i)))
+      worth (part_problem P (part_at parts i)) (restricted (member chosen) (part_at parts i)) +ℤ pos (part_value i) ≡ pos (sum_of_gains (part_problem P (part_at parts i)))
   part_equal i l =
       let Q : ProblemData = part_problem P (part_at parts i) in
       let S : ℕ → Bool = restricted (member chosen) (part_at parts i) in
-      let value : value_of (rows_of parts run i) ≡ value_of (run i).rows = sum_map (λ (r : Row). r.2) (whole_row (part_at parts i)) (run i).rows in
+      let value : part_value i ≡ value_of (run i).rows (run i).charges =
+      omega (arith, sum_map (λ (r : Row). r.2) (whole_row (part_at parts i)) (run i).rows, sum_map (λ (r : Charge). r.1) (whole_charge (part_at parts i)) (run i).charges) in
       ap (λ (v : ℕ). worth Q S +ℤ pos v) value
-      ∙ subst (λ (T : ℕ → Bool). worth Q T +ℤ pos (value_of (run i).rows) ≡ pos (sum_of_gains Q)) (fun_ext (chosen_here i l)) (solved i l).equal
+      ∙ subst (λ (T : ℕ → Bool). worth Q T +ℤ pos (value_of (run i).rows (run i).charges) ≡ pos (sum_of_gains Q)) (fun_ext (chosen_here i l)) (solved i l).equal
 
-  pub worth_chosen : worth P (member chosen) ≡ pos (sum_of_gains P) -ℤ pos (value_of (joined (rows_of parts run) (length parts)))
+  pub worth_chosen : worth P (member chosen) ≡ pos (sum_of_gains P) -ℤ pos (value_of (joined (rows_of parts run) (length parts)) (joined (charges_of parts run) (length parts)))
   worth_chosen =
-      let value : value_of (joined (rows_of parts run) (length parts)) ≡ sum_below (length parts) (λ i. value_of (rows_of parts run i)) = joined_sum (λ (r : Row). r.2) (rows_of parts run) (length parts) in
+      let value : value_of (joined (rows_of parts run) (length parts)) (joined (charges_of parts run) (length parts)) ≡ sum_below (length parts) part_value =
+      omega (
+        arith,
+        joined_sum (λ (r : Row). r.2) (rows_of parts run) (length parts),
+        joined_sum (λ (r : Charge). r.1) (charges_of parts run) (length parts),
+        sum_below-add (length parts) (λ i. sum_by (λ (r : Row). r.2) (rows_of parts run i)) (λ i. sum_by (λ (r : Charge). r.1) (charges_of parts run i)),
+      ) in
       left_over (worth P (member chosen)) _ _
-      (ap (λ (v : ℕ). worth P (member chosen) +ℤ pos v) value ∙ alone.add_up (member chosen) chosen_inside (λ i. value_of (rows_of parts run i)) part_equal)
+      (ap (λ (v : ℕ). worth P (member chosen) +ℤ pos v) value ∙ alone.add_up (member chosen) chosen_inside part_value part_equal)

@@ -3,7 +3,7 @@ use Rattle.std.specs.Prelude.{ℕ, zero, suc, ◌+◌, ◌*◌, List, [], ◌++�
 use Rattle.std.specs.List.{slice_index_or}
 use Rattle.mh_network.specs.declared.part.Part.{Part}
 use Rattle.mh_network.specs.Parts.{part_at}
-use Rattle.mh_network.specs.Selection.{Row}
+use Rattle.mh_network.specs.Selection.{Row, Charge}
 use Rattle.mh_flow.specs.FlowData.{FlowData}
 
 -- the lists of the numbers below n, one after another
@@ -20,8 +20,14 @@ whole_point part r = slice_index_or part.points r 0
 abbrev pub whole_row : Part → Row → Row
 whole_row part r = (whole_link part r.0, whole_point part r.1, r.2)
 
+abbrev pub whole_charge : Part → Charge → Charge
+whole_charge part r = (whole_link part r.0, r.1)
+
 abbrev pub rows_of : List Part → (ℕ → FlowData) → ℕ → List Row
 rows_of parts run i = map (whole_row (part_at parts i)) (run i).rows
+
+abbrev pub charges_of : List Part → (ℕ → FlowData) → ℕ → List Charge
+charges_of parts run i = map (whole_charge (part_at parts i)) (run i).charges
 
 abbrev pub links_of : List Part → (ℕ → FlowData) → ℕ → List ℕ
 links_of parts run i = map (whole_link (part_at parts i)) (run i).reached
@@ -29,3 +35,6 @@ links_of parts run i = map (whole_link (part_at parts i)) (run i).reached
 -- rises with the link, and then with the point
 abbrev pub row_key : Row → ℕ
 row_key r = r.0 * 4294967296 + r.1
+
+abbrev pub charge_key : Charge → ℕ
+charge_key r = r.0

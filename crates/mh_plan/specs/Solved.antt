@@ -3,18 +3,20 @@ use Rattle.std.specs.Prelude.{ℕ, ◌+◌, ◌≡◌, ◌≤◌, ◌<◌, List,
 use Rattle.mh_network.specs.declared.part.Part.{Part}
 use Rattle.mh_network.specs.Problems.{ProblemData, sum_of_gains}
 use Rattle.mh_network.specs.Parts.{part_at, part_problem}
-use Rattle.mh_network.specs.Selection.{IsBefore, IsFlow, IsLeast, member, value_of, worth}
+use Rattle.mh_network.specs.Selection.{IsBefore, IsChargeBefore, IsFlow, IsLeast, member, value_of, worth}
 use Rattle.mh_flow.specs.FlowData.{FlowData}
 
 abbrev pub no_run : FlowData
-no_run = record { rows = []; reached = []; phases = 0 }
+no_run = record { rows = []; charges = []; reached = []; phases = 0 }
 
 -- a greatest flow of Q, in order, and the least best links
 pub record IsSolved (Q : ProblemData) (run : FlowData) : Type 0 where
-  pub flow : IsFlow Q run.rows
+  pub flow : IsFlow Q run.rows run.charges
   pub positive : All (λ r. 0 < r.2) run.rows
   pub ordered : AllPairs IsBefore run.rows
-  pub equal : worth Q (member run.reached) +ℤ pos (value_of run.rows) ≡ pos (sum_of_gains Q)
+  pub paid : All (λ r. 0 < r.1) run.charges
+  pub paid_ordered : AllPairs IsChargeBefore run.charges
+  pub equal : worth Q (member run.reached) +ℤ pos (value_of run.rows run.charges) ≡ pos (sum_of_gains Q)
   pub least : IsLeast Q (member run.reached)
   pub some : 1 ≤ run.phases
   pub phases : run.phases ≤ length Q.links + length Q.costs + 2

@@ -3,7 +3,7 @@
 ghost use Rattle.std.specs.Prelude.{◌≡◌, ◌<◌, ◌+◌, ◌*◌, ◌++◌, All, IfOk, OnOk, length, map};
 ghost use Rattle.std.specs.List.Sorted.{IsNonDecreasingBy, IsPermutation};
 ghost use Rattle.mh_network.specs.Parts.{part_at};
-ghost use Rattle.mh_plan.specs.Joined.{joined, links_of, rows_of, row_key, whole_link, whole_row};
+ghost use Rattle.mh_plan.specs.Joined.{joined, charge_key, charges_of, links_of, rows_of, row_key, whole_charge, whole_link, whole_row};
 ghost use Rattle.mh_plan.specs.Shares.{AreShared, run_at};
 
 use crate::runs::Runs;
@@ -13,6 +13,9 @@ use std::alloc::Global;
 
 /// A link, a point and an amount.
 pub(crate) type Row = (u32, u32, u64);
+
+/// A link and an amount.
+pub(crate) type Charge = (u32, u64);
 
 /// The links that the source reaches, part after part.
 pub(crate) fn join_links(alloc: Global, parts: &[Part], runs: &Runs) -> Result<Vec<u32>, NoMemory>
@@ -82,4 +85,46 @@ fn sort(rows: &mut Vec<Row>)
     ensures sorted { IsNonDecreasingBy row_key rows.new.items }
 {
     rows.sort_unstable_by_key(|row| u64::from(row.0) * 4294967296 + u64::from(row.1));
+}
+
+/// What links pay of their charges, by link.
+pub(crate) fn join_charges(
+    alloc: Global,
+    parts: &[Part],
+    runs: &Runs,
+) -> Result<Vec<Charge>, NoMemory>
+    requires shared { AreShared parts.now runs.now }
+    requires links { (i : _) → i < length parts.now
+        → All (λ r. r.0 < length (part_at parts.now i).links) (run_at runs.now i).charges }
+    ensures same { IfOk result (λ charges. IsPermutation
+        (joined (charges_of parts.now (run_at runs.now)) (length parts.now)) charges.items) }
+    ensures sorted { IfOk result (λ charges. IsNonDecreasingBy charge_key charges.items) }
+{
+    let mut charges = Vec::new(alloc);
+    for part in 0..parts.len() {
+        let run = runs.run(parts, part)?;
+        push_charges(&mut charges, &parts[part], run.charges())?;
+    }
+    sort_charges(&mut charges);
+    Ok(charges)
+}
+
+fn push_charges(charges: &mut Vec<Charge>, part: &Part, paid: &[Charge]) -> Result<(), NoMemory>
+    requires links { All (λ r. r.0 < length part.now.links) paid.now }
+    ensures value { OnOk result (charges.new.items ≡ charges.old.items ++ map
+        (whole_charge part.now) paid.now) }
+{
+    let links = part.links.as_slice();
+    for charge in paid {
+        let (link, amount) = *charge;
+        charges.push((links[link as usize], amount))?;
+    }
+    Ok(())
+}
+
+fn sort_charges(charges: &mut Vec<Charge>)
+    ensures same { IsPermutation charges.old.items charges.new.items }
+    ensures sorted { IsNonDecreasingBy charge_key charges.new.items }
+{
+    charges.sort_unstable_by_key(|charge| charge.0);
 }

@@ -12,7 +12,7 @@ ghost use Rattle.mh_plan.specs.Limits.{most_workers};
 ghost use Rattle.mh_network.specs.Limits.{greatest_sum};
 
 use crate::gate::Gate;
-use crate::joining::{join_links, join_rows};
+use crate::joining::{Charge, Row, join_charges, join_links, join_rows};
 use crate::numbers::{ascending, needs_of};
 use crate::runs::{Runs, solve_parts};
 use mh_base::{Listing, NoMemory};
@@ -92,20 +92,22 @@ fn join_plan(
     let needs = needs_of(alloc, problem, &links)?;
     let points = ascending(alloc, problem.points(), &needs)?;
     let flow = join_rows(alloc, parts, runs)?;
+    let charges = join_charges(alloc, parts, runs)?;
     Ok(Plan {
-        value: left_of_gains(problem, &flow),
+        value: left_of_gains(problem, &flow, &charges),
         links: Listing::from_vec(links),
         points: Listing::from_vec(points),
         flow: Listing::from_vec(flow),
+        charges: Listing::from_vec(charges),
     })
 }
 
 /// What a flow leaves of all gains.
-fn left_of_gains(problem: &Problem, flow: &[(u32, u32, u64)]) -> i64
-    requires small { value_of flow.now ≤ greatest_sum }
-    ensures value { result ≡ pos (sum_of_gains problem.now) -ℤ pos (value_of flow.now) }
+fn left_of_gains(problem: &Problem, flow: &[Row], charges: &[Charge]) -> i64
+    requires small { value_of flow.now charges.now ≤ greatest_sum }
+    ensures value { result ≡ pos (sum_of_gains problem.now) -ℤ pos (value_of flow.now charges.now) }
 {
-    all_gains(problem) as i64 - carried(flow) as i64
+    all_gains(problem) as i64 - carried(flow, charges) as i64
 }
 
 /// The phases of each part.

@@ -8,11 +8,13 @@ use Rattle.mh_tree.specs.Limits.{point_bound}
 use Rattle.mh_site.specs.declared.point.Point.{Point}
 use Rattle.mh_site.specs.declared.link.Link.{Link}
 use Rattle.mh_site.specs.declared.site.Site.{Site}
+use Rattle.mh_site.specs.declared.version.Version.{Version}
+use Rattle.mh_site.specs.declared.version.Version.TheVariants.{One, Two}
 use Rattle.mh_site.specs.declared.fault.DefinitionFault.{DefinitionFault}
 use Rattle.mh_site.specs.Ascending.{ascending}
 use Rattle.mh_site.specs.Names.{is_name}
 use Rattle.mh_site.specs.Defined.{no_point, no_site}
-use Rattle.mh_site.specs.Limits.{most_sites, most_links, most_needs, greatest_cost, greatest_weight}
+use Rattle.mh_site.specs.Limits.{most_points, most_sites, most_links, most_needs, greatest_charge, greatest_cost, greatest_weight}
 use Rattle.mh_site.specs.Definitions.{all_differ, same_key, link_in_order, site_in_order}
 use Rattle.mh_site.specs.Rules.{HasPlace, point_rules, site_rules, rules_at_point, rules_at_site, definition_rules}
 use Rattle.mh_site.specs.Lawful.{HasKey, IsLink, IsSite, IsPoint, AreDistinct, IsDefinition}
@@ -61,6 +63,7 @@ record SiteTested (n : ℕ) (earlier : List Site) (s : Site) : Type 0 where
   pub known_target : point_bound s.target.tree ≤ n
   pub once : All (λ l. AllPairs (λ p q. p ≢ q) l.needs) s.links
   pub typed : s.target.signature ≡ s.method_type
+  pub cheap : All (λ l. l.charge ≤ greatest_charge) s.links
 
 site_read : (n : ℕ) (earlier : List Site) (s : Site) (later : Tests DefinitionFault) → Passes (site_rules n earlier s later)
     → SiteTested n earlier s × Passes later
@@ -78,8 +81,9 @@ site_read n earlier s later h = (
     known_target = h.1.1.1.1.1.1.1.1.0.1;
     once = h.1.1.1.1.1.1.1.1.1.0;
     typed = h.1.1.1.1.1.1.1.1.1.1.0;
+    cheap = h.1.1.1.1.1.1.1.1.1.1.1.0;
   },
-  h.1.1.1.1.1.1.1.1.1.1.1,
+  h.1.1.1.1.1.1.1.1.1.1.1.1,
 )
 
 module _ (n : ℕ) (earlier : List Site) (s : Site) (t : SiteTested n earlier s) where
@@ -94,6 +98,7 @@ module _ (n : ℕ) (earlier : List Site) (s : Site) (t : SiteTested n earlier s)
       record {
         few = omega arith;
         light = t.light k d lt;
+        cheap = t.cheap k d lt;
         known = (known_decide n (link_in_order l)).0 (ascending-all _ l.needs ∙ (known_decide n l).1 (t.known k d lt));
         ascending = ascending-strictly l.needs ((needs_decide l).1 (t.once k d lt));
         key = has_key l (t.fits k d lt);
@@ -128,11 +133,21 @@ module _ (n : ℕ) (ss : List Site) (tested : (i : ℕ) → i < length ss → Si
   distinct_sites : AreDistinct (site_names (map site_in_order ss))
   distinct_sites = subst AreDistinct (sym (names_kept ss)) (distinct (λ s. s.name) ss no_site (λ i lt. (tested i lt).new))
 
+-- what a version allows, the newest does
+points-newest : (version : Version) → most_points version ≤ most_points Two
+points-newest One = omega arith
+points-newest Two = omega arith
+
+sites-newest : (version : Version) → most_sites version ≤ most_sites Two
+sites-newest One = omega arith
+sites-newest Two = omega arith
+
 -- parts that pass the rules, with their needs in ascending order, keep what each definition keeps
-pub lawful : (ps : List Point) (ss : List Site) → Passes (definition_rules ps ss) → IsDefinition record { points = ps; sites = map site_in_order ss }
-lawful ps ss h =
+pub lawful : (version : Version) (ps : List Point) (ss : List Site) → Passes (definition_rules version ps ss) → IsDefinition record { points = ps; sites = map site_in_order ss }
+lawful version ps ss h =
     let n = length ps in
-    let few_sites : length ss ≤ most_sites = h.1.0 in
+    let few_points : length ps ≤ most_points version = h.0 in
+    let few_sites : length ss ≤ most_sites Two = let few : length ss ≤ most_sites version = h.1.0 in omega (arith, few, sites-newest version) in
     let points =
     each_fact (rules_at_point ps) (λ i. PointTested (take i ps) (slice_index_or ps i no_point))
     (λ i. point_read (take i ps) (slice_index_or ps i no_point)) 0 n _ h.1.1 in
@@ -140,7 +155,7 @@ lawful ps ss h =
     each_fact (rules_at_site n ss) (λ i. SiteTested n (take i ss) (slice_index_or ss i no_site))
     (λ i. site_read n (take i ss) (slice_index_or ss i no_site)) 0 (length ss) _ points.1 in
     record {
-      few_points = h.0;
+      few_points = omega (arith, few_points, points-newest version);
       few_sites = simp length-map few_sites;
       point_names = distinct_points ps (λ i lt. points.0 i (omega arith) (omega arith));
       site_names = distinct_sites n ss (λ i lt. sites.0 i (omega arith) (omega arith));

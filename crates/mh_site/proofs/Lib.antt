@@ -1,6 +1,7 @@
 mod Lawful
 mod Listed
 mod Mapped
+mod NameLemmas
 mod Naming
 mod Rules
 mod Sorting

@@ -18,6 +18,20 @@ module _ {E : Type 0} where
   first_of_two [] ys = refl
   first_of_two (t ∷ xs) ys = or_later t.0 t.1 (first_failing xs) (first_failing ys) (first_failing (xs ++ ys)) (first_of_two xs ys)
 
+  -- each holds
+  abbrev pub Hold : Decided E → Type 0
+  Hold [] = Unit {0}
+  Hold (t ∷ ts) = (t.0 ≡ true) × Hold ts
+
+  one_holds : (b : Bool) (fault : E) (later : Option E) (More : Type 0) → (later ≡ None → More) → cond b later (Some fault) ≡ None → (b ≡ true) × More
+  one_holds true fault later More more h = (refl, more h)
+  one_holds false fault later More more h = cc
+
+  -- where none fails, each holds
+  pub all_hold : (ts : Decided E) → first_failing ts ≡ None → Hold ts
+  all_hold [] h = tt
+  all_hold (t ∷ ts) h = one_holds t.0 t.1 (first_failing ts) (Hold ts) (all_hold ts) h
+
   or_none : (one other : Option E) → option_or one other ≡ None → (one ≡ None) × (other ≡ None)
   or_none None other h = (refl, h)
   or_none (Some fault) other h = cc

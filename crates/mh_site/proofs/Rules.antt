@@ -17,13 +17,14 @@ use Rattle.mh_tree.specs.Typing.{kind_at}
 use Rattle.mh_site.specs.declared.point.Point.{Point}
 use Rattle.mh_site.specs.declared.link.Link.{Link}
 use Rattle.mh_site.specs.declared.site.Site.{Site}
+use Rattle.mh_site.specs.declared.version.Version.{Version}
 use Rattle.mh_site.specs.declared.fault.DefinitionFault.{DefinitionFault}
 use Rattle.mh_site.specs.declared.fault.DefinitionFault.TheVariants as fault
 use Rattle.mh_site.specs.Defined.{no_point, no_site}
 use Rattle.mh_site.specs.Names.{is_name}
-use Rattle.mh_site.specs.Definitions.{all_differ, point_tests, tests_at_point, tests_of_points, site_tests, tests_at_site, tests_of_sites, definition_tests, definition_fault, needs_few, weighs_little, has_no, has_place, fits_place, same_key, needs_known, needs_differ}
+use Rattle.mh_site.specs.Definitions.{all_differ, point_tests, tests_at_point, tests_of_points, site_tests, tests_at_site, tests_of_sites, definition_tests, definition_fault, needs_few, weighs_little, costs_little, has_no, has_place, fits_place, same_key, needs_known, needs_differ}
 use Rattle.mh_site.specs.Lawful.{HasKey}
-use Rattle.mh_site.specs.Limits.{most_points, most_sites, most_links, most_needs, greatest_cost, greatest_weight}
+use Rattle.mh_site.specs.Limits.{most_points, most_sites, most_links, most_needs, greatest_charge, greatest_cost, greatest_weight}
 use Rattle.mh_site.specs.Rules.{HasPlace, point_rules, site_rules, rules_at_point, rules_at_site, definition_rules}
 use Rattle.mh_site.proofs.Listed.{Agrees, none_agree, one_agrees, two_agree, each_agree}
 
@@ -151,32 +152,33 @@ site_agrees n earlier s later =
     (one_agrees _ _ _ (keys_decide ls)
     (one_agrees _ _ _ (points_decide n s)
     (one_agrees _ _ _ (each_decides needs_differ (λ l. AllPairs (λ p q. p ≢ q) l.needs) needs_decide ls)
-    (one_agrees _ _ _ (signature_eq_decides s.target.signature s.method_type) (none_agree later)))))))))))
+    (one_agrees _ _ _ (signature_eq_decides s.target.signature s.method_type)
+    (one_agrees _ _ _ (each_decides costs_little (λ l. l.charge ≤ greatest_charge) (λ l. at_most l.charge greatest_charge) ls) (none_agree later))))))))))))
 
-module _ (ps : List Point) (ss : List Site) where
+module _ (version : Version) (ps : List Point) (ss : List Site) where
   abbrev memory : Tests DefinitionFault
   memory = no_more (only fault.NoMemory)
 
-  agrees : Agrees (definition_tests ps ss) (definition_rules ps ss) memory
+  agrees : Agrees (definition_tests version ps ss) (definition_rules version ps ss) memory
   agrees =
       let n = length ps in
-      one_agrees _ _ _ (at_most n most_points)
-      (one_agrees _ _ _ (at_most (length ss) most_sites)
+      one_agrees _ _ _ (at_most n (most_points version))
+      (one_agrees _ _ _ (at_most (length ss) (most_sites version))
       (two_agree (tests_of_points ps) (tests_of_sites n ss)
       (each_agree (tests_at_point ps) (rules_at_point ps) (λ i. point_agrees (take i ps) (slice_index_or ps i no_point)) (range_with_len 0 n) _)
       (each_agree (tests_at_site n ss) (rules_at_site n ss) (λ i. site_agrees n (take i ss) (slice_index_or ss i no_site))
       (range_with_len 0 (length ss)) _)))
 
   -- no fault: all rules hold
-  pub rules_hold : definition_fault ps ss ≡ None → Passes (definition_rules ps ss)
+  pub rules_hold : definition_fault version ps ss ≡ None → Passes (definition_rules version ps ss)
   rules_hold none = agrees.pass none tt
 
   -- the fault is that of the first rule that does not hold
-  pub rule_fails : (told : DefinitionFault) → definition_fault ps ss ≡ Some told → Refuses (definition_rules ps ss) told
+  pub rule_fails : (told : DefinitionFault) → definition_fault version ps ss ≡ Some told → Refuses (definition_rules version ps ss) told
   rule_fails told h = agrees.tell told h
 
   -- no fault, but memory is wanting
-  pub memory_fails : (told : DefinitionFault) → definition_fault ps ss ≡ None → told ≡ fault.NoMemory → Refuses (definition_rules ps ss) told
+  pub memory_fails : (told : DefinitionFault) → definition_fault version ps ss ≡ None → told ≡ fault.NoMemory → Refuses (definition_rules version ps ss) told
   memory_fails told none e = agrees.go_on told none e
 
 -- what a definition tells of its parts

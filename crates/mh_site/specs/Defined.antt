@@ -24,7 +24,7 @@ abbrev pub no_point : Point
 no_point = record { name = []; cost = 0 }
 
 abbrev pub no_link : Link
-no_link = record { when = Boolean false; weight = 0; needs = [] }
+no_link = record { when = Boolean false; weight = 0; charge = 0; needs = [] }
 
 abbrev pub no_site : Site
 no_site = record { name = []; method_type = no_tree.signature; key = None; target = no_tree; links = [] }

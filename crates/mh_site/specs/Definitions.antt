@@ -9,14 +9,15 @@ use Rattle.mh_tree.specs.Typing.{kind_at}
 use Rattle.mh_site.specs.declared.point.Point.{Point}
 use Rattle.mh_site.specs.declared.link.Link.{Link}
 use Rattle.mh_site.specs.declared.site.Site.{Site}
+use Rattle.mh_site.specs.declared.version.Version.{Version}
 use Rattle.mh_site.specs.declared.fault.DefinitionFault.{DefinitionFault}
-use Rattle.mh_site.specs.declared.fault.DefinitionFault.TheVariants.{NoMemory, TooManyPoints, TooManySites, TooManyLinks, TooManyNeeds, BadName, NameTwice, CostTooLarge, WeightTooLarge, BadKeyPlace, KeyMismatch, KeyTwice, NoPoint, NeedTwice, TypeMismatch}
+use Rattle.mh_site.specs.declared.fault.DefinitionFault.TheVariants.{NoMemory, TooManyPoints, TooManySites, TooManyLinks, TooManyNeeds, BadName, NameTwice, CostTooLarge, WeightTooLarge, BadKeyPlace, KeyMismatch, KeyTwice, NoPoint, NeedTwice, TypeMismatch, ChargeTooLarge}
 use Rattle.mh_base.specs.Listed.{Decided, first_failing, made_unless}
 use Rattle.mh_site.specs.Defined.{DefinitionData, no_point, no_site}
 use Rattle.mh_site.specs.Ascending.{ascending}
 use Rattle.mh_site.specs.Names.{is_name}
 use Rattle.mh_type.specs.Values.{same_value}
-use Rattle.mh_site.specs.Limits.{most_points, most_sites, most_links, most_needs, greatest_cost, greatest_weight}
+use Rattle.mh_site.specs.Limits.{most_points, most_sites, most_links, most_needs, greatest_charge, greatest_cost, greatest_weight}
 
 abbrev pub fault_number : DefinitionFault → ℕ
 fault_number NoMemory = 1
@@ -34,6 +35,7 @@ fault_number KeyTwice = 12
 fault_number NoPoint = 13
 fault_number NeedTwice = 14
 fault_number TypeMismatch = 15
+fault_number ChargeTooLarge = 20
 
 -- no two are the same
 abbrev pub all_differ : {X : Type 0} → (X → X → Bool) → List X → Bool
@@ -64,6 +66,9 @@ needs_few l = nat_le (length l.needs) most_needs
 
 abbrev pub weighs_little : Link → Bool
 weighs_little l = nat_le l.weight greatest_weight
+
+abbrev pub costs_little : Link → Bool
+costs_little l = nat_le l.charge greatest_charge
 
 -- whether there is no link
 abbrev pub has_no : List Link → Bool
@@ -102,6 +107,7 @@ site_tests points earlier s =
     ∷ (list_all (needs_known points) s.links && nat_le (point_bound s.target.tree) points, NoPoint)
     ∷ (list_all needs_differ s.links, NeedTwice)
     ∷ (signature_eq s.target.signature s.method_type, TypeMismatch)
+    ∷ (list_all costs_little s.links, ChargeTooLarge)
     ∷ []
 
 -- of the site with this number, behind those before it
@@ -116,22 +122,22 @@ abbrev pub tests_of_sites : ℕ → List Site → Decided DefinitionFault
 tests_of_sites points sites = flat_map (tests_at_site points sites) (range_with_len 0 (length sites))
 
 -- the two numbers, the points in order, the sites in order
-abbrev pub definition_tests : List Point → List Site → Decided DefinitionFault
-definition_tests points sites =
-    (nat_le (length points) most_points, TooManyPoints)
-    ∷ (nat_le (length sites) most_sites, TooManySites)
+abbrev pub definition_tests : Version → List Point → List Site → Decided DefinitionFault
+definition_tests version points sites =
+    (nat_le (length points) (most_points version), TooManyPoints)
+    ∷ (nat_le (length sites) (most_sites version), TooManySites)
     ∷ tests_of_points points ++ tests_of_sites (length points) sites
 
-abbrev pub definition_fault : List Point → List Site → Option DefinitionFault
-definition_fault points sites = first_failing (definition_tests points sites)
+abbrev pub definition_fault : Version → List Point → List Site → Option DefinitionFault
+definition_fault version points sites = first_failing (definition_tests version points sites)
 
 -- a link and a site with their needs in ascending order, and all else as it was
 abbrev pub link_in_order : Link → Link
-link_in_order l = record { when = l.when; weight = l.weight; needs = ascending l.needs }
+link_in_order l = record { when = l.when; weight = l.weight; charge = l.charge; needs = ascending l.needs }
 
 abbrev pub site_in_order : Site → Site
 site_in_order s = record { name = s.name; method_type = s.method_type; key = s.key; target = s.target; links = map link_in_order s.links }
 
 -- what the parts make
-abbrev pub definition_made : List Point → List Site → Result DefinitionData DefinitionFault
-definition_made points sites = made_unless (record { points = points; sites = map site_in_order sites }) (definition_fault points sites)
+abbrev pub definition_made : Version → List Point → List Site → Result DefinitionData DefinitionFault
+definition_made version points sites = made_unless (record { points = points; sites = map site_in_order sites }) (definition_fault version points sites)

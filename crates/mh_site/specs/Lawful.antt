@@ -8,10 +8,11 @@ use Rattle.mh_tree.specs.Typing.{kind_at}
 use Rattle.mh_site.specs.declared.point.Point.{Point}
 use Rattle.mh_site.specs.declared.link.Link.{Link}
 use Rattle.mh_site.specs.declared.site.Site.{Site}
+use Rattle.mh_site.specs.declared.version.Version.TheVariants.{Two}
 use Rattle.mh_site.specs.Defined.{DefinitionData}
 use Rattle.mh_site.specs.Definitions.{all_differ, same_key}
 use Rattle.mh_site.specs.Names.{is_name}
-use Rattle.mh_site.specs.Limits.{most_points, most_sites, most_links, most_needs, greatest_cost, greatest_weight}
+use Rattle.mh_site.specs.Limits.{most_points, most_sites, most_links, most_needs, greatest_charge, greatest_cost, greatest_weight}
 
 -- the key place is a parameter, and the key is of its kind
 pub record HasKey (s : Site) (l : Link) : Type 0 where
@@ -24,6 +25,7 @@ pub record HasKey (s : Site) (l : Link) : Type 0 where
 pub record IsLink (points : ℕ) (s : Site) (l : Link) : Type 0 where
   pub few : length l.needs ≤ most_needs
   pub light : l.weight ≤ greatest_weight
+  pub cheap : l.charge ≤ greatest_charge
   pub known : All (λ p. p < points) l.needs
   pub ascending : IsStrictlyIncreasing l.needs
   pub key : HasKey s l
@@ -47,8 +49,8 @@ abbrev pub AreDistinct : List (List ℕ) → Type 0
 AreDistinct names = AllPairs (λ n m. n ≢ m) names
 
 pub record IsDefinition (d : DefinitionData) : Type 0 where
-  pub few_points : length d.points ≤ most_points
-  pub few_sites : length d.sites ≤ most_sites
+  pub few_points : length d.points ≤ most_points Two
+  pub few_sites : length d.sites ≤ most_sites Two
   pub point_names : AreDistinct (map (λ p. p.name) d.points)
   pub site_names : AreDistinct (map (λ s. s.name) d.sites)
   pub points : All IsPoint d.points

@@ -9,6 +9,7 @@ pub mod Limits
 pub mod Links
 pub mod LookBack
 pub mod Names
+pub mod NamesInOrder
 pub mod Rules
 pub mod SiteStates
 pub mod Worlds

@@ -1,12 +1,16 @@
 -- The limits of a definition.
 use Rattle.std.specs.Prelude.{ℕ, ◌^◌}
+use Rattle.mh_site.specs.declared.version.Version.{Version}
+use Rattle.mh_site.specs.declared.version.Version.TheVariants.{One, Two}
 
 -- the most points, and the most sites
-abbrev pub most_points : ℕ
-most_points = 1024
+abbrev pub most_points : Version → ℕ
+most_points One = 1024
+most_points Two = 4096
 
-abbrev pub most_sites : ℕ
-most_sites = 1024
+abbrev pub most_sites : Version → ℕ
+most_sites One = 1024
+most_sites Two = 4096
 
 -- the most links of a site, and the most needs of a link
 abbrev pub most_links : ℕ
@@ -15,12 +19,15 @@ most_links = 4
 abbrev pub most_needs : ℕ
 most_needs = 8
 
--- the greatest cost of a point, and the greatest weight of a link
+-- the greatest cost of a point, and the greatest weight and charge of a link
 abbrev pub greatest_cost : ℕ
 greatest_cost = 2 ^ 40
 
 abbrev pub greatest_weight : ℕ
 greatest_weight = 2 ^ 20
+
+abbrev pub greatest_charge : ℕ
+greatest_charge = 2 ^ 40
 
 -- the bytes of the longest name
 abbrev pub longest_name : ℕ

@@ -6,12 +6,14 @@ use Rattle.mh_base.specs.Listed.{tests_of_each}
 use Rattle.mh_tree.specs.Limits.{point_bound}
 use Rattle.mh_site.specs.declared.point.Point.{Point}
 use Rattle.mh_site.specs.declared.site.Site.{Site}
+use Rattle.mh_site.specs.declared.version.Version.{Version}
+use Rattle.mh_site.specs.declared.version.Version.TheVariants.{One}
 use Rattle.mh_site.specs.declared.fault.DefinitionFault.{DefinitionFault}
-use Rattle.mh_site.specs.declared.fault.DefinitionFault.TheVariants.{NoMemory, TooManyPoints, TooManySites, TooManyLinks, TooManyNeeds, BadName, NameTwice, CostTooLarge, WeightTooLarge, BadKeyPlace, KeyMismatch, KeyTwice, NoPoint, NeedTwice, TypeMismatch}
+use Rattle.mh_site.specs.declared.fault.DefinitionFault.TheVariants.{NoMemory, TooManyPoints, TooManySites, TooManyLinks, TooManyNeeds, BadName, NameTwice, CostTooLarge, WeightTooLarge, BadKeyPlace, KeyMismatch, KeyTwice, NoPoint, NeedTwice, TypeMismatch, ChargeTooLarge}
 use Rattle.mh_site.specs.Defined.{no_point, no_site}
 use Rattle.mh_site.specs.Names.{is_name}
 use Rattle.mh_site.specs.Lawful.{HasKey}
-use Rattle.mh_site.specs.Limits.{most_points, most_sites, most_links, most_needs, greatest_cost, greatest_weight}
+use Rattle.mh_site.specs.Limits.{most_points, most_sites, most_links, most_needs, greatest_charge, greatest_cost, greatest_weight}
 
 -- the key place is a parameter; a site with links has one
 pub record HasPlace (s : Site) : Type 0 where
@@ -38,7 +40,8 @@ site_rules points earlier s later =
     (test (AllPairs (λ l k. l.when ≢ k.when) s.links) (only KeyTwice)
     (test (All (λ l. All (λ p. p < points) l.needs) s.links × (point_bound s.target.tree ≤ points)) (only NoPoint)
     (test (All (λ l. AllPairs (λ p q. p ≢ q) l.needs) s.links) (only NeedTwice)
-    (test (s.target.signature ≡ s.method_type) (only TypeMismatch) later))))))))))
+    (test (s.target.signature ≡ s.method_type) (only TypeMismatch)
+    (test (All (λ l. l.charge ≤ greatest_charge) s.links) (only ChargeTooLarge) later)))))))))))
 
 -- of the point, and of the site, with this number
 abbrev pub rules_at_point : List Point → ℕ → Tests DefinitionFault → Tests DefinitionFault
@@ -48,9 +51,13 @@ abbrev pub rules_at_site : ℕ → List Site → ℕ → Tests DefinitionFault �
 rules_at_site points sites i = site_rules points (take i sites) (slice_index_or sites i no_site)
 
 -- the two numbers, the points in order, the sites in order; where all hold, memory may be wanting
-abbrev pub definition_rules : List Point → List Site → Tests DefinitionFault
-definition_rules points sites =
-    test (length points ≤ most_points) (only TooManyPoints)
-    (test (length sites ≤ most_sites) (only TooManySites)
+abbrev pub definition_rules : Version → List Point → List Site → Tests DefinitionFault
+definition_rules version points sites =
+    test (length points ≤ most_points version) (only TooManyPoints)
+    (test (length sites ≤ most_sites version) (only TooManySites)
     (tests_of_each (rules_at_point points) (range_with_len 0 (length points))
     (tests_of_each (rules_at_site (length points) sites) (range_with_len 0 (length sites)) (no_more (only NoMemory)))))
+
+-- in version 1 no link has a charge
+abbrev pub HasNoCharges : Version → List Site → Type 0
+HasNoCharges version sites = version ≡ One → All (λ s. All (λ l. l.charge ≡ 0) s.links) sites

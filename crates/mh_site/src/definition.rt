@@ -5,7 +5,7 @@ ghost use Rattle.std.specs.Arc.{arc_value};
 ghost use Rattle.mh_site.specs.Defined.{point_at, site_at, link_of};
 ghost use Rattle.mh_base.specs.Tests.{Passes, Refuses};
 ghost use Rattle.mh_site.specs.Definitions.{definition_made, definition_fault};
-ghost use Rattle.mh_site.specs.Rules.{definition_rules};
+ghost use Rattle.mh_site.specs.Rules.{definition_rules, HasNoCharges};
 ghost use Rattle.mh_site.specs.Lawful.{IsDefinition};
 ghost use Rattle.mh_site.specs.Links.{links, link_at, first_link as first_link_of, site_of as site_of_link};
 
@@ -17,6 +17,7 @@ use crate::point::Point;
 use crate::point_rules::test_points;
 use crate::site::Site;
 use crate::site_rules::test_sites;
+use crate::version::Version;
 use mh_base::{Listing, NoMemory};
 use mh_tree::Declared;
 use mh_type::{MethodType, Value};
@@ -24,12 +25,6 @@ use std::alloc::Global;
 use std::fmt;
 use std::marker::Model;
 use std::sync::Arc;
-
-/// The most points of a definition.
-pub const MOST_POINTS: usize = 1024;
-
-/// The most sites of a definition.
-pub const MOST_SITES: usize = 1024;
 
 // What all owners of a definition share.
 #[derive(Drop)]
@@ -70,24 +65,26 @@ impl fmt::Debug for Definition {
 }
 
 impl Definition {
-    /// The definition of these parts, with the needs of each link in ascending order. What is
-    /// refused is dropped.
+    /// The definition of these parts, with the needs of each link in ascending order. In version 1
+    /// no link has a charge. What is refused is dropped.
     ///
     /// Refused with the first test that fails, as `DefinitionFault` tells them, and then with
     /// `NoMemory`.
     #[tactic(auto, using(crate::proofs::Rules::told))]
     pub fn new(
         alloc: Global,
+        version: Version,
         points: Listing<Point>,
         sites: Listing<Site>,
     ) -> Result<Definition, DefinitionFault>
-        ensures value { IfOk result (λ d. definition_made points sites ≡ Ok d) }
-        ensures refused { IfErr result (λ e. (definition_made points sites ≡ Err e)
-            ⊎ ((definition_fault points sites ≡ None) × (e ≡ DefinitionFault.NoMemory))) }
-        ensures passes { IfOk result (λ _. Passes (definition_rules points sites)) }
-        ensures told { IfErr result (λ e. Refuses (definition_rules points sites) e) }
+        requires charges { HasNoCharges version sites }
+        ensures value { IfOk result (λ d. definition_made version points sites ≡ Ok d) }
+        ensures refused { IfErr result (λ e. (definition_made version points sites ≡ Err e)
+            ⊎ ((definition_fault version points sites ≡ None) × (e ≡ DefinitionFault.NoMemory))) }
+        ensures passes { IfOk result (λ _. Passes (definition_rules version points sites)) }
+        ensures told { IfErr result (λ e. Refuses (definition_rules version points sites) e) }
     {
-        test(points.as_slice(), sites.as_slice())?;
+        test(alloc, version, points.as_slice(), sites.as_slice())?;
         let mut sites = sites.into_vec();
         order_sites(&mut sites);
         let numbering = number_links(alloc, &sites)?;
@@ -199,6 +196,15 @@ impl Definition {
         self.links(site)[link].weight
     }
 
+    /// What a plan pays for a link beside the costs of its points, 0 to 2^40.
+    pub fn charge(&self, site: usize, link: usize) -> u64
+        requires inside { (site < length self.now.sites)
+            × (link < length (site_at self.now site).links) }
+        ensures value { result ≡ (link_of self.now site link).charge }
+    {
+        self.links(site)[link].charge
+    }
+
     /// The points that a link needs, ascending, at most 8.
     pub fn needs(&self, site: usize, link: usize) -> &[u32]
         requires inside { (site < length self.now.sites)
@@ -252,16 +258,21 @@ fn own(alloc: Global, parts: Parts) -> Result<Arc<Parts>, NoMemory>
 
 // All tests, in order.
 #[tactic(auto, using(crate::proofs::Listed::first_of_two))]
-fn test(points: &[Point], sites: &[Site]) -> Result<(), DefinitionFault>
-    ensures value { MatchResult result (λ _. definition_fault points.now sites.now ≡ None)
-        (λ e. definition_fault points.now sites.now ≡ Some e) }
+fn test(
+    alloc: Global,
+    version: Version,
+    points: &[Point],
+    sites: &[Site],
+) -> Result<(), DefinitionFault>
+    ensures value { MatchResult result (λ _. definition_fault version points.now sites.now ≡ None)
+        (λ e. definition_fault version points.now sites.now ≡ Some e) }
 {
-    if points.len() > MOST_POINTS {
+    if points.len() > version.most_points() {
         return Err(DefinitionFault::TooManyPoints);
     }
-    if sites.len() > MOST_SITES {
+    if sites.len() > version.most_sites() {
         return Err(DefinitionFault::TooManySites);
     }
-    test_points(points)?;
-    test_sites(points.len(), sites)
+    test_points(alloc, points)?;
+    test_sites(alloc, points.len(), sites)
 }

@@ -14,10 +14,10 @@ pub enum DefinitionFault {
     /// A growth was refused.
     #[error("1 NoMemory")]
     NoMemory,
-    /// More than 1,024 points.
+    /// More points than the version allows: 1,024, or 4,096 in version 2.
     #[error("2 TooManyPoints")]
     TooManyPoints,
-    /// More than 1,024 sites.
+    /// More sites than the version allows: 1,024, or 4,096 in version 2.
     #[error("3 TooManySites")]
     TooManySites,
     /// More than 4 links at a site.
@@ -57,6 +57,9 @@ pub enum DefinitionFault {
     /// A target of another type than its site's.
     #[error("15 TypeMismatch")]
     TypeMismatch,
+    /// A charge past 2^40.
+    #[error("20 ChargeTooLarge")]
+    ChargeTooLarge,
 }
 
 impl From<NoMemory> for DefinitionFault {
@@ -70,7 +73,7 @@ impl From<NoMemory> for DefinitionFault {
 }
 
 impl DefinitionFault {
-    /// The fault's number, from 1 to 15.
+    /// The fault's number: 1 to 15, or 20.
     pub fn number(self) -> u8
         ensures value { result ≡ fault_number self }
     {
@@ -90,6 +93,7 @@ impl DefinitionFault {
             DefinitionFault::NoPoint => 13,
             DefinitionFault::NeedTwice => 14,
             DefinitionFault::TypeMismatch => 15,
+            DefinitionFault::ChargeTooLarge => 20,
         }
     }
 }

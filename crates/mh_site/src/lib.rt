@@ -3,7 +3,8 @@
 //!
 //! ```
 //! let site = Site { name, method_type, key: Some(0), target, links };
-//! let definition = Definition::new(alloc, points, Listing::from_vec(vec![in alloc; site]?))?;
+//! let sites = Listing::from_vec(vec![in alloc; site]?);
+//! let definition = Definition::new(alloc, Version::Two, points, sites)?;
 //! let mut world = World::open(alloc, &definition)?;
 //! world.try_absorb(&Control::Invalidate(numbers))?;
 //! ```
@@ -16,24 +17,28 @@ mod fault;
 mod laws;
 mod link;
 mod name;
+mod names;
 mod numbering;
 mod order;
 mod point;
 mod point_rules;
 mod site;
 mod site_rules;
+mod version;
 mod world;
 
 pub use control::{Control, Installation, KeptLinks, Relinking, Retargeting};
 pub use crossing::worlds_cross_threads;
-pub use definition::{Definition, MOST_POINTS, MOST_SITES};
+pub use definition::Definition;
 pub use fault::DefinitionFault;
 pub use laws::worlds_look_back;
 pub use link::Link;
 pub use mh_base::{Listing, NoMemory};
 pub use name::{LONGEST_NAME, Name};
+pub use names::Names;
 pub use point::Point;
 pub use point_rules::GREATEST_COST;
 pub use site::Site;
-pub use site_rules::{GREATEST_WEIGHT, MOST_LINKS, MOST_NEEDS};
+pub use site_rules::{GREATEST_CHARGE, GREATEST_WEIGHT, MOST_LINKS, MOST_NEEDS};
+pub use version::Version;
 pub use world::World;

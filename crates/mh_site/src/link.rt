@@ -12,6 +12,9 @@ pub struct Link {
     pub when: Value,
     /// What one hit gains: 0 to 2^20 in a definition.
     pub weight: u64,
+    /// What a plan pays for the link beside the costs of its points: 0 to 2^40 in a definition, and
+    /// 0 in one of version 1.
+    pub charge: u64,
     /// The numbers of the points that have to be valid while the link is kept: at most 8, each
     /// once.
     pub needs: Listing<u32>,

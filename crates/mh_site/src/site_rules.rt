@@ -1,18 +1,20 @@
 //! The rules of sites, in the order in which they are tested.
 
-ghost use Rattle.std.specs.Prelude.{◌≡◌, ◌&&◌, ◌==◌, Some, None, MatchResult, nat_le};
+ghost use Rattle.std.specs.Prelude.{◌≡◌, ◌&&◌, ◌==◌, Some, None, IfSome, MatchResult, map, nat_le};
 ghost use Rattle.std.specs.List.{list_any, list_all};
 ghost use Rattle.mh_base.specs.Listed.{first_failing};
-ghost use Rattle.mh_site.specs.Definitions.{site_tests, tests_of_sites, names_site, all_differ, same_key, needs_few as few, weighs_little as little, needs_known as known, needs_differ as differing, has_place as places, fits_place as fitting};
+ghost use Rattle.mh_site.specs.Definitions.{site_tests, tests_of_sites, names_site, all_differ, same_key, needs_few as few, weighs_little as little, costs_little as cheap, needs_known as known, needs_differ as differing, has_place as places, fits_place as fitting};
 ghost use Rattle.mh_type.specs.Values.{same_value as values_same};
 ghost use Rattle.mh_tree.specs.Limits.{point_bound};
 ghost use Rattle.mh_type.specs.Signature.{signature_eq};
 
 use crate::fault::DefinitionFault;
 use crate::link::Link;
+use crate::names::{Names, with_one_more};
 use crate::site::Site;
 use mh_base::{are_below, demand};
 use mh_type::{Value, same_value};
+use std::alloc::Global;
 
 /// The most links of a site.
 pub const MOST_LINKS: usize = 4;
@@ -23,19 +25,36 @@ pub const MOST_NEEDS: usize = 8;
 /// The greatest weight of a link.
 pub const GREATEST_WEIGHT: u64 = 1 << 20;
 
-// The tests of all sites, in order, beside so many points.
-pub(crate) fn test_sites(points: usize, sites: &[Site]) -> Result<(), DefinitionFault>
+/// The greatest charge of a link.
+pub const GREATEST_CHARGE: u64 = 1 << 40;
+
+// The tests of all sites, in order, beside so many points. Names are compared one by one once
+// memory is refused.
+pub(crate) fn test_sites(
+    alloc: Global,
+    points: usize,
+    sites: &[Site],
+) -> Result<(), DefinitionFault>
     ensures value { MatchResult result (λ _. first_failing (tests_of_sites points sites.now) ≡ None)
         (λ e. first_failing (tests_of_sites points sites.now) ≡ Some e) }
 {
+    let mut seen = Some(Names::new(alloc));
     for (index, site) in sites.iter().enumerate() {
-        test_site(points, &sites[..index], site)?;
+        test_site(points, seen.as_ref(), &sites[..index], site)?;
+        seen = with_one_more(seen, site.name.as_str());
     }
     Ok(())
 }
 
-// The tests of a site behind earlier ones, in the order of their faults' numbers.
-fn test_site(points: usize, earlier: &[Site], site: &Site) -> Result<(), DefinitionFault>
+// The tests of a site behind earlier ones, whose names are in the table where there is one, in the
+// order of their faults' numbers.
+fn test_site(
+    points: usize,
+    seen: Option<&Names>,
+    earlier: &[Site],
+    site: &Site,
+) -> Result<(), DefinitionFault>
+    requires seen { IfSome seen (λ names. names.now ≡ map (λ s. s.name) earlier.now) }
     ensures value { MatchResult result
         (λ _. first_failing (site_tests points earlier.now site.now) ≡ None)
         (λ e. first_failing (site_tests points earlier.now site.now) ≡ Some e) }
@@ -45,7 +64,7 @@ fn test_site(points: usize, earlier: &[Site], site: &Site) -> Result<(), Definit
     demand(need_few(links), DefinitionFault::TooManyNeeds)?;
     demand(site.name.is_lawful(), DefinitionFault::BadName)?;
     demand(
-        !is_site_name(earlier, site.name.as_str()),
+        !is_seen(seen, earlier, site.name.as_str()),
         DefinitionFault::NameTwice,
     )?;
     demand(weigh_little(links), DefinitionFault::WeightTooLarge)?;
@@ -54,7 +73,19 @@ fn test_site(points: usize, earlier: &[Site], site: &Site) -> Result<(), Definit
     demand(keys_differ(links), DefinitionFault::KeyTwice)?;
     demand(knows_points(site, points), DefinitionFault::NoPoint)?;
     demand(need_once(links), DefinitionFault::NeedTwice)?;
-    demand(is_typed(site), DefinitionFault::TypeMismatch)
+    demand(is_typed(site), DefinitionFault::TypeMismatch)?;
+    demand(cost_little(links), DefinitionFault::ChargeTooLarge)
+}
+
+// Whether an earlier site has this name, by their table of names where there is one.
+fn is_seen(seen: Option<&Names>, earlier: &[Site], name: &str) -> bool
+    requires seen { IfSome seen (λ names. names.now ≡ map (λ s. s.name) earlier.now) }
+    ensures value { result ≡ list_any (names_site name.now) earlier.now }
+{
+    match seen {
+        Some(names) => names.contains(name),
+        None => is_site_name(earlier, name),
+    }
 }
 
 // Whether a site has this name.
@@ -79,6 +110,12 @@ fn weigh_little(links: &[Link]) -> bool
     ensures value { result ≡ list_all little links.now }
 {
     links.iter().all(|link| link.weight <= GREATEST_WEIGHT)
+}
+
+fn cost_little(links: &[Link]) -> bool
+    ensures value { result ≡ list_all cheap links.now }
+{
+    links.iter().all(|link| link.charge <= GREATEST_CHARGE)
 }
 
 // Whether the key place is a parameter. A site without links may have none.

@@ -19,8 +19,8 @@ use Rattle.mh_stress.specs.declared.sums.Sums.{Sums}
 use Rattle.mh_stress.proofs.WorkerSums.{made_within, sum_small}
 
 -- a settlement is over 4,096 links at most
-pub few_places : (d : DefinitionData) (s : SettledState) → IsSettled d s → length (links d) ≤ 4096
-few_places d s is = subst (λ (x : DefinitionData). length (links x) ≤ 4096) is.definition (few_links s.book.definition is.lawful.definition)
+pub few_places : (d : DefinitionData) (s : SettledState) → IsSettled d s → length (links d) ≤ 16384
+few_places d s is = subst (λ (x : DefinitionData). length (links x) ≤ 16384) is.definition (few_links s.book.definition is.lawful.definition)
 
 -- sums of what is the same below a bound
 sum_same : (f g : ℕ → ℕ) (a n : ℕ) → ((j : ℕ) → a ≤ j → j < a + n → f j ≡ g j) → sum_by f (range_with_len a n) ≡ sum_by g (range_with_len a n)

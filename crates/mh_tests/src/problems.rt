@@ -1,5 +1,6 @@
 //! Problems and plans as values.
 use mh_cert::Plan;
+use mh_core::ProblemFault;
 use mh_text::{Fault, InputFault, Problem, TextFault, read_plan, read_problem};
 use std::alloc::Global;
 use std::test::Fail;
@@ -65,6 +66,69 @@ fn a_problem_is_read(rt: HostRuntime) -> Result<(), Fail> {
     let (links, costs) = read_parts(rt.alloc())?;
     assert!(rt; links == [Some((true, 8, 2)), Some((false, 0, 0)), None]);
     assert_eq!(rt; costs, [Some(5), Some(6), None]);
+    Ok(())
+}
+
+/// A problem of this version with so many links and so many points, which gain and cost nothing.
+fn problem_of(alloc: Global, version: u32, links: usize, points: usize) -> Result<String, Fail> {
+    let mut text = format!(in alloc; r#"{{"version":{version},"costs":["#)?;
+    push_items(&mut text, "0", points)?;
+    text.push_str(r#"],"links":["#)?;
+    push_items(&mut text, r#"{"gain":0,"needs":[]}"#, links)?;
+    text.push_str("]}")?;
+    Ok(text)
+}
+
+/// Appends an item of a list so many times, with commas between.
+fn push_items(text: &mut String, item: &str, count: usize) -> Result<(), Fail> {
+    for index in 0..count {
+        if index > 0 {
+            text.push(',')?;
+        }
+        text.push_str(item)?;
+    }
+    Ok(())
+}
+
+/// How many links and points such a problem has, or why there is none.
+fn counts(
+    alloc: Global,
+    version: u32,
+    links: usize,
+    points: usize,
+) -> Result<Result<(usize, usize), Fault>, Fail> {
+    let text = problem_of(alloc, version, links, points)?;
+    Ok(match read_problem(alloc, text.as_bytes(), None) {
+        Ok(problem) => Ok((problem.links(), problem.points())),
+        Err(fault) => Err(fault),
+    })
+}
+
+/// The fault of a problem that is too large.
+fn too_large(cause: ProblemFault) -> Fault {
+    Fault {
+        kind: TextFault::Input(InputFault::Problem(cause)),
+        at: 0,
+    }
+}
+
+#[test]
+fn links_have_the_limit_of_the_version(rt: HostRuntime) -> Result<(), Fail> {
+    let refused = Err(too_large(ProblemFault::TooManyLinks));
+    assert_eq!(rt; counts(rt.alloc(), 1, 4096, 1)?, Ok((4096, 1)));
+    assert_eq!(rt; counts(rt.alloc(), 1, 4097, 1)?, refused);
+    assert_eq!(rt; counts(rt.alloc(), 2, 16384, 1)?, Ok((16384, 1)));
+    assert_eq!(rt; counts(rt.alloc(), 2, 16385, 1)?, refused);
+    Ok(())
+}
+
+#[test]
+fn points_have_the_limit_of_the_version(rt: HostRuntime) -> Result<(), Fail> {
+    let refused = Err(too_large(ProblemFault::TooManyPoints));
+    assert_eq!(rt; counts(rt.alloc(), 1, 1, 1024)?, Ok((1, 1024)));
+    assert_eq!(rt; counts(rt.alloc(), 1, 1, 1025)?, refused);
+    assert_eq!(rt; counts(rt.alloc(), 2, 1, 4096)?, Ok((1, 4096)));
+    assert_eq!(rt; counts(rt.alloc(), 2, 1, 4097)?, refused);
     Ok(())
 }
 

@@ -1,6 +1,6 @@
 //! Scripts and definitions as values.
 use mh_core::{Event, Reply};
-use mh_site::{Definition, DefinitionFault, Listing, Name, Point, Site};
+use mh_site::{Definition, DefinitionFault, Listing, Name, Point, Site, Version};
 use mh_text::{Fault, InputFault, Script, Step, TextFault, read_script, render};
 use mh_tree::{Declared, Handle};
 use mh_type::{Kind, MethodType, Op, Value};
@@ -225,7 +225,7 @@ fn negation(alloc: Global) -> Result<Listing<Site>, Fail> {
 fn defined_points(alloc: Global, count: usize) -> Result<Result<usize, DefinitionFault>, Fail> {
     let points = points(alloc, count)?;
     let sites = negation(alloc)?;
-    Ok(match Definition::new(alloc, points, sites) {
+    Ok(match Definition::new(alloc, Version::Two, points, sites) {
         Ok(definition) => Ok(definition.points().len()),
         Err(fault) => Err(fault),
     })
@@ -233,9 +233,9 @@ fn defined_points(alloc: Global, count: usize) -> Result<Result<usize, Definitio
 
 #[test]
 fn points_have_a_limit(rt: HostRuntime) -> Result<(), Fail> {
-    assert_eq!(rt; defined_points(rt.alloc(), 1024)?, Ok(1024));
+    assert_eq!(rt; defined_points(rt.alloc(), 4096)?, Ok(4096));
     let more = DefinitionFault::TooManyPoints;
-    assert_eq!(rt; defined_points(rt.alloc(), 1025)?, Err(more));
+    assert_eq!(rt; defined_points(rt.alloc(), 4097)?, Err(more));
     assert_eq!(rt; more.number(), 2);
     Ok(())
 }

@@ -18,6 +18,13 @@ problem_fails (Ok rows) read e (inr fails) = inr (inr (rows, refl, inl fails))
 problem_fails (Err first) read e (inl memory) = inl memory
 problem_fails (Err first) read e (inr same) = inr (inl (ap Err (sym same)))
 
+-- the first fault of a plan, where the problem has none
+pub plan_fails : (problem : Result ProblemRows Fault) (read : Result Plan Fault) (p : ProblemData) (e : Fault) → MakesProblem problem (Ok p)
+    → (e ≡ outside no_memory) ⊎ (read ≡ Err e) → (e ≡ outside no_memory) ⊎ IsFirstOf problem read e
+plan_fails (Ok rows) read p e made (inl memory) = inl memory
+plan_fails (Ok rows) read p e made (inr same) = inr (inr (rows, refl, inr (made.0, same)))
+plan_fails (Err first) read p e made h = absurd made
+
 -- what is found of a claim that an input has
 pub found_in : (input : Option (List ℕ)) (p : ProblemData) (plan : Plan) (verdict : Verdict) → IfSome input (λ bytes. IsClaim bytes p plan) → IsFound p plan verdict → IfSome input (λ bytes. IsVerdict bytes verdict)
 found_in None p plan verdict known found = known

@@ -1,7 +1,7 @@
+mod Charges
 mod Claims
 mod Forms
 mod Loop
-mod NameLemmas
 mod PlanData
 mod ProblemInputs
 mod Points

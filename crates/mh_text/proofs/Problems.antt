@@ -2,7 +2,6 @@
 use Rattle.std.proofs.Common.{◌≡◌, ◌⊎◌, inl, inr}
 use Rattle.mh_network.specs.declared.fault.ProblemFault.{ProblemFault}
 use Rattle.mh_network.specs.declared.fault.ProblemFault.TheVariants.{NoMemory, GainTooLarge, CostTooLarge, NeedOutOfRange, NeedsNotAscending, TooManyLinks, TooManyPoints, TooManyNeeds}
-use Rattle.mh_network.specs.Problems.{problem_tests}
 use Rattle.mh_base.specs.Tests.{Passes, Refuses}
 use Rattle.mh_text.specs.declared.fault.Fault.{Fault}
 use Rattle.mh_text.specs.declared.fault.InputFault.TheVariants as input
@@ -11,10 +10,11 @@ use Rattle.mh_text.specs.declared.json.problem.ProblemRows.{ProblemRows}
 use Rattle.mh_text.specs.Gives.{of_problem, no_memory}
 use Rattle.mh_text.specs.Output.{outside}
 use Rattle.mh_text.specs.Problems.{IsNotMade}
+use Rattle.mh_text.specs.Versions.{version_tests}
 
 module _ (rows : ProblemRows) where
   abbrev IsCause : ProblemFault → Type 0
-  IsCause cause = Refuses (problem_tests rows.links rows.costs) cause ⊎ (Passes (problem_tests rows.links rows.costs) × (cause ≡ NoMemory))
+  IsCause cause = Refuses (version_tests rows.version rows.links rows.costs) cause ⊎ (Passes (version_tests rows.version rows.links rows.costs) × (cause ≡ NoMemory))
 
   of_tests : (cause : ProblemFault) (e : Fault) → e ≡ record { kind = text.Input (input.Problem cause); at = 0 } → (cause ≡ NoMemory → ⊥) → IsCause cause → (e ≡ outside no_memory) ⊎ IsNotMade rows e
   of_tests cause e is other (inl refuses) = inr (cause, refuses, is)

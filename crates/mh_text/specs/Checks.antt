@@ -1,7 +1,7 @@
 -- What a check reads, what it finds, and what it writes.
 use Rattle.std.specs.Prelude.{ℕ, ◌≡◌, ◌⊎◌, List, [], ◌∷◌, ◌++◌, Option, Some, Result, Ok, Err, IfSome, codes}
 use Rattle.std.specs.Io.KnownBytes.{Keeps}
-use Rattle.mh_network.specs.Problems.{ProblemData, problem_tests}
+use Rattle.mh_network.specs.Problems.{ProblemData}
 use Rattle.mh_network.specs.Selection.{IsBest, member}
 use Rattle.mh_base.specs.Tests.{Passes, Refuses}
 use Rattle.mh_cert.specs.declared.plan.Plan.{Plan}
@@ -15,6 +15,7 @@ use Rattle.mh_text.specs.Bytes.{AppendsFront}
 use Rattle.mh_text.specs.Output.{IsUnread, outside}
 use Rattle.mh_text.specs.Plans.{plan_of_input}
 use Rattle.mh_text.specs.Problems.{rows_of_input, IsMade, IsNotMade}
+use Rattle.mh_text.specs.Versions.{version_tests}
 
 -- what is read as a problem's rows makes the problem, and what is read as a plan is the plan
 abbrev pub Holds : Result ProblemRows Fault → Result Plan Fault → ProblemData → Plan → Type 0
@@ -24,7 +25,7 @@ Holds problem read p plan = (rows : ProblemRows) × (problem ≡ Ok rows) × IsM
 abbrev pub IsFirstOf : Result ProblemRows Fault → Result Plan Fault → Fault → Type 0
 IsFirstOf problem read e =
     (problem ≡ Err e)
-    ⊎ ((rows : ProblemRows) × (problem ≡ Ok rows) × (IsNotMade rows e ⊎ (Passes (problem_tests rows.links rows.costs) × (read ≡ Err e))))
+    ⊎ ((rows : ProblemRows) × (problem ≡ Ok rows) × (IsNotMade rows e ⊎ (Passes (version_tests rows.version rows.links rows.costs) × (read ≡ Err e))))
 
 -- an input of a check has its problem at one key, and the plan at another
 abbrev pub IsClaim : List ℕ → ProblemData → Plan → Type 0

@@ -4,7 +4,6 @@ pub mod Faults
 pub mod Gives
 pub mod Inputs
 pub mod Lines
-pub mod Names
 pub mod Output
 pub mod PlanLines
 pub mod Planning
@@ -16,3 +15,4 @@ pub mod Shared
 pub mod Steps
 pub mod Trees
 pub mod Values
+pub mod Versions

@@ -1,8 +1,8 @@
 -- The plan that a JSON value is.
-use Rattle.std.specs.Prelude.{ℕ, ℤ, ◌^◌, ◌-◌, List, [], ◌∷◌, Option, option_and_then, Result, Ok, Err, codes}
+use Rattle.std.specs.Prelude.{ℕ, ℤ, ◌^◌, ◌-◌, List, [], ◌∷◌, Option, Some, None, option_and_then, Result, Ok, Err, codes}
 use Rattle.serde_json.specs.Data.{Data}
-use Rattle.serde_json.specs.Find.{as_number, as_i64}
-use Rattle.mh_network.specs.Selection.{Row}
+use Rattle.serde_json.specs.Find.{get, as_number, as_i64}
+use Rattle.mh_network.specs.Selection.{Row, Charge}
 use Rattle.mh_cert.specs.declared.plan.Plan.{Plan}
 use Rattle.mh_text.specs.declared.fault.Fault.{Fault}
 use Rattle.mh_text.specs.declared.fault.InputFault.{InputFault}
@@ -34,7 +34,30 @@ flow_of d = do
   rows ← list_of d
   each_of flow_row_of rows
 
--- the links, the points, the value, the flow
+-- link, amount
+abbrev pub charge_row_from : List Data → Result Charge InputFault
+charge_row_from (link ∷ amount ∷ []) = do
+  link ← count_of (2 ^ 32 - 1) link
+  amount ← count_of (2 ^ 64 - 1) amount
+  Ok (link, amount)
+charge_row_from _ = Err BadShape
+
+abbrev pub charge_row_of : Data → Result Charge InputFault
+charge_row_of d = do
+  parts ← list_of d
+  charge_row_from parts
+
+-- what stands at the key, which may be absent
+abbrev pub charges_where : Option Data → Result (List Charge) InputFault
+charges_where None = Ok []
+charges_where (Some d) = do
+  rows ← list_of d
+  each_of charge_row_of rows
+
+abbrev pub charges_of : Data → Result (List Charge) InputFault
+charges_of plan = charges_where (get (codes "charges") plan)
+
+-- the links, the points, the value, the flow, the charges
 abbrev pub plan_of : Data → Result Plan InputFault
 plan_of d = do
   links ← member_of (codes "links") d
@@ -45,7 +68,8 @@ plan_of d = do
   value ← signed_of value
   flow ← member_of (codes "flow") d
   flow ← flow_of flow
-  Ok (record { links = links; points = points; value = value; flow = flow })
+  charges ← charges_of d
+  Ok (record { links = links; points = points; value = value; flow = flow; charges = charges })
 
 -- the plan that a value, or what it has at a key, is
 abbrev pub plan_at : Option (List ℕ) → Data → Result Plan InputFault

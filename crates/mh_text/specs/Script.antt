@@ -10,6 +10,7 @@ use Rattle.mh_type.specs.Signature.{Signature}
 use Rattle.mh_site.specs.declared.point.Point.{Point}
 use Rattle.mh_site.specs.declared.link.Link.{Link}
 use Rattle.mh_site.specs.declared.site.Site.{Site}
+use Rattle.mh_site.specs.declared.version.Version.{Version}
 use Rattle.mh_site.specs.Defined.{DefinitionData, site_at}
 use Rattle.mh_site.specs.Definitions.{definition_made}
 use Rattle.mh_core.specs.declared.event.Event.{Event}
@@ -25,12 +26,13 @@ use Rattle.mh_text.specs.declared.json.script.Script.{Script}
 use Rattle.mh_text.specs.declared.json.step.Step.{Step}
 use Rattle.mh_text.specs.declared.json.step.Step.TheVariants.{Ask, Plan as ask_plan}
 use Rattle.mh_text.specs.Gives.{◌>>=◌, at_place, caused, of_definition}
-use Rattle.mh_text.specs.Names.{with_name, place_of}
+use Rattle.mh_site.specs.NamesInOrder.{with_name, place_of}
 use Rattle.mh_text.specs.Plans.{plan_of}
-use Rattle.mh_text.specs.Shape.{list_of, text_of, member_of, count_of, version_of, each_from, each_of}
+use Rattle.mh_text.specs.Shape.{list_of, text_of, member_of, count_of, each_from, each_of}
 use Rattle.mh_text.specs.Shared.{scope_of}
 use Rattle.mh_text.specs.Trees.{declared_of, point_place}
 use Rattle.mh_text.specs.Values.{type_of, value_for, values_for}
+use Rattle.mh_text.specs.Versions.{charge_of, version_of}
 
 -- a point: its name, then its cost
 abbrev pub point_of : Data → Result Point InputFault
@@ -57,26 +59,27 @@ named_points_of points d = do
   names ← list_of d
   each_of (named_point_of points) names
 
--- a link: its key, read as of the kind of the key place, its weight, its needs
-abbrev pub link_of : List (List ℕ) → Option Kind → Data → Result Link InputFault
-link_of points kind d = do
+-- a link: its key, read as of the kind of the key place, its weight, its charge, its needs
+abbrev pub link_of : Version → List (List ℕ) → Option Kind → Data → Result Link InputFault
+link_of version points kind d = do
   when ← member_of (codes "when") d
   when ← value_for kind when
   weight ← member_of (codes "weight") d
   weight ← count_of (2 ^ 63 - 1) weight
+  charge ← charge_of version d
   needs ← member_of (codes "needs") d
   needs ← named_points_of points needs
-  Ok (record { when = when; weight = weight; needs = needs })
+  Ok (record { when = when; weight = weight; charge = charge; needs = needs })
 
 -- what stands at the key, which may be absent
-abbrev pub links_where : List (List ℕ) → Option Kind → Option Data → Result (List Link) InputFault
-links_where points kind None = Ok []
-links_where points kind (Some d) = do
+abbrev pub links_where : Version → List (List ℕ) → Option Kind → Option Data → Result (List Link) InputFault
+links_where version points kind None = Ok []
+links_where version points kind (Some d) = do
   links ← list_of d
-  each_of (link_of points kind) links
+  each_of (link_of version points kind) links
 
-abbrev pub links_of : List (List ℕ) → Option Kind → Data → Result (List Link) InputFault
-links_of points kind site = links_where points kind (get (codes "links") site)
+abbrev pub links_of : Version → List (List ℕ) → Option Kind → Data → Result (List Link) InputFault
+links_of version points kind site = links_where version points kind (get (codes "links") site)
 
 -- a place, or none where the value is null
 abbrev pub place_or_none : Data → Result (Option ℕ) InputFault
@@ -95,8 +98,8 @@ abbrev pub key_kind : Signature → Option ℕ → Option Kind
 key_kind method_type key = option_and_then (slice_get method_type.parameters) key
 
 -- a site: its name, its type, its key place, its target, its links
-abbrev pub site_of : Scope → Data → Result Site InputFault
-site_of scope d = do
+abbrev pub site_of : Version → Scope → Data → Result Site InputFault
+site_of version scope d = do
   name ← member_of (codes "name") d
   name ← text_of name
   method_type ← member_of (codes "type") d
@@ -104,7 +107,7 @@ site_of scope d = do
   key ← key_of d
   target ← member_of (codes "target") d
   target ← declared_of scope target
-  links ← links_of scope.points (key_kind method_type key) d
+  links ← links_of version scope.points (key_kind method_type key) d
   Ok (record { name = name; method_type = method_type; key = key; target = target; links = links })
 
 -- the names of the sites, by number
@@ -119,11 +122,11 @@ points_of d = do
   each_of point_of points
 
 -- the sites of a definition
-abbrev pub sites_of : Scope → Data → Result (List Site) InputFault
-sites_of scope d = do
+abbrev pub sites_of : Version → Scope → Data → Result (List Site) InputFault
+sites_of version scope d = do
   sites ← member_of (codes "sites") d
   sites ← list_of sites
-  each_of (site_of scope) sites
+  each_of (site_of version scope) sites
 
 -- The version, the points, the shared trees, the sites, and then the faults of the definition that they make. The names
 -- go on to the events.
@@ -133,8 +136,8 @@ declarations_of d = do
   version ← version_of definition
   points ← points_of definition
   scope ← scope_of (point_names_of points) definition
-  sites ← sites_of scope definition
-  definition ← caused of_definition (definition_made points sites)
+  sites ← sites_of version scope definition
+  definition ← caused of_definition (definition_made version points sites)
   Ok (record { definition = definition; scope = scope; sites = site_names_of definition.sites })
 
 -- the most workers that call, or plan

@@ -1,5 +1,5 @@
 -- The parts of a JSON value, each with the fault that is told where it is not of its form.
-use Rattle.std.specs.Prelude.{ℕ, ◌+◌, List, [], ◌∷◌, Option, Some, None, Result, Ok, Err, option_and_then, nat_le, if◌then◌else◌, ◌==◌, codes}
+use Rattle.std.specs.Prelude.{ℕ, ◌+◌, List, [], ◌∷◌, Option, Some, None, Result, Ok, Err, option_and_then, nat_le, if◌then◌else◌}
 use Rattle.serde_json.specs.Data.{Data, null, boolean, number, string, array, object, Items, no_items, item}
 use Rattle.serde_json.specs.Find.{get, as_number, as_str, as_u64}
 use Rattle.mh_text.specs.declared.fault.InputFault.{InputFault}
@@ -30,13 +30,6 @@ member_of key d = or_fault BadShape (get key d)
 -- a whole number from 0 to a bound
 abbrev pub count_of : ℕ → Data → Result ℕ InputFault
 count_of bound d = or_fault BadShape (option_and_then (λ n. if nat_le n bound then Some n else None) (option_and_then as_u64 (as_number d)))
-
--- the version, which is the number 1
-abbrev pub version_of : Data → Result ℕ InputFault
-version_of d = do
-  version ← member_of (codes "version") d
-  version ← count_of 1 version
-  if version == 1 then Ok version else Err BadShape
 
 -- each item in order, with its number from n on, up to the first that has a fault
 abbrev pub each_from : {A E : Type 0} → (ℕ → Data → Result A E) → ℕ → List Data → Result (List A) E

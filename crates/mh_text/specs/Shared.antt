@@ -10,7 +10,7 @@ use Rattle.mh_text.specs.declared.json.scope.Scope.{Scope}
 use Rattle.mh_text.specs.declared.json.scope.Shared.{Shared}
 use Rattle.mh_text.specs.Gives.{◌>>=◌}
 use Rattle.mh_site.specs.Names.{is_name}
-use Rattle.mh_text.specs.Names.{with_name}
+use Rattle.mh_site.specs.NamesInOrder.{with_name}
 use Rattle.mh_text.specs.Shape.{list_of, text_of}
 use Rattle.mh_text.specs.Trees.{tree_of}
 

@@ -12,7 +12,7 @@ use Rattle.mh_text.specs.declared.fault.InputFault.{InputFault}
 use Rattle.mh_text.specs.declared.fault.InputFault.TheVariants.{BadShape, UnknownShared}
 use Rattle.mh_text.specs.declared.json.scope.Scope.{Scope}
 use Rattle.mh_text.specs.Gives.{◌>>=◌, or_fault, caused, of_tree}
-use Rattle.mh_text.specs.Names.{place_of}
+use Rattle.mh_site.specs.NamesInOrder.{place_of}
 use Rattle.mh_text.specs.Shape.{list_of, text_of, count_of, each_of}
 use Rattle.mh_text.specs.Values.{kind_of, type_of, op_of, value_of_kind, values_for}
 

@@ -10,7 +10,6 @@ pub(crate) mod events;
 pub(crate) mod leaves;
 pub(crate) mod limits;
 pub(crate) mod links;
-pub(crate) mod names;
 pub(crate) mod plan;
 pub(crate) mod points;
 pub(crate) mod problem;
@@ -22,6 +21,7 @@ pub(crate) mod sites;
 pub(crate) mod step;
 pub(crate) mod trees;
 pub(crate) mod values;
+pub(crate) mod versions;
 
 use crate::fault::{Fault, InputFault};
 use crate::streams::input::LIMIT;

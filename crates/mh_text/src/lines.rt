@@ -68,7 +68,7 @@ fn published_line(
     let numbers = plan.links.as_slice();
     let links = Numbers { numbers };
     let points = names_line(alloc, definition, plan.points.as_slice())?;
-    let flow = carried(plan.flow.as_slice());
+    let flow = carried(plan.flow.as_slice(), plan.charges.as_slice());
     format!(in alloc;
         "plan {number} snapshot {snapshot} links {links} points {points} value {} flow {flow}",
         plan.value

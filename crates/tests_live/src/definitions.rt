@@ -4,7 +4,7 @@ ghost use Rattle.std.specs.Prelude.{◌<◌, ◌≤◌};
 
 use mh_core::Limits;
 use mh_live::Opening;
-use mh_site::{Definition, Link, Listing, Name, Point, Site};
+use mh_site::{Definition, Link, Listing, Name, Point, Site, Version};
 use mh_tree::{Declared, Handle};
 use mh_type::{Kind, MethodType, Op, Value};
 use std::alloc::Global;
@@ -47,6 +47,7 @@ fn link(alloc: Global, key: i32, weight: u64, needs: &[u32]) -> Result<Link, Fai
     Ok(Link {
         when: Value::Int(key),
         weight,
+        charge: 0,
         needs: Listing::from_vec(Vec::from_slice(alloc, needs)?),
     })
 }
@@ -76,7 +77,12 @@ fn plain(alloc: Global) -> Result<Definition, Fail> {
     let mut links = Vec::new(alloc);
     links.push(link(alloc, 1, 3, &[])?)?;
     let sites = site_of(alloc, negation(alloc)?, links)?;
-    let made = Definition::new(alloc, Listing::from_vec(Vec::new(alloc)), sites)?;
+    let made = Definition::new(
+        alloc,
+        Version::Two,
+        Listing::from_vec(Vec::new(alloc)),
+        sites,
+    )?;
     Ok(made)
 }
 
@@ -95,7 +101,7 @@ fn pointed(alloc: Global) -> Result<Definition, Fail> {
     links.push(link(alloc, 1, 3, &[0])?)?;
     links.push(link(alloc, 2, 1, &[0, 1])?)?;
     let sites = site_of(alloc, guarded(alloc)?, links)?;
-    let made = Definition::new(alloc, points(alloc)?, sites)?;
+    let made = Definition::new(alloc, Version::Two, points(alloc)?, sites)?;
     Ok(made)
 }
 

@@ -148,6 +148,7 @@ fn one_link(alloc: Global, value: i64) -> Result<SharedPlan, Fail> {
         points: Listing::from_vec(Vec::new(alloc)),
         value,
         flow: Listing::from_vec(Vec::new(alloc)),
+        charges: Listing::from_vec(Vec::new(alloc)),
     };
     Ok(SharedPlan::new(alloc, plan)?)
 }

@@ -4,7 +4,7 @@ use crate::making::{limits, link, linked_site, tree_of, two_points};
 use mh_cert::{CheckFault, Plan};
 use mh_core::{Book, Refusal, SharedPlan};
 use mh_ledger::Ledger;
-use mh_site::{Definition, Link, Listing};
+use mh_site::{Definition, Link, Listing, Version};
 use mh_type::Op;
 use std::alloc::Global;
 use std::test::Fail;
@@ -22,7 +22,7 @@ fn definition(alloc: Global) -> Result<Definition, Fail> {
     let mut sites = Vec::new(alloc);
     let target = tree_of(alloc, Op::Ineg)?;
     sites.push(linked_site(alloc, "f", target, links(alloc)?)?)?;
-    let made = Definition::new(alloc, points, Listing::from_vec(sites))?;
+    let made = Definition::new(alloc, Version::Two, points, Listing::from_vec(sites))?;
     Ok(made)
 }
 
@@ -44,6 +44,7 @@ fn plan(alloc: Global, value: i64) -> Result<SharedPlan, Fail> {
         points: Listing::from_vec(Vec::from_slice(alloc, &[0])?),
         value,
         flow: Listing::from_vec(Vec::from_slice(alloc, &[(0, 0, 5)])?),
+        charges: Listing::from_vec(Vec::new(alloc)),
     };
     Ok(SharedPlan::new(alloc, plan)?)
 }

@@ -3,7 +3,7 @@
 use crate::making::{link, linked_site, plain_site, tree_of, two_points};
 use mh_site::{
     Control, Definition, Installation, KeptLinks, Link, Listing, Relinking, Retargeting, Site,
-    World,
+    Version, World,
 };
 use mh_tree::{CodeCache, Prepared};
 use mh_type::{Kind, Op};
@@ -13,7 +13,7 @@ use std::test::Fail;
 /// Two points and these sites.
 fn define(alloc: Global, sites: Vec<Site>) -> Result<Definition, Fail> {
     let points = two_points(alloc)?;
-    let made = Definition::new(alloc, points, Listing::from_vec(sites))?;
+    let made = Definition::new(alloc, Version::Two, points, Listing::from_vec(sites))?;
     Ok(made)
 }
 

@@ -2,7 +2,7 @@
 
 use crate::making::{limits, plain_site, tree_of, two_points};
 use mh_core::{Arguments, Book, Event, Machine, Refusal, Reply};
-use mh_site::{Definition, Listing, Site};
+use mh_site::{Definition, Listing, Site, Version};
 use mh_type::{Kind, Op, Outcome, Text, Value};
 use std::alloc::Global;
 use std::test::Fail;
@@ -18,7 +18,7 @@ fn sites(alloc: Global) -> Result<Listing<Site>, Fail> {
 fn definition(alloc: Global) -> Result<Definition, Fail> {
     let points = two_points(alloc)?;
     let sites = sites(alloc)?;
-    Ok(Definition::new(alloc, points, sites)?)
+    Ok(Definition::new(alloc, Version::Two, points, sites)?)
 }
 
 /// A machine of two workers.

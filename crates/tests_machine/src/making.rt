@@ -31,6 +31,7 @@ pub(crate) fn link(alloc: Global, key: i32, weight: u64, needs: &[u32]) -> Resul
     Ok(Link {
         when: Value::Int(key),
         weight,
+        charge: 0,
         needs: Listing::from_vec(Vec::from_slice(alloc, needs)?),
     })
 }

@@ -4,7 +4,7 @@
 use crate::making::{limits, link, linked_site, two_points};
 use mh_cert::Plan;
 use mh_core::{Arguments, Event, Machine, Reply, SharedPlan};
-use mh_site::{Definition, Link, Listing, Site};
+use mh_site::{Definition, Link, Listing, Site, Version};
 use mh_tree::{Declared, Handle, TreeFault};
 use mh_type::{Kind, Op, Value};
 use std::alloc::Global;
@@ -59,7 +59,7 @@ fn site(alloc: Global) -> Result<Site, Fail> {
 fn definition(alloc: Global) -> Result<Definition, Fail> {
     let points = two_points(alloc)?;
     let sites = vec![in alloc; site(alloc)?]?;
-    Ok(Definition::new(alloc, points, Listing::from_vec(sites))?)
+    Ok(Definition::new(alloc, Version::Two, points, Listing::from_vec(sites))?)
 }
 
 /// Both links for three calls of the first and nine of the second: they gain 9 each, and their
@@ -73,6 +73,7 @@ fn plan(alloc: Global) -> Result<SharedPlan, Fail> {
         points: Listing::from_vec(points),
         value: 6,
         flow: Listing::from_vec(flow),
+        charges: Listing::from_vec(Vec::new(alloc)),
     };
     Ok(SharedPlan::new(alloc, plan)?)
 }

@@ -4,7 +4,7 @@ ghost use Rattle.std.specs.Prelude.{◌<◌, ◌≤◌};
 
 use mh_cert::check;
 use mh_flow::{LayerRun, max_flow};
-use mh_network::{LinkRow, Listing, Problem};
+use mh_network::{LinkRow, Listing, Problem, carried};
 use mh_plan::{Gate, OpenGate, plan, plan_counted};
 use std::alloc::Global;
 use std::sync::atomic::{AtomicU64, Ordering};
@@ -55,6 +55,7 @@ fn links_to_a_point(
             gain: 3,
             eligible: true,
             needs: Listing::from_vec(needs),
+            charge: 0,
         })?;
     }
     Ok(Problem::new(alloc, &rows, costs)?)
@@ -63,8 +64,8 @@ fn links_to_a_point(
 /// How many links two workers plan and for which value, where each point costs so much, and the
 /// checker accepts the plan.
 fn planned_at<R: Threads + Sync>(rt: &R, alloc: Global, cost: u64) -> Result<(usize, i64), Fail> {
-    let costs = vec![in alloc; cost; 1024]?;
-    let problem = links_to_a_point(alloc, 4096, 4, costs.as_slice())?;
+    let costs = vec![in alloc; cost; 4096]?;
+    let problem = links_to_a_point(alloc, 16_384, 4, costs.as_slice())?;
     let plan = plan(rt, alloc, &problem, 2, &OpenGate)?;
     check(alloc, &problem, &plan)?;
     Ok((plan.links.as_slice().len(), plan.value))
@@ -73,7 +74,7 @@ fn planned_at<R: Threads + Sync>(rt: &R, alloc: Global, cost: u64) -> Result<(us
 #[test]
 fn planner_tries_all_sets(rt: HostRuntime) -> Result<(), Fail> {
     let planned = planned_at(&rt, rt.alloc(), 11)?;
-    assert_eq!(rt; planned, (4096, 1024));
+    assert_eq!(rt; planned, (16_384, 4096));
     Ok(())
 }
 
@@ -81,6 +82,47 @@ fn planner_tries_all_sets(rt: HostRuntime) -> Result<(), Fail> {
 fn points_that_cost_more_are_left(rt: HostRuntime) -> Result<(), Fail> {
     let planned = planned_at(&rt, rt.alloc(), 13)?;
     assert_eq!(rt; planned, (0, 0));
+    Ok(())
+}
+
+/// Two links that share a point, the second with a charge of 1, beside three points that cost 5
+/// each.
+fn charged_links(alloc: Global, first: u64, second: u64) -> Result<Problem, Fail> {
+    let one = LinkRow {
+        gain: first,
+        eligible: true,
+        needs: Listing::from_vec(Vec::from_slice(alloc, &[0, 1])?),
+        charge: 0,
+    };
+    let other = LinkRow {
+        gain: second,
+        eligible: true,
+        needs: Listing::from_vec(Vec::from_slice(alloc, &[1, 2])?),
+        charge: 1,
+    };
+    Ok(Problem::new(alloc, &[one, other], &[5, 5, 5])?)
+}
+
+/// How many of two links are planned, their value, and what the flow carries with its charges,
+/// where the checker accepts the plan.
+fn charged_plan<R: Threads + Sync>(
+    rt: &R,
+    alloc: Global,
+    first: u64,
+    second: u64,
+) -> Result<(usize, i64, u128), Fail> {
+    let problem = charged_links(alloc, first, second)?;
+    let plan = plan(rt, alloc, &problem, 2, &OpenGate)?;
+    check(alloc, &problem, &plan)?;
+    let flow = carried(plan.flow.as_slice(), plan.charges.as_slice());
+    Ok((plan.links.as_slice().len(), plan.value, flow))
+}
+
+#[test]
+fn a_charge_is_paid_where_its_link_is_chosen(rt: HostRuntime) -> Result<(), Fail> {
+    let alloc = rt.alloc();
+    assert_eq!(rt; charged_plan(&rt, alloc, 8, 8)?, (0, 0, 16));
+    assert_eq!(rt; charged_plan(&rt, alloc, 9, 8)?, (2, 1, 16));
     Ok(())
 }
 

@@ -14,6 +14,7 @@ fn row_of(alloc: Global, gain: u64, eligible: bool, needs: &[u32]) -> Result<Lin
         gain,
         eligible,
         needs: Listing::from_vec(Vec::from_slice(alloc, needs)?),
+        charge: 0,
     })
 }
 
@@ -51,11 +52,29 @@ fn a_gain_that_is_not_eligible_counts_as_none(rt: HostRuntime) -> Result<(), Fai
     Ok(())
 }
 
+/// What the greatest costs are refused with beside a charge, of a link that is not eligible.
+fn greatest_costs_fault(alloc: Global, charge: u64) -> Result<Option<ProblemFault>, Fail> {
+    let mut row = row_of(alloc, 0, false, &[])?;
+    row.charge = charge;
+    let mut rows = Vec::new(alloc);
+    rows.push(row)?;
+    Ok(Problem::new(alloc, &rows, &[MOST]).err())
+}
+
+#[test]
+fn each_charge_counts_with_the_costs(rt: HostRuntime) -> Result<(), Fail> {
+    let alloc = rt.alloc();
+    assert_eq!(rt; greatest_costs_fault(alloc, 0)?, None);
+    let fault = greatest_costs_fault(alloc, 1)?;
+    assert_eq!(rt; fault, Some(ProblemFault::CostTooLarge));
+    Ok(())
+}
+
 /// What too many links are refused with, and too many points, whose costs would be too much too.
 fn faults_of_too_many(alloc: Global) -> Result<[Option<ProblemFault>; 2], Fail> {
-    let gains = vec![in alloc; HALF; 4097]?;
+    let gains = vec![in alloc; HALF; 16385]?;
     let links = gains_fault(alloc, &gains)?;
-    let costs = vec![in alloc; HALF; 1025]?;
+    let costs = vec![in alloc; HALF; 4097]?;
     Ok([links, needs_fault(alloc, &[9], &costs)?])
 }
 

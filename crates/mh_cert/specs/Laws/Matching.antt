@@ -14,9 +14,9 @@ difference-equal : (a b c d : ℕ) → pos a -ℤ pos c ≡ pos b -ℤ pos d →
 difference-equal a b c d h = omega (arith, ints)
 
 pub best_by_match : (P : ProblemData) (plan : Plan) → IsProblem P → Matches P plan → IsBest P (member plan.links)
-best_by_match P plan problem (eligible, (links, (points, (rows, (gains, (costs, (worth, (balance, _)))))))) =
-    best_by_flow P (λ r. r.0) (λ r. r.1) (λ r. r.2) plan.flow (member plan.links) problem
-    (record { needed = rows.needed; gains = gains; costs = costs })
+best_by_match P plan problem (eligible, (links, (points, (rows, (gains, (costs, (charged, (worth, (balance, _))))))))) =
+    best_by_flow P (λ r. r.0) (λ r. r.1) (λ r. r.2) plan.flow plan.charges (member plan.links) problem
+    (record { needed = rows.0.needed; listed = rows.1.listed; gains = gains; costs = costs; charged = charged })
     (λ j chosen. member_is (λ i. (link_at P i).eligible ≡ true) plan.links eligible j chosen)
     (difference-equal _ _ _ _ (sym worth ∙ balance))
 
@@ -30,4 +30,5 @@ refused_fails P plan e (inr (_, inr (_, inr (_, inr (_, inl h))))) m = h.0 m.1.1
 refused_fails P plan e (inr (_, inr (_, inr (_, inr (_, inr (_, inl h)))))) m = h.0 m.1.1.1.1.1.0
 refused_fails P plan e (inr (_, inr (_, inr (_, inr (_, inr (_, inr (_, inl h))))))) m = h.0 m.1.1.1.1.1.1.0
 refused_fails P plan e (inr (_, inr (_, inr (_, inr (_, inr (_, inr (_, inr (_, inl h)))))))) m = h.0 m.1.1.1.1.1.1.1.0
-refused_fails P plan e (inr (_, inr (_, inr (_, inr (_, inr (_, inr (_, inr (_, inr (_, h))))))))) m = h
+refused_fails P plan e (inr (_, inr (_, inr (_, inr (_, inr (_, inr (_, inr (_, inr (_, inl h))))))))) m = h.0 m.1.1.1.1.1.1.1.1.0
+refused_fails P plan e (inr (_, inr (_, inr (_, inr (_, inr (_, inr (_, inr (_, inr (_, inr (_, h)))))))))) m = h

@@ -31,5 +31,5 @@ few_before d (suc n) is h =
     let here : length (links_at d.sites n) ≡ length (links_in d.sites n) = length-map (links_in d.sites n) named in
     omega (arith, before, few, more, here)
 
-pub few_links : (d : DefinitionData) → IsDefinition d → length (links d) ≤ 4096
+pub few_links : (d : DefinitionData) → IsDefinition d → length (links d) ≤ 16384
 few_links d is = omega (arith, few_before d (length d.sites) is (omega arith), is.few_sites)

@@ -105,13 +105,13 @@ eligible_same d g j is h =
 
 row_same : (d : DefinitionData) (g : List Record) (j : ℕ) → IsDefinition d → j < length (links d) → row_in d (snapshot_of d g).totals (snapshot_of d g).valid j ≡ row d g j
 row_same d g j is h =
-    let made : ℕ → Bool → LinkRow = λ n b. record { gain = (link_at d j).1.weight * n; eligible = b; needs = (link_at d j).1.needs } in
+    let made : ℕ → Bool → LinkRow = λ n b. record { gain = (link_at d j).1.weight * n; eligible = b; needs = (link_at d j).1.needs; charge = (link_at d j).1.charge } in
     ap (λ (n : ℕ). made n (are_valid (valid_points d g) (link_at d j).1.needs)) (at_number (total g) (length (links d)) j h)
     ∙ ap (made (total g j)) (eligible_same d g j is h)
 
 -- the rows that a snapshot kept are those of its records
 pub rows_same : (d : DefinitionData) (g : List Record) → IsDefinition d → rows_in d (snapshot_of d g).totals (snapshot_of d g).valid ≡ map (row d g) (numbers (length (links d)))
-rows_same d g is = same_numbers record { gain = 0; eligible = false; needs = [] } (row_in d (snapshot_of d g).totals (snapshot_of d g).valid) (row d g) (length (links d)) (λ j h. row_same d g j is h)
+rows_same d g is = same_numbers record { gain = 0; eligible = false; needs = []; charge = 0 } (row_in d (snapshot_of d g).totals (snapshot_of d g).valid) (row d g) (length (links d)) (λ j h. row_same d g j is h)
 
 pub problem_same : (d : DefinitionData) (g : List Record) → IsDefinition d → problem_of (rows_in d (snapshot_of d g).totals (snapshot_of d g).valid) (costs_of d) ≡ problem_after d g
 problem_same d g is = ap (λ (rows : List LinkRow). problem_of rows (costs_of d)) (rows_same d g is)

@@ -11,7 +11,7 @@ use Rattle.mh_network.specs.declared.link_row.LinkRow.{LinkRow}
 use Rattle.mh_network.specs.Sums.{sum_below}
 use Rattle.mh_network.specs.Laws.Members.{member_is}
 use Rattle.mh_base.specs.Tests.{Passes}
-use Rattle.mh_network.specs.Problems.{IsProblem, sum_of_gains, sum_of_costs, no_link, kept_gain, kept_row, problem_of, problem_tests}
+use Rattle.mh_network.specs.Problems.{IsProblem, sum_of_gains, sum_of_costs, sum_of_charges, no_link, kept_gain, kept_row, problem_of, problem_tests}
 
 -- a sum by index is a sum over the list
 sum_below-take : {X : Type 0} (f : X → ℕ) (d : X) (xs : List X) (k : ℕ) → k ≤ length xs → sum_below k (λ j. f (slice_index_or xs j d)) ≡ sum_by f (take k xs)
@@ -35,6 +35,14 @@ kept_gains rows costs = sum_below-list (λ (r : LinkRow). r.gain) no_link (map k
 
 pub kept_costs : (rows : List LinkRow) (costs : List ℕ) → sum_of_costs (problem_of rows costs) ≡ sum costs
 kept_costs rows costs = sum_below-list (λ x. x) 0 costs
+
+charges_by_row : (rows : List LinkRow) → sum_by (λ (r : LinkRow). r.charge) (map kept_row rows) ≡ sum_by (λ (r : LinkRow). r.charge) rows
+charges_by_row [] = refl
+charges_by_row (r ∷ rs) =
+    omega (arith, charges_by_row rs, sum_by-cons (λ (l : LinkRow). l.charge) (kept_row r) (map kept_row rs), sum_by-cons (λ (l : LinkRow). l.charge) r rs)
+
+pub kept_charges : (rows : List LinkRow) (costs : List ℕ) → sum_of_charges (problem_of rows costs) ≡ sum_by (λ (r : LinkRow). r.charge) rows
+kept_charges rows costs = sum_below-list (λ (r : LinkRow). r.charge) no_link (map kept_row rows) ∙ charges_by_row rows
 
 -- what each kept row is, and what stands past the last, a link by any number is
 each_link : (Q : LinkRow → Type 0) → Q no_link → (rows : List LinkRow) → All (λ r. Q (kept_row r)) rows → (j : ℕ) → Q (slice_index_or (map kept_row rows) j no_link)

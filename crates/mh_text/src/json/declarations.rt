@@ -1,11 +1,10 @@
 //! What a script declares, and the names that its events may use.
 ghost use Rattle.std.specs.Prelude.{◌≡◌};
-ghost use Rattle.mh_text.specs.Names.{place_of};
+ghost use Rattle.mh_site.specs.NamesInOrder.{place_of};
 ghost use Rattle.mh_text.specs.Script.{parameters_at};
 
-use crate::json::names::Names;
 use crate::json::scope::Scope;
-use mh_site::Definition;
+use mh_site::{Definition, Names};
 use mh_type::Kind;
 
 /// A definition, with the names of its points, shared trees and sites.

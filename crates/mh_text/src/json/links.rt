@@ -9,26 +9,31 @@ use crate::json::points::read_named_points;
 use crate::json::scope::Scope;
 use crate::json::shape::{MOST, count, each, list, member};
 use crate::json::values::read_value;
-use mh_site::{Link, Listing};
+use crate::json::versions::charge;
+use mh_site::{Link, Listing, Version};
 use mh_type::Kind;
 use serde_json::Value;
 use std::alloc::Global;
 
-/// A link: its key, read as of this kind, its weight and its needs.
+/// A link: its key, read as of this kind, its weight, its charge and its needs.
 fn read_link(
     alloc: Global,
+    version: Version,
     scope: &Scope,
     kind: Option<Kind>,
     value: &Value,
 ) -> Result<Link, InputFault>
-    ensures value { Gives (λ x. x) result (link_of scope.now.points kind (view value.now)) }
+    ensures value { Gives (λ x. x) result (link_of version scope.now.points kind
+        (view value.now)) }
 {
     let when = read_value(alloc, kind, member(value, "when")?)?;
     let weight = count(member(value, "weight")?, MOST)?;
+    let charge = charge(version, value)?;
     let needs = read_named_points(alloc, scope, member(value, "needs")?)?;
     Ok(Link {
         when,
         weight,
+        charge,
         needs,
     })
 }
@@ -36,11 +41,13 @@ fn read_link(
 /// The links of a site, whose keys are of this kind: `links` may be absent.
 pub(crate) fn read_links(
     alloc: Global,
+    version: Version,
     scope: &Scope,
     kind: Option<Kind>,
     site: &Value,
 ) -> Result<Listing<Link>, InputFault>
-    ensures value { Gives (λ x. x) result (links_of scope.now.points kind (view site.now)) }
+    ensures value { Gives (λ x. x) result (links_of version scope.now.points kind
+        (view site.now)) }
 {
     let Some(links) = site.get("links") else {
         return Ok(Listing::from_vec(Vec::new(alloc)));
@@ -48,6 +55,6 @@ pub(crate) fn read_links(
     each(
         alloc,
         list(links)?,
-        |link| read_link(alloc, scope, kind, link),
+        |link| read_link(alloc, version, scope, kind, link),
     )
 }

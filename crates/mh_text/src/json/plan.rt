@@ -2,7 +2,7 @@
 ghost use Rattle.std.specs.Prelude.{◌≡◌, map, option_map, IfErr};
 ghost use Rattle.serde_json.specs.View.{view};
 ghost use Rattle.mh_text.specs.Gives.{Gives, GivesAt, IsOfInput, at_place};
-ghost use Rattle.mh_text.specs.Plans.{signed_of, flow_row_from, flow_row_of, flow_of, plan_of, plan_at, plan_of_input};
+ghost use Rattle.mh_text.specs.Plans.{signed_of, flow_row_from, flow_row_of, flow_of, charge_row_from, charge_row_of, charges_of, plan_of, plan_at, plan_of_input};
 
 use crate::fault::{Fault, InputFault};
 use crate::json::problem::read_numbers;
@@ -48,6 +48,34 @@ fn read_flow(alloc: Global, value: &Value) -> Result<Listing<(u32, u32, u64)>, I
     each(alloc, list(value)?, |row| read_flow_row(row))
 }
 
+/// A link and an amount.
+fn read_charge_parts(parts: &[Value]) -> Result<(u32, u64), InputFault>
+    ensures value { Gives (λ x. x) result (charge_row_from (map view parts.now)) }
+{
+    let [link, amount] = parts else {
+        return Err(InputFault::BadShape);
+    };
+    let link = number(link)?;
+    let amount = count(amount, MOST_AMOUNT)?;
+    Ok((link, amount))
+}
+
+fn read_charge_row(value: &Value) -> Result<(u32, u64), InputFault>
+    ensures value { Gives (λ x. x) result (charge_row_of (view value.now)) }
+{
+    read_charge_parts(list(value)?)
+}
+
+/// What links pay of their charges, which may be absent.
+fn read_charges(alloc: Global, plan: &Value) -> Result<Listing<(u32, u64)>, InputFault>
+    ensures value { Gives (λ x. x) result (charges_of (view plan.now)) }
+{
+    let Some(rows) = plan.get("charges") else {
+        return Ok(Listing::from_vec(Vec::new(alloc)));
+    };
+    each(alloc, list(rows)?, |row| read_charge_row(row))
+}
+
 /// The plan that a value is.
 pub(crate) fn read_plan_value(alloc: Global, value: &Value) -> Result<Plan, InputFault>
     ensures value { Gives (λ x. x) result (plan_of (view value.now)) }
@@ -56,11 +84,13 @@ pub(crate) fn read_plan_value(alloc: Global, value: &Value) -> Result<Plan, Inpu
     let points = read_numbers(alloc, member(value, "points")?)?;
     let worth = read_signed(member(value, "value")?)?;
     let flow = read_flow(alloc, member(value, "flow")?)?;
+    let charges = read_charges(alloc, value)?;
     Ok(Plan {
         links,
         points,
         value: worth,
         flow,
+        charges,
     })
 }
 
@@ -75,10 +105,11 @@ pub(crate) fn read_plan_at(alloc: Global, value: &Value, key: Option<&str>) -> R
 
 /// The plan that an input is, or that its JSON object has at the key `member`.
 ///
-/// A plan is `{"links":[N..],"points":[N..],"value":N,"flow":[[link,point,amount]..]}`, links and
-/// points by number. The numbers of links and points are 0 to 2^32 - 1, amounts 0 to 2^64 - 1, and
-/// the value has 64 bits with a sign. The first fault is told, at 0: the input's length, its JSON,
-/// and then BadShape where a part is missing, of another form, or out of its range.
+/// A plan is `{"charges":[[link,amount]..],"flow":[[link,point,amount]..],"links":[N..],
+/// "points":[N..],"value":N}`, links and points by number, where `charges` may be absent, which is
+/// the empty list. The numbers of links and points are 0 to 2^32 - 1, amounts 0 to 2^64 - 1, and
+/// the value has 64 bits with a sign. The first fault is returned, at 0: the input's length, its
+/// JSON, and then BadShape where a part is missing, of another form, or out of its range.
 pub fn read_plan(alloc: Global, input: &[u8], member: Option<&str>) -> Result<Plan, Fault>
     ensures value { GivesAt (λ x. x) result
         (plan_of_input (option_map (λ k. k.now) member.entry) input.now) }

@@ -5,10 +5,9 @@ ghost use Rattle.mh_text.specs.Gives.{Gives};
 ghost use Rattle.mh_text.specs.Script.{point_of, points_of, point_names_of, named_point_of, named_points_of};
 
 use crate::fault::InputFault;
-use crate::json::names::Names;
 use crate::json::scope::Scope;
 use crate::json::shape::{MOST, count, each, list, member, text};
-use mh_site::{Listing, Name, Point};
+use mh_site::{Listing, Name, Names, Point};
 use serde_json::Value;
 use std::alloc::{AllocError, Global};
 

@@ -5,8 +5,7 @@ ghost use Rattle.mh_text.specs.Shared.{without_shared, with_shared};
 ghost use Rattle.mh_text.specs.Trees.{point_place, shared_named};
 
 use crate::fault::InputFault;
-use crate::json::names::Names;
-use mh_site::{Listing, Name};
+use mh_site::{Listing, Name, Names};
 use mh_tree::Handle;
 use std::alloc::Global;
 

@@ -11,10 +11,11 @@ use crate::json::events::read_steps;
 use crate::json::limits::read_limits;
 use crate::json::points::{point_names, read_points};
 use crate::json::read_json;
-use crate::json::shape::{count, list, member, version};
+use crate::json::shape::{count, list, member};
 use crate::json::shared::read_scope;
 use crate::json::sites::{read_sites, site_names};
 use crate::json::step::Step;
+use crate::json::versions::version;
 use mh_core::Limits;
 use mh_site::{Definition, Listing};
 use serde_json::Value;
@@ -45,12 +46,12 @@ fn read_declarations(alloc: Global, value: &Value) -> Result<Declarations, Input
     ensures value { Gives (λ x. x) result (declarations_of (view value.now)) }
 {
     let definition = member(value, "definition")?;
-    version(definition)?;
+    let version = version(definition)?;
     let points = read_points(alloc, definition)?;
     let names = point_names(alloc, points.as_slice())?;
     let scope = read_scope(alloc, names, definition)?;
-    let sites = read_sites(alloc, &scope, definition)?;
-    let definition = Definition::new(alloc, points, sites)?;
+    let sites = read_sites(alloc, version, &scope, definition)?;
+    let definition = Definition::new(alloc, version, points, sites)?;
     let sites = site_names(alloc, definition.sites())?;
     Ok(Declarations {
         definition,

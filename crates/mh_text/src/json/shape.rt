@@ -6,7 +6,7 @@ ghost use Rattle.serde_json.specs.declared.value.Value.{Value};
 ghost use Rattle.mh_text.specs.declared.fault.InputFault.{InputFault};
 ghost use Rattle.serde_json.specs.View.{view};
 ghost use Rattle.mh_text.specs.Gives.{Gives};
-ghost use Rattle.mh_text.specs.Shape.{list_of, text_of, member_of, count_of, version_of, each_of, part_of};
+ghost use Rattle.mh_text.specs.Shape.{list_of, text_of, member_of, count_of, each_of, part_of};
 
 use crate::fault::InputFault;
 use mh_site::Listing;
@@ -66,17 +66,6 @@ pub(crate) fn number(value: &Value) -> Result<u32, InputFault>
     ensures value { Gives (λ x. x) result (count_of (2 ^ 32 - 1) (view value.now)) }
 {
     Ok(count(value, LAST_NUMBER)? as u32)
-}
-
-/// The version of an object, which is 1.
-pub(crate) fn version(value: &Value) -> Result<u64, InputFault>
-    ensures value { Gives (λ x. x) result (version_of (view value.now)) }
-{
-    let version = count(member(value, "version")?, 1)?;
-    if version != 1 {
-        return Err(InputFault::BadShape);
-    }
-    Ok(version)
 }
 
 /// What each item of a list is read as, up to the first fault.

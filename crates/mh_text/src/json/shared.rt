@@ -5,11 +5,10 @@ ghost use Rattle.mh_text.specs.Gives.{Gives};
 ghost use Rattle.mh_text.specs.Shared.{new_name, shared_from, shared_of, scope_of};
 
 use crate::fault::InputFault;
-use crate::json::names::Names;
 use crate::json::scope::{Scope, Shared};
 use crate::json::shape::{list, text};
 use crate::json::trees::read_tree;
-use mh_site::Name;
+use mh_site::{Name, Names};
 use serde_json::Value;
 use std::alloc::Global;
 

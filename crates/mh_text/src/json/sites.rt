@@ -6,12 +6,11 @@ ghost use Rattle.mh_text.specs.Script.{place_or_none, key_of, key_kind as kind_o
 
 use crate::fault::InputFault;
 use crate::json::links::read_links;
-use crate::json::names::Names;
 use crate::json::scope::Scope;
 use crate::json::shape::{each, list, member, place, text};
 use crate::json::trees::read_declared;
 use crate::json::values::{kind_at, read_type};
-use mh_site::{Listing, Name, Site};
+use mh_site::{Listing, Name, Names, Site, Version};
 use mh_type::{Kind, MethodType};
 use serde_json::Value;
 use std::alloc::{AllocError, Global};
@@ -43,14 +42,19 @@ fn key_kind(method_type: &MethodType, key: Option<usize>) -> Option<Kind>
     kind_at(method_type.parameters(), key?)
 }
 
-fn read_one(alloc: Global, scope: &Scope, value: &Value) -> Result<Site, InputFault>
-    ensures value { Gives (λ x. x) result (site_of scope.now (view value.now)) }
+fn read_one(
+    alloc: Global,
+    version: Version,
+    scope: &Scope,
+    value: &Value,
+) -> Result<Site, InputFault>
+    ensures value { Gives (λ x. x) result (site_of version scope.now (view value.now)) }
 {
     let name = Name::new(alloc, text(member(value, "name")?)?)?;
     let method_type = read_type(member(value, "type")?)?;
     let key = read_key(value)?;
     let target = read_declared(alloc, scope, member(value, "target")?)?;
-    let links = read_links(alloc, scope, key_kind(&method_type, key), value)?;
+    let links = read_links(alloc, version, scope, key_kind(&method_type, key), value)?;
     Ok(Site {
         name,
         method_type,
@@ -63,13 +67,14 @@ fn read_one(alloc: Global, scope: &Scope, value: &Value) -> Result<Site, InputFa
 /// The sites of a definition, each its name, its type, its key place, its target and its links.
 pub(crate) fn read_sites(
     alloc: Global,
+    version: Version,
     scope: &Scope,
     definition: &Value,
 ) -> Result<Listing<Site>, InputFault>
-    ensures value { Gives (λ x. x) result (sites_of scope.now (view definition.now)) }
+    ensures value { Gives (λ x. x) result (sites_of version scope.now (view definition.now)) }
 {
     let sites = list(member(definition, "sites")?)?;
-    each(alloc, sites, |site| read_one(alloc, scope, site))
+    each(alloc, sites, |site| read_one(alloc, version, scope, site))
 }
 
 /// The names of the sites, by number.

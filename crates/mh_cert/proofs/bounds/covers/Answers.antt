@@ -13,7 +13,7 @@ returns-then-row-spare c =
     record {
       value = (
         λ t. absurd (true≢false (sym t)),
-        λ within. absurd (exceeds (end_of c.args.end) c.args.flow.now c.loop-row.row-index c.place-at.result
+        λ within. absurd (exceeds (end_of c.args.end) (λ r. r.2) (0, 0, 0) c.args.flow.now c.loop-row.row-index c.place-at.result
             (slice_index c.loop-row.left.items c.place-at.result) (slice_index c.args.left.now.items c.place-at.result)
             c.loop-row-test.true c.place-at.ensures.value (c.loop-row.invariant.left c.place-at.result) (omega arith) (within c.place-at.result)),
       );

@@ -12,14 +12,16 @@ returns-then-not-reaches_sink c =
       | inr away ↦ away
     ] in
     let same = c.build_levels.ensures.same.problem ∙ c.loop-run.invariant.same in
-    let answer : IsAnswer c.args.problem.now c.in_ok-flow.flow.rows c.in_ok-flow.flow.reached =
-    finished c.args.problem.now _ _ _ (c.needs_are_of_links.ensures.needs _) (c.cuts_are_least.ensures.least _) same c.build_levels.ensures.kept c.in_ok-build_levels.ensures.layered c.in_ok-build_levels.ensures.sink
-    far_off c.in_ok-flow.ensures.rows c.in_ok-flow.ensures.reached in
+    let answer : IsAnswer c.args.problem.now c.in_ok-flow.flow.rows c.in_ok-flow.flow.charges c.in_ok-flow.flow.reached =
+    finished c.args.problem.now _ _ _ _ (c.needs_are_of_links.ensures.needs _) (c.cuts_are_least.ensures.least _) same c.build_levels.ensures.kept c.in_ok-build_levels.ensures.layered c.in_ok-build_levels.ensures.sink
+    far_off c.in_ok-flow.ensures.rows c.in_ok-flow.ensures.charges c.in_ok-flow.ensures.reached in
     let few = phases_few _ c.loop-run.invariant.between in
     record {
       flow = answer.flow;
       positive = answer.positive;
       ordered = answer.ordered;
+      paid = answer.paid;
+      paid_ordered = answer.paid_ordered;
       equal = answer.equal;
       least = answer.least;
       some = omega (arith, c.in_ok-flow.ensures.phases, c.in_ok-build_levels.ensures.phases);

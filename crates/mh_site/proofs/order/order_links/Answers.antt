@@ -6,7 +6,7 @@ use Rattle.mh_site.proofs.Mapped.{partly_more}
 use Rattle.mh_site.proofs.order.order_links.Goals as goal
 
 abbrev with_needs : Link → List ℕ → Link
-with_needs l needs = record { when = l.when; weight = l.weight; needs = needs }
+with_needs l needs = record { when = l.when; weight = l.weight; charge = l.charge; needs = needs }
 
 in_order : (l g : Link) (needs : List ℕ) → needs ≡ ascending l.needs → l ≡ g → with_needs l needs ≡ link_in_order g
 in_order l g needs e same = cc

@@ -1,6 +1,7 @@
 use Rattle.std.proofs.Common.{◌≡◌, List, None, map, ap, subst, sym, ◌∙◌}
 use Rattle.mh_site.specs.declared.point.Point.{Point}
 use Rattle.mh_site.specs.declared.site.Site.{Site}
+use Rattle.mh_site.specs.declared.version.Version.{Version}
 use Rattle.mh_site.specs.Definitions.{definition_fault, site_in_order}
 use Rattle.mh_site.specs.Lawful.{IsDefinition}
 use Rattle.mh_site.specs.Links.{AreNumbers, IsNumbered}
@@ -10,11 +11,11 @@ use Rattle.mh_site.proofs.Rules.{rules_hold}
 use Rattle.mh_site.proofs.definition.Definition.new.Goals as goal
 
 -- the parts that were tested are those that were given, and what is kept are the sites in order
-made : (ps tested : List Point) (ss others kept : List Site) → definition_fault tested others ≡ None → tested ≡ ps → others ≡ ss → kept ≡ map site_in_order ss
+made : (version : Version) (ps tested : List Point) (ss others kept : List Site) → definition_fault version tested others ≡ None → tested ≡ ps → others ≡ ss → kept ≡ map site_in_order ss
     → IsDefinition record { points = ps; sites = kept }
-made ps tested ss others kept h same alike e =
-    let none : definition_fault ps ss ≡ None = sym (ap (λ xs. definition_fault xs ss) same) ∙ (sym (ap (λ xs. definition_fault tested xs) alike) ∙ h) in
-    subst (λ xs. IsDefinition record { points = ps; sites = xs }) (sym e) (lawful ps ss (rules_hold ps ss none))
+made version ps tested ss others kept h same alike e =
+    let none : definition_fault version ps ss ≡ None = sym (ap (λ xs. definition_fault version xs ss) same) ∙ (sym (ap (λ xs. definition_fault version tested xs) alike) ∙ h) in
+    subst (λ xs. IsDefinition record { points = ps; sites = xs }) (sym e) (lawful version ps ss (rules_hold version ps ss none))
 
 -- what a definition keeps, of its parts
 abbrev Keeps : Parts → Type 0
@@ -24,7 +25,7 @@ pub invariant_of-result : goal.invariant_of-result
 invariant_of-result c =
     let same = c.from_vec-sites.ensures.value in
     subst Keeps (sym c.in_ok-parts.ensures.value) record {
-      lawful = made c.args.points _ c.args.sites _ _ c.in_ok-test.ensures.value c.as_slice.ensures.value c.as_slice-2.ensures.value
+      lawful = made c.args.version c.args.points _ c.args.sites _ _ c.in_ok-test.ensures.value c.as_slice.ensures.value c.as_slice-2.ensures.value
           (same ∙ (c.order_sites.ensures.value ∙ ap (map site_in_order) c.into_vec-sites.ensures.value));
       numbers = subst (λ (ss : List Site). AreNumbers ss c.in_ok-numbering.numbering.firsts.items c.in_ok-numbering.numbering.homes.items) (c.deref.ensures.value ∙ sym same) c.in_ok-numbering.ensures.value;
     }

@@ -1,0 +1,44 @@
+-- Versions of definitions and problems, and the charges that links have in version 2.
+use Rattle.std.specs.Prelude.{ℕ, ◌^◌, ◌-◌, ◌≤◌, Option, Some, None, Result, Ok, Err, codes, length, List, if◌then◌else◌, ◌==◌}
+use Rattle.serde_json.specs.Data.{Data}
+use Rattle.serde_json.specs.Find.{get}
+use Rattle.mh_base.specs.Tests.{Tests, test, only}
+use Rattle.mh_network.specs.declared.link_row.LinkRow.{LinkRow}
+use Rattle.mh_network.specs.declared.fault.ProblemFault.{ProblemFault}
+use Rattle.mh_network.specs.declared.fault.ProblemFault.TheVariants.{TooManyLinks, TooManyPoints}
+use Rattle.mh_network.specs.Problems.{problem_tests}
+use Rattle.mh_site.specs.declared.version.Version.{Version}
+use Rattle.mh_site.specs.declared.version.Version.TheVariants.{One, Two}
+use Rattle.mh_site.specs.Limits.{most_points}
+use Rattle.mh_text.specs.declared.fault.InputFault.{InputFault}
+use Rattle.mh_text.specs.declared.fault.InputFault.TheVariants.{BadShape}
+use Rattle.mh_text.specs.Gives.{◌>>=◌}
+use Rattle.mh_text.specs.Shape.{member_of, count_of}
+
+-- the version, which is the number 1 or 2
+abbrev pub version_of : Data → Result Version InputFault
+version_of d = do
+  version ← member_of (codes "version") d
+  version ← count_of 2 version
+  if version == 1 then Ok One else (if version == 2 then Ok Two else Err BadShape)
+
+-- a charge, which may be absent; in version 1 the key means nothing
+abbrev pub charge_where : Version → Option Data → Result ℕ InputFault
+charge_where One d = Ok 0
+charge_where Two None = Ok 0
+charge_where Two (Some d) = count_of (2 ^ 63 - 1) d
+
+-- the charge of a link
+abbrev pub charge_of : Version → Data → Result ℕ InputFault
+charge_of version link = charge_where version (get (codes "charge") link)
+
+-- the most links of a problem
+abbrev pub most_links : Version → ℕ
+most_links One = 4096
+most_links Two = 16384
+
+-- the tests of a problem's links and costs: the numbers that its version allows, and then those of all problems
+abbrev pub version_tests : Version → List LinkRow → List ℕ → Tests ProblemFault
+version_tests version rows costs =
+    test (length rows ≤ most_links version) (only TooManyLinks)
+    (test (length costs ≤ most_points version) (only TooManyPoints) (problem_tests rows costs))
