@@ -1,9 +1,9 @@
 // Times LEMON's Preflow on a problem of selection, for planner.py.
 //
 // Standard input has the numbers of links and points, the gains, the charges, the costs, and for each link the number of its
-// needs and the needs. A charge is an arc from its link to the sink of that capacity, and where there is none there is no arc: a
-// private point would be a node between, for the same flow. Standard output has the value of the flow, and the least seconds that
-// several runs took of a processor: Preflow made, run, and the source's side of a least cut read, over a network that was built before.
+// needs and the needs. A charge is a private point of its link: a node with an arc from the link, and an arc to the sink of that
+// capacity; where there is none there is no node. Standard output has the value of the flow, and the least seconds that several
+// runs took of a processor: Preflow made, run, and the source's side of a least cut read, over a network that was built before.
 #include <cstdio>
 #include <ctime>
 #include <lemon/preflow.h>
@@ -32,8 +32,13 @@ int main() {
         all += gain;
         room[graph.addArc(source, nodes[link])] = gain;
     }
-    for (int link = 0; link < links; ++link)
-        if (const long long charge = number()) room[graph.addArc(nodes[link], sink)] = charge;
+    for (int link = 0; link < links; ++link) {
+        const long long charge = number();
+        if (charge == 0) continue;
+        const auto own = graph.addNode();
+        room[graph.addArc(nodes[link], own)] = all;
+        room[graph.addArc(own, sink)] = charge;
+    }
     for (int point = 0; point < points; ++point) room[graph.addArc(nodes[links + point], sink)] = number();
     for (int link = 0; link < links; ++link)
         for (long long needs = number(); needs > 0; --needs)

@@ -21,7 +21,7 @@ use mh_base::NoMemory;
 use mh_ledger::{Ledger, Totals};
 use mh_network::Problem;
 use mh_site::{Definition, Listing, World};
-use mh_tree::{CodeCache, Declared};
+use mh_tree::Declared;
 use std::alloc::Global;
 use std::fmt;
 use std::marker::Model;
@@ -42,7 +42,6 @@ pub struct Book {
     pub(crate) totals: Totals,
     pub(crate) snapshots: Vec<Snapshot>,
     pub(crate) plans: Vec<PublishedPlan>,
-    pub(crate) codes: CodeCache,
 }
 
 impl Model for Book {
@@ -104,7 +103,6 @@ impl Book {
             totals,
             snapshots: Vec::new(alloc),
             plans: Vec::new(alloc),
-            codes: CodeCache::new(alloc),
         };
         Ok((book, ledgers))
     }

@@ -127,8 +127,7 @@ impl Book {
         ensures refused { OnErr result (self.new ≡ self.old) }
     {
         let base = share(&tree)?;
-        let retargeting = Retargeting::new(&mut self.codes, site, base)?;
-        let control = Control::Target(retargeting);
+        let control = Control::Target(Retargeting::new(site, base)?);
         self.records.reserve(1)?;
         let entry = Record::Targeted { site, tree };
         Ok(PendingChange {

@@ -88,7 +88,6 @@ module _ (values : ValuesCross) (trees : TreesCross) (worlds : WorldsCross) wher
       let b = record_sync in
       let c = worlds.world_send in
       let d = worlds.definition_send in
-      let e = trees.cache_part_send in
       search plain depth 60 fits 20000
 
   office_send : (N : RattleType) (n : Ghosts N.Denot) → IsSend N → IsSync N → IsSend (Office.the_row N n)

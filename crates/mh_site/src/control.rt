@@ -4,7 +4,7 @@ ghost use Rattle.std.specs.Prelude.{◌≡◌, IfOk};
 
 use arrayvec::ArrayVec;
 use mh_base::{Listing, NoMemory};
-use mh_tree::{CodeCache, Declared, Prepared};
+use mh_tree::{Declared, Handle, Prepared};
 use std::marker::Model;
 
 /// The links that the linked tree of a site holds, by number: at most four, since a site has no
@@ -34,13 +34,12 @@ impl Model for Retargeting {
 }
 
 impl Retargeting {
-    /// The tree for the site, by its number, in time linear in its size: its code is made here, where
-    /// the cache keeps none of it. Refused where a growth was refused, or a further owner of the tree
-    /// or its code.
-    pub fn new(cache: &mut CodeCache, site: usize, base: Declared) -> Result<Retargeting, NoMemory>
+    /// The tree for the site, by its number, in time linear in its size: its code is made here.
+    /// Refused where a growth was refused, or a further owner of the tree.
+    pub fn new(site: usize, base: Declared) -> Result<Retargeting, NoMemory>
         ensures value { IfOk result (λ r. r ≡ record { site = site; tree = base }) }
     {
-        let linked = cache.prepare(base.handle()).map_err(|_| NoMemory)?;
+        let linked = prepare(base.handle())?;
         Ok(Retargeting { site, base, linked })
     }
 
@@ -54,6 +53,13 @@ impl Retargeting {
             linked: share_tree(&self.linked)?,
         })
     }
+}
+
+// A tree with its code.
+fn prepare(handle: &Handle) -> Result<Prepared, NoMemory>
+    ensures value { IfOk result (λ p. p ≡ handle.now) }
+{
+    Prepared::new(handle).map_err(|_| NoMemory)
 }
 
 // Another owner of a tree and of its code.

@@ -5,7 +5,7 @@ use mh_site::{
     Control, Definition, Installation, KeptLinks, Link, Listing, Relinking, Retargeting, Site,
     Version, World,
 };
-use mh_tree::{CodeCache, Prepared};
+use mh_tree::Prepared;
 use mh_type::{Kind, Op};
 use std::alloc::Global;
 use std::test::Fail;
@@ -113,7 +113,7 @@ fn one_plain_site(alloc: Global) -> Result<Definition, Fail> {
 /// retargeting; and the front then.
 fn changes(alloc: Global) -> Result<[u64; 3], Fail> {
     let points = Listing::from_vec(Vec::from_slice(alloc, &[1])?);
-    let target = Retargeting::new(&mut CodeCache::new(alloc), 0, tree_of(alloc, Op::Ineg)?)?;
+    let target = Retargeting::new(0, tree_of(alloc, Op::Ineg)?)?;
     let mut world = World::open(alloc, &one_plain_site(alloc)?)?;
     let before = valid_points(&world);
     world.absorb(Control::Invalidate(points));

@@ -1,13 +1,11 @@
 -- What of trees crosses threads.
 use denote.Param.Send.{IsSend, IsSync}
-use Rattle.mh_tree.specs.contracts.code_cache.CodeCache as caches
 use Rattle.mh_tree.specs.contracts.declared.Declared as declared
 use Rattle.mh_tree.specs.contracts.handle.Handle as handles
 use Rattle.mh_tree.specs.contracts.prepared.Prepared as prepared
 
--- handles, declared trees and prepared trees may go to another thread, and threads may share them; a cache of code may go to one, as part of what keeps it
+-- handles, declared trees and prepared trees may go to another thread, and threads may share them
 pub record TreesCross : Type 0 where
-  pub cache_part_send : IsSend caches.the_field.row
   pub handle_send : IsSend handles.the_row
   pub handle_sync : IsSync handles.the_row
   pub declared_send : IsSend declared.the_row

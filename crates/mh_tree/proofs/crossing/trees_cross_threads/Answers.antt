@@ -37,7 +37,6 @@ returns c =
     let value_part_sync = v.value_part_sync in
     record {
       trees = record {
-        cache_part_send = search (vec.the_send, parts) depth 60 fits 20000;
         handle_send = search parts depth 60 fits 20000;
         handle_sync = search parts depth 60 fits 20000;
         declared_send = search parts depth 60 fits 20000;
