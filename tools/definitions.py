@@ -2,7 +2,7 @@
 that these cite, and the views by which contracts see the types that they speak of. `tools/check_believe` and
 `tools/read_promise` ask it. Lines are those of definitions, with the comments that stand on them, without imports. What the kit
 defines is left out."""
-import re
+import re, sys
 from dataclasses import dataclass
 from functools import cache
 from pathlib import Path
@@ -110,12 +110,15 @@ def sources(crate):
 
 
 def functions(crate, name):
-    """The public functions of this name: their file, the type that they are of, and all before their bodies."""
+    """The public functions of this name, or of one type (`Text::new`): their file, the type that they are of, and all before their
+    bodies."""
+    *only_of, name = name.split("::")
     head = re.compile(rf"(?m)^( *)pub fn {name}\b(.*?)^\1\{{\}}?$", re.S)
     for source in sources(crate):
         for found in head.finditer(source.text):
             of = re.findall(r"(?m)^impl(?:<.*?>)? (?:.* for )?(\w+)", source.text[:found.start()]) if found[1] else []
-            yield source, of[-1:], found[2]
+            if only_of in ([], of[-1:]):
+                yield source, of[-1:], found[2]
 
 
 def clauses_of(contract):
@@ -193,28 +196,55 @@ class Reading:
             self.left.append(file.imports[name])
 
 
+PROMISES = ROOT / "docs/BELIEVE.md"
+NAMES = r"(`{0}`(?:, `{0}`)*)"
+CLAUSES = NAMES.format(r"[\w:]+") + ": " + NAMES.format(r"\w+")
+
+
+def entries(section, label, form):
+    """The entries of the items of a section `- **LABEL**: CRATE ENTRY; ENTRY; CRATE ENTRY.`: of each the crate, which stands before
+    its first entry, and what the groups of the form find in it. An entry of another form ends the program."""
+    for item in re.findall(rf"(?ms)^- \*\*{label}\*\*: (.*?)\.?(?=\n- |\n\n|\n*\Z)", section):
+        crate = None
+        for entry in " ".join(item.split()).split("; "):
+            found = re.fullmatch(rf"(?:(\w+) )?{form}", entry)
+            crate = found and (found[1] or crate)
+            if crate not in USES:
+                sys.exit(f"docs/BELIEVE.md: {label}: an entry of another form: {entry}")
+            yield crate, *found.groups()[1:]
+
+
+def quoted(names):
+    return re.findall("`(.*?)`", names)
+
+
 @dataclass
 class Promise:
     """A section of docs/BELIEVE.md that names clauses, and what it asks to be read beyond those before it."""
 
     title: str
     section: str
+    named: list
     clauses: list
     views: list
     files: dict
+
+    @property
+    def number(self):
+        return self.title.split(".")[0]
 
 
 def promises():
     """The promises of docs/BELIEVE.md, in order."""
     reading, before = Reading(), {}
-    text = (ROOT / "docs/BELIEVE.md").read_text(encoding="utf-8")
-    for section in re.split(r"(?m)^## ", text)[1:]:
-        clauses = re.findall(r"(?m)^\| `(\w+)` \| (\w+) \| `(\w+)` \|$", section)
+    for section in re.split(r"(?m)^## ", PROMISES.read_text(encoding="utf-8"))[1:]:
+        named = [(crate, function, clause) for crate, those, clauses in entries(section, "Clauses", CLAUSES)
+                 for function in quoted(those) for clause in quoted(clauses)]
         reading.clauses, reading.views = [], []
-        for clause, crate, function in clauses:
+        for crate, function, clause in named:
             reading.add_clause(crate, function, clause)
         more = {path: sorted(lines - before.get(path, set())) for path, lines in reading.lines.items()}
         before = {path: set(lines) for path, lines in reading.lines.items()}
-        if clauses:
+        if named:
             files = {path: lines for path, lines in more.items() if lines}
-            yield Promise(section.split("\n")[0], section, list(dict.fromkeys(reading.clauses)), reading.views, files)
+            yield Promise(section.split("\n")[0], section, named, list(dict.fromkeys(reading.clauses)), reading.views, files)
