@@ -76,6 +76,8 @@ fn measure_opened<N: Name + Send + Sync, T: Clock + Threads + Wait + Sync>(
 ) -> anyhow::Result<Measured>
     requires name { opening.name ≡ N.book }
     requires definition { opening.definition ≡ N.definition }
+    requires limits { opening.limits ≡ N.limits }
+    requires workers { opening.workers ≡ N.workers }
     requires few { request.workers ≤ 64 }
 {
     cross_threads::<N>();

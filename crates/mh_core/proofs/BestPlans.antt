@@ -30,11 +30,11 @@ problem_lawful d l g is limits was =
 -- the plan at any place of the records matches
 pub published_matches : (d : DefinitionData) (l : LimitsData) (newer older : List Record) (n : ℕ) (plan : Plan)
     → Legal d l (newer ++ Published n plan ∷ older) → Matches (problem_at d older n) plan
-published_matches d l [] older n plan legal = legal.0.1.1.0
+published_matches d l [] older n plan legal = legal.0.1.1.1.0
 published_matches d l (e ∷ newer) older n plan legal = published_matches d l newer older n plan legal.1
 
 pub published_best : (d : DefinitionData) (l : LimitsData) (newer older : List Record) (n : ℕ) (plan : Plan) → IsDefinition d → IsLimits l
     → Legal d l (newer ++ Published n plan ∷ older) → IsBest (problem_at d older n) (member plan.links)
 published_best d l [] older n plan is limits legal =
-    best_by_match (problem_at d older n) plan (problem_lawful d l (past older n) is limits (past_legal d l older n legal.1 legal.0.1.0)) legal.0.1.1.0
+    best_by_match (problem_at d older n) plan (problem_lawful d l (past older n) is limits (past_legal d l older n legal.1 legal.0.1.1.0)) legal.0.1.1.1.0
 published_best d l (e ∷ newer) older n plan is limits legal = published_best d l newer older n plan is limits legal.1

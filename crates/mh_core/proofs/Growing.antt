@@ -1,5 +1,5 @@
 -- What a book keeps with one record more.
-use Rattle.std.proofs.Common.{◌≡◌, ℕ, ◌+◌, ◌<◌, List, [], ◌∷◌, ◌++◌, length, ap, sym, subst, ◌∙◌, arith}
+use Rattle.std.proofs.Common.{Bool, ◌≡◌, ℕ, ◌+◌, ◌<◌, List, [], ◌∷◌, ◌++◌, length, ap, sym, subst, ◌∙◌, arith}
 use Rattle.std.specs.Prelude.{reverse}
 use Rattle.mh_site.specs.Defined.{DefinitionData}
 use Rattle.mh_site.specs.Worlds.{WorldState}
@@ -41,11 +41,11 @@ pub record Made (b : BookState) (r : List Record) (w : WorldState) (t : TotalsSt
 pub totals_stay : (b : BookState) (e : Record) → IsBook b → ((j : ℕ) → total (e ∷ b.records) j ≡ total b.records j) → AreTotals b.definition b.limits (e ∷ b.records) b.totals
 totals_stay b e is same = record { count = is.totals.count; sums = λ j h. is.totals.sums j h ∙ sym (same j); limit = is.totals.limit }
 
-abbrev pub pushed : ℕ → BookState → List Record → WorldState → TotalsState → List SnapshotState → List PublishedPlan → BookState
+abbrev pub pushed : Bool → BookState → List Record → WorldState → TotalsState → List SnapshotState → List PublishedPlan → BookState
 pushed k b r w t s n = record { definition = b.definition; limits = b.limits; records = r; world = w; totals = t; snapshots = s; plans = n; room = k }
 
 -- a book that takes a record, which is pushed behind the others
-pub book_grows : {k : ℕ} (b : BookState) (calls : ℕ) (e : Record) (older newer : List Record) (w : WorldState) (t : TotalsState) (s : List SnapshotState) (n : List PublishedPlan) → IsBook b
+pub book_grows : {k : Bool} (b : BookState) (calls : ℕ) (e : Record) (older newer : List Record) (w : WorldState) (t : TotalsState) (s : List SnapshotState) (n : List PublishedPlan) → IsBook b
     → Passes (tests b.definition b.limits (length b.records + calls) b.records e) → Made b (e ∷ b.records) w t s n → reverse older ≡ b.records → newer ≡ older ++ e ∷ [] → IsBook (pushed k b (reverse newer) w t s n)
 book_grows {k} b calls e older newer w t s n is passes made was push =
     let few = fits_in b.definition b.limits (length b.records + calls) b.records e passes in
@@ -53,7 +53,7 @@ book_grows {k} b calls e older newer w t s n is passes made was push =
     subst (λ (r : List Record). IsBook (pushed k b r w t s n)) (sym items) record {
       definition = is.definition;
       limits = is.limits;
-      legal = ((length b.records + calls, passes), is.legal);
+      legal = ((length b.records + calls, (omega arith, passes)), is.legal);
       few = omega arith;
       world = made.world;
       totals = made.totals;

@@ -5,7 +5,7 @@ use Rattle.std.specs.List.{range_with_len}
 use Rattle.std.specs.List.Sorted.{IsBinarySearchResult, IsStrictlyIncreasing}
 use Rattle.std.specs.Ordering.{nat_cmp}
 use Rattle.std.specs.Result.{is_ok}
-use Rattle.std.proofs.lemmas.Bool.{cases_lt, eq-eqb, ne_eqb, false≢true, or_left, or_right}
+use Rattle.std.proofs.lemmas.Bool.{cases_Bool, cases_lt, eq-eqb, ne_eqb, false≢true, or_left, or_right}
 use Rattle.std.proofs.lemmas.Bool.Decides.{Decides-ltb}
 use Rattle.std.proofs.lemmas.Grind.{get_or_default_zero}
 use Rattle.std.proofs.lemmas.List.{append-nil, map-append, map-id}
@@ -150,3 +150,11 @@ some_pass p a (suc n) j least most passes = by_test (p a) refl (λ later. some_p
 pub some_length : (n : ℕ) → not (n == 0) ≡ nat_lt 0 n
 some_length zero = refl
 some_length (suc n) = ap not (ne_eqb (suc n) 0 (λ e. absurd (omega arith))) ∙ sym ((Decides-ltb 0 (suc n)).1 (omega arith))
+
+-- what passes both tests, where the second is looked at last
+pub gather_both : {X : Type 0} (f : ℕ → X) (p q : ℕ → Bool) (n next : ℕ) (xs ys : List X) → next ≡ n + 1 → xs ≡ gathered f (λ s. p s && q s) 0 n → p n ≡ true → (q n ≡ true → ys ≡ xs ++ f n ∷ []) → (q n ≡ false → ys ≡ xs)
+    → ys ≡ gathered f (λ s. p s && q s) 0 next
+gather_both f p q n next xs ys more before first pushed skipped = elim (cases_Bool (q n)) [
+  | inl second ↦ let both : (p n && q n) ≡ true = cc in gather_pass f (λ s. p s && q s) 0 n n next xs ys (f n) (omega arith) more before both refl (pushed second)
+  | inr second ↦ let one : (p n && q n) ≡ q n = ap (λ (b : Bool). b && q n) first in rw (skipped second) (gather_skip f (λ s. p s && q s) 0 n n next xs (omega arith) more before (one ∙ second))
+]

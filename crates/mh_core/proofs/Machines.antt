@@ -1,8 +1,7 @@
 -- What a machine keeps with one event more.
-use Rattle.std.proofs.Common.{◌≡◌, Result, ℕ, ◌+◌, ◌<◌, ◌≤◌, Bool, true, false, List, [], ◌∷◌, length, map, slice_index_or, slice_set, refl, ap, sym, subst, ◌∙◌, arith}
+use Rattle.std.proofs.Common.{◌≡◌, inr, ℕ, ◌+◌, ◌<◌, ◌≤◌, Bool, true, false, List, [], ◌∷◌, length, map, slice_index_or, slice_set, refl, ap, sym, subst, ◌∙◌, arith}
 use Rattle.std.specs.List.{range_with_len}
-use Rattle.std.specs.Prelude.{OnOk, IfErr, ◌↔◌}
-use Rattle.std.proofs.lemmas.Result.{on_ok_weaker, IfErr-weaker}
+use Rattle.std.specs.Prelude.{Option, Some, None, IfSome, ◌↔◌}
 use Rattle.mh_type.specs.declared.value.Value.{Value}
 use Rattle.mh_ledger.specs.Ledgers.{AreHeld, LedgerState, at, opened_ledger, settled}
 use Rattle.mh_site.specs.Defined.{DefinitionData}
@@ -11,13 +10,15 @@ use Rattle.mh_core.specs.declared.call.AcceptedCall.{AcceptedCall}
 use Rattle.mh_core.specs.declared.event.Event.{Event}
 use Rattle.mh_core.specs.declared.event.Event.TheVariants.{Flush}
 use Rattle.mh_core.specs.declared.record.Record.{Record}
-use Rattle.mh_core.specs.declared.record.Record.TheVariants.{Flushed}
+use Rattle.mh_core.specs.declared.record.Record.TheVariants.{Flushed, Targeted, Invalidated, Snapped, Published, Installed}
+use Rattle.mh_core.specs.declared.reply.Reply.{Reply}
 use Rattle.mh_core.specs.declared.refusal.Refusal.{Refusal}
-use Rattle.mh_core.specs.Books.{AreLedgers, BookState, IsMachine, Takes, opened_book}
+use Rattle.mh_core.specs.Books.{AreLedgers, BookState, IsMachine, Takes, opened_book, reply_to}
 use Rattle.mh_core.specs.Histories.{ArePlaced, event_of, joined, records}
-use Rattle.mh_core.specs.Hits.{hits, moved, unflushed, unflushed_hits}
-use Rattle.mh_core.specs.Legal.{HasRoom, MachineState, Setting, extended, record_tests}
+use Rattle.mh_core.specs.Hits.{IsHitLink, hits, moved, unflushed, unflushed_hits}
+use Rattle.mh_core.specs.Legal.{HasRoom, MachineState, Setting, answer, extended, record_tests, tests as event_tests}
 use Rattle.mh_core.specs.Limits.{LimitsData}
+use Rattle.mh_core.specs.Pending.{IsNoFlush}
 use Rattle.mh_core.specs.Records.{hits_in}
 use Rattle.mh_core.specs.Rows.{tests}
 use Rattle.mh_base.specs.Tests.{Passes, Refuses}
@@ -80,16 +81,6 @@ module _ (b : BookState) (calls : List AcceptedCall) (workers : ℕ) (ledgers : 
       let found = (ledger_read b workers h ledgers w l is.counted known read).0 in
       (ap (λ (x : LedgerState). x.unflushed) found ∙ is.counted.unflushed w known, ap (λ (x : LedgerState). x.limit) found ∙ is.counted.limit w known)
 
-  -- the room of a call is that of the one link that it hits
-  pub room_is : (w s : ℕ) (a : List Value) (k : ℕ) (l : LedgerState) → w < workers → l ≡ slice_index_or ledgers w l → k < length (links b.definition) → hits b.definition s a k ≡ true
-      → ((i : ℕ) → hits b.definition s a i ≡ true → i ≡ k) → HasRoom (setting_of b workers) h w s a ↔ (at l.unflushed k < l.limit)
-  room_is w s a k l known read inside hit alone =
-      let own = own_ledger w l known read in
-      let count : at l.unflushed k ≡ unflushed b.definition h w k = ap (λ (ns : List ℕ). at ns k) own.0 ∙ unflushed_at b.definition h w k inside in (
-        λ room. let few : unflushed b.definition h w k < b.limits.ledger = room k inside hit in omega (arith, few, count, own.1),
-        λ few j _ other. let few : unflushed b.definition h w k < b.limits.ledger = omega (arith, few, count, own.1) in subst (λ i. unflushed b.definition h w i < b.limits.ledger) (sym (alone j other)) few,
-      )
-
   -- with one record more
   pub view_grows : (new : BookState) (e : Record) → Takes b (length calls) e new → machine_of new calls workers ≡ extended (machine_of b calls workers) (event_of e)
   view_grows new e takes =
@@ -128,28 +119,22 @@ module _ (b : BookState) (calls : List AcceptedCall) (workers : ℕ) (ledgers : 
       (λ w j e. flush_of_others b.definition h v w j e))
 
   -- the tests of a flush are those of what its ledger has
-  pub passes_flush : (x : MachineState) (n w : ℕ) (l : LedgerState) → machine_of b calls workers ≡ x → n ≡ length calls → w < workers → l ≡ slice_index_or ledgers w l
-      → Passes (record_tests x.setting x.history (Flushed w (moved x.setting.definition x.history w))) → Passes (tests b.definition b.limits (length b.records + n) b.records (Flushed l.worker (hits_in l.unflushed)))
-  passes_flush x n w l view count known read p =
-      let e = Flushed w (moved b.definition h w) in
-      let here = subst (λ (y : MachineState). Passes (record_tests y.setting y.history (Flushed w (moved y.setting.definition y.history w)))) (sym view) p in
-      passes_same b (length calls) n e (Flushed l.worker (hits_in l.unflushed)) (sym count) (sym (flush_is w l known read)) (passes_here e here)
+  pub refuses_flush : (x : MachineState) (n w : ℕ) (l : LedgerState) (told : Refusal) → machine_of b calls workers ≡ x → n ≡ length calls → w < workers → l ≡ slice_index_or ledgers w l
+      → Refuses (tests b.definition b.limits (length b.records + n) b.records (Flushed l.worker (hits_in l.unflushed))) told → Refuses (event_tests x.setting x.history (Flush w)) told
+  refuses_flush x n w l told view count known read p =
+      subst (λ (y : MachineState). Refuses (event_tests y.setting y.history (Flush w)) told) view
+      (inr (known, refuses_there (Flushed w (moved b.definition h w)) told (refuses_same b n (length calls) (Flushed l.worker (hits_in l.unflushed)) (Flushed w (moved b.definition h w)) told count (flush_is w l known read) p)))
 
   -- the same beside what is seen of the machine, where this is the number of its calls
   module _ (x : MachineState) (n : ℕ) (view : machine_of b calls workers ≡ x) (count : n ≡ length calls) (e : Record) where
     pub passes_record : Passes (record_tests x.setting x.history e) → Passes (tests b.definition b.limits (length b.records + n) b.records e)
     passes_record p = passes_same b (length calls) n e e (sym count) refl (passes_here e (subst (λ (y : MachineState). Passes (record_tests y.setting y.history e)) (sym view) p))
 
-    -- what the book's test of the record tells
-    pub ok_asked : (r : Result (Unit {0}) Refusal) → OnOk r (Passes (tests b.definition b.limits (length b.records + n) b.records e)) → OnOk r (Passes (record_tests x.setting x.history e))
-    ok_asked r h =
-        on_ok_weaker r (λ (p : Passes (tests b.definition b.limits (length b.records + n) b.records e)).
-        subst (λ (y : MachineState). Passes (record_tests y.setting y.history e)) view (passes_there e (passes_same b n (length calls) e e count refl p))) h
+    pub passes_event : Passes (tests b.definition b.limits (length b.records + n) b.records e) → Passes (record_tests x.setting x.history e)
+    passes_event p = subst (λ (y : MachineState). Passes (record_tests y.setting y.history e)) view (passes_there e (passes_same b n (length calls) e e count refl p))
 
-    pub err_asked : (r : Result (Unit {0}) Refusal) → IfErr r (λ told. Refuses (tests b.definition b.limits (length b.records + n) b.records e) told) → IfErr r (λ told. Refuses (record_tests x.setting x.history e) told)
-    err_asked r h =
-        IfErr-weaker r (λ told. Refuses (tests b.definition b.limits (length b.records + n) b.records e) told) (λ told. Refuses (record_tests x.setting x.history e) told)
-        (λ told p. subst (λ (y : MachineState). Refuses (record_tests y.setting y.history e) told) view (refuses_there e told (refuses_same b n (length calls) e e told count refl p))) h
+    pub refuses_event : (told : Refusal) → Refuses (tests b.definition b.limits (length b.records + n) b.records e) told → Refuses (record_tests x.setting x.history e) told
+    refuses_event told p = subst (λ (y : MachineState). Refuses (record_tests y.setting y.history e) told) view (refuses_there e told (refuses_same b n (length calls) e e told count refl p))
 
     pub view_takes : (new : BookState) → Takes b n e new → machine_of new calls workers ≡ extended x (event_of e)
     view_takes new takes = view_grows new e (takes_same b new n (length calls) e e count refl takes) ∙ ap (λ (y : MachineState). extended y (event_of e)) view
@@ -190,8 +175,39 @@ machine_opened d l b calls workers ledgers is none opened held =
           (opened ∙ ap (λ (x : BookState). map (opened_ledger (length (links x.definition)) x.limits.ledger) (range_with_len 0 workers)) (sym is)));
     }
 
--- a test that the number is below a limit, for what is so just where it is
-pub full_by : (r : Bool) (P : Type 0) (n limit : ℕ) → (r ≡ true → limit ≤ n) → (r ≡ false → n < limit) → P ↔ (n < limit)
-    → (((r ≡ true → P → ⊥) × ((P → ⊥) → r ≡ true)) × ((r ≡ false → P) × (P → r ≡ false)))
-full_by true P n limit full few is = ((λ e p. let below = is.0 p in let past = full refl in omega arith, λ _. refl), (λ e. cc, λ p. let below = is.0 p in let past = full refl in absurd (omega arith)))
-full_by false P n limit full few is = ((λ e. cc, λ no. absurd (no (is.1 (few refl)))), (λ _. is.1 (few refl), λ _. refl))
+-- a record that is no flush is the one of its event, which leaves what was counted
+pub record IsOwn (x : Setting) (h : List Event) (e : Record) : Type 0 where
+  pub passes : Passes (record_tests x h e) → Passes (event_tests x h (event_of e))
+  pub refuses : (told : Refusal) → Refuses (record_tests x h e) told → Refuses (event_tests x h (event_of e)) told
+  pub answer : answer x h (event_of e) ≡ reply_to x.definition (records x.definition h) e
+  pub records : e ∷ records x.definition h ≡ records x.definition (event_of e ∷ h)
+  pub unflushed : (w j : ℕ) → unflushed x.definition (event_of e ∷ h) w j ≡ unflushed x.definition h w j
+
+pub own_event : (x : Setting) (h : List Event) (e : Record) → IsNoFlush e → IsOwn x h e
+own_event x h (Flushed w hits) other = absurd other
+own_event x h (Targeted s tree) other = record { passes = λ p. p; refuses = λ told p. p; answer = refl; records = refl; unflushed = λ w j. refl }
+own_event x h (Invalidated points) other = record { passes = λ p. p; refuses = λ told p. p; answer = refl; records = refl; unflushed = λ w j. refl }
+own_event x h Snapped other = record { passes = λ p. p; refuses = λ told p. p; answer = refl; records = refl; unflushed = λ w j. refl }
+own_event x h (Published n plan) other = record { passes = λ p. p; refuses = λ told p. p; answer = refl; records = refl; unflushed = λ w j. refl }
+own_event x h (Installed m) other = record { passes = λ p. p; refuses = λ told p. p; answer = refl; records = refl; unflushed = λ w j. refl }
+
+-- a book that is not full leaves room in the history
+pub room_left : (b : BookState) (calls : List AcceptedCall) (workers n : ℕ) (x : MachineState) → machine_of b calls workers ≡ x → n ≡ length calls → length b.records + n < b.limits.history → length x.history < x.setting.limits.history
+room_left b calls workers n x view count few =
+    omega (arith, few, count, joined_length calls b.records, ap (λ (y : MachineState). y.setting.limits.history) view, ap (λ (y : MachineState). length y.history) view)
+
+-- the room of a call is that of the one link that it hits
+pub room_is : (x : Setting) (h : List Event) (w s : ℕ) (a : List Value) (k : ℕ) → IsHitLink x.definition s a (Some k) → HasRoom x h w s a ↔ (unflushed x.definition h w k < x.limits.ledger)
+room_is x h w s a k hit = (
+  λ room. room k hit.0 hit.1.0,
+  λ few j _ other. subst (λ i. unflushed x.definition h w i < x.limits.ledger) (sym (hit.1.1 j other)) few,
+)
+
+-- a call that hits no link has room
+pub room_free : (x : Setting) (h : List Event) (w s : ℕ) (a : List Value) → IsHitLink x.definition s a None → HasRoom x h w s a
+room_free x h w s a none j _ hit = let no : hits x.definition s a j ≡ false = none j in cc
+
+-- the link that a call hits is one of so many
+pub link_inside : (d : DefinitionData) (s : ℕ) (a : List Value) (link : Option ℕ) (n : ℕ) → IsHitLink d s a link → n ≡ length (links d) → IfSome link (λ j. j < n)
+link_inside d s a (Some j) n hit count = omega (arith, hit.0, count)
+link_inside d s a None n hit count = tt

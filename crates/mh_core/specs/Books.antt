@@ -1,5 +1,5 @@
 -- What contracts see of a book, and what books and machines keep.
-use Rattle.std.specs.Prelude.{◌≡◌, ℕ, ◌+◌, ◌<◌, ◌≤◌, List, [], ◌∷◌, length}
+use Rattle.std.specs.Prelude.{◌≡◌, ℕ, ◌+◌, ◌<◌, ◌≤◌, Bool, false, List, [], ◌∷◌, length}
 use Rattle.mh_ledger.specs.Ledgers.{LedgerState, TotalsState, AreHeld, at, ledger_at, opened_totals}
 use Rattle.mh_site.specs.Defined.{DefinitionData}
 use Rattle.mh_site.specs.Lawful.{IsDefinition}
@@ -8,20 +8,23 @@ use Rattle.mh_site.specs.Worlds.{WorldState, opened}
 use Rattle.mh_core.specs.declared.call.AcceptedCall.{AcceptedCall}
 use Rattle.mh_core.specs.declared.event.Event.{Event}
 use Rattle.mh_core.specs.declared.record.Record.{Record}
+use Rattle.mh_core.specs.declared.record.Record.TheVariants.{Flushed, Targeted, Invalidated, Snapped, Published, Installed}
 use Rattle.mh_core.specs.declared.refusal.Refusal.{Refusal}
+use Rattle.mh_core.specs.declared.reply.Reply.{Reply}
+use Rattle.mh_core.specs.declared.reply.Reply.TheVariants as reply
 use Rattle.mh_core.specs.Histories.{records, ArePlaced}
 use Rattle.mh_core.specs.Hits.{unflushed_hits}
 use Rattle.mh_core.specs.Limits.{LimitsData, IsLimits}
-use Rattle.mh_core.specs.Installations.{PublishedPlan}
+use Rattle.mh_core.specs.Installations.{PublishedPlan, report}
 use Rattle.mh_core.specs.PlanTables.{plans_of}
-use Rattle.mh_core.specs.Records.{total}
+use Rattle.mh_core.specs.Records.{plans, snapshots, total}
 use Rattle.mh_core.specs.Replayed.{world}
 use Rattle.mh_core.specs.Rows.{tests}
 use Rattle.mh_core.specs.Snapshots.{SnapshotState, snapshots_of}
 use Rattle.mh_base.specs.Tests.{Passes, Refuses}
 
 -- its records, newest first, with what was made of them: the world, the totals, the snapshots and the plans, newest first;
--- and for how many more records there is memory
+-- and whether there is memory for one more of each
 pub record BookState : Type 0 where
   pub definition : DefinitionData
   pub limits : LimitsData
@@ -30,17 +33,17 @@ pub record BookState : Type 0 where
   pub totals : TotalsState
   pub snapshots : List SnapshotState
   pub plans : List PublishedPlan
-  pub room : ℕ
+  pub room : Bool
 
 -- a book without records
 abbrev pub opened_book : DefinitionData → ℕ → LimitsData → BookState
 opened_book d workers l =
-    record { definition = d; limits = l; records = []; world = opened d; totals = opened_totals (length (links d)) workers l.total; snapshots = []; plans = []; room = 0 }
+    record { definition = d; limits = l; records = []; world = opened d; totals = opened_totals (length (links d)) workers l.total; snapshots = []; plans = []; room = false }
 
--- each record passed its tests, where so many events had been accepted
+-- each record passed its tests, where as many events had been accepted as there were records, or more
 abbrev pub Legal : DefinitionData → LimitsData → List Record → Type 0
 Legal d l [] = Unit {0}
-Legal d l (e ∷ r) = ((accepted : ℕ) × Passes (tests d l accepted r e)) × Legal d l r
+Legal d l (e ∷ r) = ((accepted : ℕ) × ((length r ≤ accepted) × Passes (tests d l accepted r e))) × Legal d l r
 
 -- the totals are the sums that the records tell
 pub record AreTotals (d : DefinitionData) (l : LimitsData) (r : List Record) (t : TotalsState) : Type 0 where
@@ -59,16 +62,33 @@ pub record IsBook (b : BookState) : Type 0 where
   pub snapshots : b.snapshots ≡ snapshots_of b.definition b.records
   pub plans : b.plans ≡ plans_of b.records
 
+-- a record passes its tests, where so many calls were accepted beside the records
+abbrev pub MayTake : BookState → ℕ → Record → Type 0
+MayTake b calls e = Passes (tests b.definition b.limits (length b.records + calls) b.records e)
+
+-- the first failing test of a record tells this, or want of memory is told where none fails
+abbrev pub MayRefuse : BookState → ℕ → Record → Refusal → Type 0
+MayRefuse b calls e told = Refuses (tests b.definition b.limits (length b.records + calls) b.records e) told
+
+-- what a record is answered with, behind others
+abbrev pub reply_to : DefinitionData → List Record → Record → Reply
+reply_to d r (Flushed w hits) = reply.Done
+reply_to d r (Targeted s tree) = reply.Done
+reply_to d r (Invalidated points) = reply.Done
+reply_to d r Snapped = reply.Taken (snapshots r + 1)
+reply_to d r (Published n plan) = reply.Published (plans r + 1) plan
+reply_to d r (Installed m) = reply.Installed (report d r m)
+
 -- exactly this record is appended, which passes its tests, where so many calls were accepted beside the records
 pub record Takes (b : BookState) (calls : ℕ) (e : Record) (new : BookState) : Type 0 where
-  pub passes : Passes (tests b.definition b.limits (length b.records + calls) b.records e)
+  pub passes : MayTake b calls e
   pub records : new.records ≡ e ∷ b.records
   pub definition : new.definition ≡ b.definition
   pub limits : new.limits ≡ b.limits
 
 -- the first failing test is told, or want of memory where none fails, and nothing changes
 pub record Rejects (b : BookState) (calls : ℕ) (e : Record) (told : Refusal) (new : BookState) : Type 0 where
-  pub refuses : Refuses (tests b.definition b.limits (length b.records + calls) b.records e) told
+  pub refuses : MayRefuse b calls e told
   pub same : new ≡ b
 
 -- each worker's ledger has the hits of its calls since its last flush, and the totals hold it

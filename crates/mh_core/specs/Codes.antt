@@ -1,6 +1,6 @@
 -- Codes of what contracts see, by which a proof tells values apart.
-use Rattle.std.specs.Prelude.{ℕ, List, refl}
-use Rattle.std.specs.Coded.{Coded, code_by, coded×, coded_ℕ, coded_list}
+use Rattle.std.specs.Prelude.{ℕ, Bool, List, refl}
+use Rattle.std.specs.Coded.{Coded, code_by, coded×, coded_ℕ, coded_bool, coded_list}
 use Rattle.mh_site.specs.Defined.{DefinitionData, coded_definition}
 use Rattle.mh_site.specs.Worlds.{WorldState, coded_world}
 use Rattle.mh_ledger.specs.Codes.{coded_totals}
@@ -21,8 +21,8 @@ coded_limits = code_by (ℕ × (ℕ × ℕ)) (coded× coded_ℕ (coded× coded_�
 
 abbrev pub coded_book : Coded BookState
 coded_book =
-    code_by ((DefinitionData × LimitsData) × ((List Record × WorldState) × ((TotalsState × ℕ) × (List SnapshotState × List PublishedPlan))))
-    (coded× (coded× coded_definition coded_limits) (coded× (coded× (coded_list entry.the_row.coded) coded_world) (coded× (coded× coded_totals coded_ℕ) (coded× (coded_list coded_snapshot) (coded_list coded_published)))))
+    code_by ((DefinitionData × LimitsData) × ((List Record × WorldState) × ((TotalsState × Bool) × (List SnapshotState × List PublishedPlan))))
+    (coded× (coded× coded_definition coded_limits) (coded× (coded× (coded_list entry.the_row.coded) coded_world) (coded× (coded× coded_totals coded_bool) (coded× (coded_list coded_snapshot) (coded_list coded_published)))))
     (λ b. ((b.definition, b.limits), ((b.records, b.world), ((b.totals, b.room), (b.snapshots, b.plans)))))
     (λ p. record { definition = p.0.0; limits = p.0.1; records = p.1.0.0; world = p.1.0.1; totals = p.1.1.0.0; snapshots = p.1.1.1.0; plans = p.1.1.1.1; room = p.1.1.0.1 }) (λ _. refl)
 

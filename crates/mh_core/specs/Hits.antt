@@ -1,5 +1,5 @@
 -- Which links a call hits, and what a worker's calls add up to: the counters of the cases of an inline cache (Hölzle, Chambers, Ungar 1991).
-use Rattle.std.specs.Prelude.{ℕ, ◌+◌, ◌==◌, Bool, false, ◌&&◌, ◌||◌, Option, Some, None, List, [], ◌∷◌, map, length, slice_index_or, if◌then◌else◌}
+use Rattle.std.specs.Prelude.{◌≡◌, ℕ, ◌+◌, ◌<◌, ◌==◌, Bool, true, false, ◌&&◌, ◌||◌, Option, Some, None, List, [], ◌∷◌, map, length, slice_index_or, if◌then◌else◌}
 use Rattle.mh_type.specs.declared.value.Value.{Value}
 use Rattle.mh_type.specs.declared.value.Value.TheVariants.{Boolean}
 use Rattle.mh_site.specs.Defined.{DefinitionData, site_at}
@@ -17,6 +17,11 @@ argument_at None a = Boolean false
 -- a call of the site hits its link whose key is the argument at the key place
 abbrev pub hits : DefinitionData → ℕ → List Value → ℕ → Bool
 hits d s a j = (site_of d j == s) && same_value (link_at d j).1.when (argument_at (site_at d s).key a)
+
+-- the link that a call hits, or none: the one of its site whose key is the argument at the key place
+abbrev pub IsHitLink : DefinitionData → ℕ → List Value → Option ℕ → Type 0
+IsHitLink d s a (Some j) = (j < length (links d)) × ((hits d s a j ≡ true) × ((i : ℕ) → hits d s a i ≡ true → i ≡ j))
+IsHitLink d s a None = (i : ℕ) → hits d s a i ≡ false
 
 -- the hits of a link by a worker's calls since its last flush
 abbrev pub unflushed : DefinitionData → List Event → ℕ → ℕ → ℕ

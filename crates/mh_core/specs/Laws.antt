@@ -1,5 +1,6 @@
 -- Laws of the definitions, for the proofs of crates above. Each is proved: nothing here is to be believed.
 pub mod Caches
+pub mod Changes
 pub mod LawfulLinks
 pub mod Numbered
 pub mod PastSnapshots
@@ -7,6 +8,7 @@ pub mod PlanTables
 pub mod ProblemRows
 pub mod StandingTrees
 pub mod Worlds
+pub use Rattle.mh_core.specs.Laws.Changes.{change_of}
 pub use Rattle.mh_core.specs.Laws.LawfulLinks.{few_links}
 pub use Rattle.mh_core.specs.Laws.PastSnapshots.{snapshots_count}
 pub use Rattle.mh_core.specs.Laws.PlanTables.{plans_count}

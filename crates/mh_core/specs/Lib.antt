@@ -11,6 +11,7 @@ pub mod Rows
 pub mod Hits
 pub mod Histories
 pub mod Legal
+pub mod Steps
 pub mod Snapshots
 pub mod Books
 pub mod Pending

@@ -16,6 +16,7 @@ use crate::plan::{PublishedPlan, SharedPlan};
 use crate::problem::make_problem;
 use crate::record::Record;
 use crate::refusal::Refusal;
+use crate::reply::Reply;
 use crate::snapshot::Snapshot;
 use mh_base::NoMemory;
 use mh_ledger::{Ledger, Totals};
@@ -105,6 +106,13 @@ impl Book {
             plans: Vec::new(alloc),
         };
         Ok((book, ledgers))
+    }
+
+    /// What every book keeps. It runs no code: a caller calls it for what it says.
+    pub fn kept(&self)
+        ensures book { IsBook self.now }
+    {
+        let _records = &self.records;
     }
 
     /// What is declared.
@@ -201,8 +209,7 @@ impl Book {
             told self.new) }
         ensures kept { OnErr result (ledger.new ≡ ledger.old) }
     {
-        self.test_flush(0, ledger)?;
-        self.append_flush(0, ledger).map_err(|_| Refusal::NoMemory)
+        self.flush_after(0, ledger)
     }
 
     /// Gives a site another tree (`MutableCallSite.setTarget`).
@@ -216,9 +223,8 @@ impl Book {
         ensures refused { IfErr result
             (λ told. Rejects self.old 0 (Targeted site tree) told self.new) }
     {
-        self.test_target(0, site, &tree)?;
-        self.append_target(0, site, tree)
-            .map_err(|_| Refusal::NoMemory)
+        let _done = self.accept(0, Record::Targeted { site, tree })?;
+        Ok(())
     }
 
     /// Invalidates points (`SwitchPoint.invalidateAll`); they may be none, and may be invalid
@@ -232,8 +238,8 @@ impl Book {
         ensures refused { IfErr result
             (λ told. Rejects self.old 0 (Invalidated points) told self.new) }
     {
-        self.test_points(0, &points)?;
-        self.append_points(0, points).map_err(|_| Refusal::NoMemory)
+        let _done = self.accept(0, Record::Invalidated { points })?;
+        Ok(())
     }
 
     /// Takes a snapshot of the totals, of which points are valid and of how often each site was
@@ -248,8 +254,9 @@ impl Book {
         ensures totals { self.new.totals ≡ self.old.totals }
         ensures refused { IfErr result (λ told. Rejects self.old 0 Snapped told self.new) }
     {
-        self.test_snapshot(0)?;
-        self.append_snapshot(0).map_err(|_| Refusal::NoMemory)
+        self.kept();
+        let _taken = self.accept(0, Record::Snapped)?;
+        Ok(self.snapshots.len())
     }
 
     /// Publishes a plan for the problem of a snapshot, and gives the plan's number, from 1.
@@ -265,10 +272,11 @@ impl Book {
         ensures refused { IfErr result
             (λ told. Rejects self.old 0 (Published snapshot plan) told self.new) }
     {
-        self.test_publish(0, snapshot, &plan)?;
-        self.append_publish(0, snapshot, plan)
-            .map_err(|_| Refusal::NoMemory)
+        self.kept();
+        let _published = self.accept(0, Record::Published { snapshot, plan })?;
+        Ok(self.plans.len())
     }
+
     /// Installs the newest plan (Hölzle, Chambers and Ungar, Optimizing Dynamically-Typed
     /// Object-Oriented Languages With Polymorphic Inline Caches, 1991), and reports what became of
     /// each site that has a link in the plan or holds links now. A site that was retargeted since
@@ -285,7 +293,9 @@ impl Book {
         ensures totals { self.new.totals ≡ self.old.totals }
         ensures refused { IfErr result (λ told. Rejects self.old 0 (Installed plan) told self.new) }
     {
-        self.test_install(0, plan)?;
-        self.append_install(0, plan).map_err(|_| Refusal::NoMemory)
+        match self.accept(0, Record::Installed { plan })? {
+            Reply::Installed(report) => Ok(report),
+            _ => unreachable!(),
+        }
     }
 }

@@ -58,6 +58,5 @@ pub fn published_plans_are_best(book: &Book)
         → book.now.records ≡ newer ++ Published n plan ∷ older
         → IsBest (problem_at book.now.definition older n) (member plan.links) }
 {
-    // Read for what a book keeps.
-    let _records = book.records();
+    book.kept();
 }

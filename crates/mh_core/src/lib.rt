@@ -15,17 +15,16 @@
 //! ```
 #![tactic(auto)]
 
-mod accepting;
-mod appending;
 mod arguments;
-mod asking;
 mod book;
+mod caches;
 mod call;
 mod call_history;
 mod event;
+mod flush;
 mod hits;
 mod install_report;
-mod installing;
+mod installation;
 mod laws;
 mod limits;
 mod machine;

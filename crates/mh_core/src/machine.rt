@@ -1,20 +1,27 @@
 //! Machines: a book with the calls of its workers and their ledgers, and the history of all.
 
-ghost use Rattle.std.specs.Prelude.{◌≡◌, ◌+◌, length, IfOk, OnErr};
+ghost use Rattle.std.specs.Prelude.{◌≡◌, ◌+◌, length, IfErr, IfOk, OnErr};
 ghost use Rattle.mh_core.specs.declared.reply.Reply.TheVariants.{Refused};
-ghost use Rattle.mh_core.specs.Histories.{records};
+ghost use Rattle.mh_core.specs.Steps.{IsAccepted, IsNoCall, IsRefused, call_reply, reply_of};
+ghost use Rattle.mh_core.specs.declared.event.Event.TheVariants.{Flush};
+ghost use Rattle.mh_core.specs.Histories.{event_of, records};
 ghost use Rattle.mh_core.specs.Legal.{MachineState, Step, Run, TakesNoMemory, opened_machine};
+ghost use Rattle.mh_core.specs.Pending.{IsNoFlush};
+
+mod call;
 
 use crate::book::Book;
 use crate::call_history::CallHistory;
 use crate::event::Event;
 use crate::limits::Limits;
+use crate::record::Record;
 use crate::refusal::Refusal;
 use crate::reply::Reply;
 use mh_base::NoMemory;
 use mh_eval::Stack;
 use mh_ledger::Ledger;
 use mh_site::Definition;
+use mh_type::Outcome;
 use std::alloc::Global;
 use std::fmt;
 use std::marker::Model;
@@ -122,13 +129,60 @@ impl Machine {
         ensures memory { TakesNoMemory self.old.setting self.old.history event
             → result ≡ Refused Refusal.NoMemory → ⊥ }
     {
-        if let Err(told) = self.test(&event) {
-            return Reply::Refused(told);
+        match event {
+            Event::Call {
+                worker,
+                site,
+                arguments,
+            } => called(self.call(worker, site, arguments)),
+            other => replied(self.change(other)),
         }
-        match self.accept(event) {
-            Ok(reply) => reply,
-            Err(_) => Reply::Refused(Refusal::NoMemory),
+    }
+
+    // Answers an event that is no call. Apart from `step`, which keeps no room for its results.
+    #[inline(never)]
+    fn change(&mut self, event: Event) -> Result<Reply, Refusal>
+        requires other { IsNoCall event }
+        ensures accepted { IfOk result (λ reply. IsAccepted self.old event reply self.new) }
+        ensures refused { IfErr result (λ told. IsRefused self.old event told self.new) }
+    {
+        match event {
+            Event::Call { .. } => unreachable!(),
+            Event::Flush { worker } => self.flush(worker),
+            Event::Target { site, tree } => self.take(Record::Targeted { site, tree }),
+            Event::Invalidate { points } => self.take(Record::Invalidated { points }),
+            Event::Snapshot => self.take(Record::Snapped),
+            Event::Publish { snapshot, plan } => self.take(Record::Published { snapshot, plan }),
+            Event::Install { plan } => self.take(Record::Installed { plan }),
         }
+    }
+
+    // Adds a worker's hits to the totals.
+    fn flush(&mut self, worker: u32) -> Result<Reply, Refusal>
+        ensures accepted { IfOk result (λ reply. IsAccepted self.old (Flush worker) reply
+            self.new) }
+        ensures refused { IfErr result (λ told. IsRefused self.old (Flush worker) told self.new) }
+    {
+        if worker >= self.workers {
+            return Err(Refusal::NoWorker);
+        }
+        let calls = self.calls.len();
+        let ledger = &mut self.ledgers[worker as usize];
+        self.book.flush_after(calls, ledger)?;
+        Ok(Reply::Done)
+    }
+
+    // Has the book take a record behind the accepted calls.
+    fn take(&mut self, entry: Record) -> Result<Reply, Refusal>
+        requires other { IsNoFlush entry }
+        ensures accepted { IfOk result (λ reply. IsAccepted self.old (event_of entry) reply
+            self.new) }
+        ensures refused { IfErr result (λ told. IsRefused self.old (event_of entry) told
+            self.new) }
+    {
+        let calls = self.calls.len();
+        let reply = self.book.accept(calls, entry)?;
+        Ok(reply)
     }
 
     /// Answers the events in order. Where there is no memory for the replies, that is told before
@@ -145,5 +199,26 @@ impl Machine {
             replies.push_reserved(reply);
         }
         Ok(replies)
+    }
+}
+
+// The reply to a call.
+#[inline(always)]
+fn called(answer: Result<(Outcome, u64), Refusal>) -> Reply
+    ensures value { result ≡ call_reply answer }
+{
+    match answer {
+        Ok((outcome, steps)) => Reply::Called { outcome, steps },
+        Err(refusal) => Reply::Refused(refusal),
+    }
+}
+
+// The reply to any other event.
+fn replied(answer: Result<Reply, Refusal>) -> Reply
+    ensures value { result ≡ reply_of answer }
+{
+    match answer {
+        Ok(reply) => reply,
+        Err(refusal) => Reply::Refused(refusal),
     }
 }

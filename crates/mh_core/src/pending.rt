@@ -1,29 +1,30 @@
-//! Changes of the world that a book makes ready first and takes in later, so that nothing can fail
-//! between.
+//! Changes that a book makes ready first and takes in later, so that nothing can fail between.
 
-ghost use Rattle.std.specs.Prelude.{◌≡◌, ◌+◌, length, OnErr, IfOk, IfErr};
-ghost use Rattle.mh_core.specs.declared.record.Record.TheVariants.{Targeted, Invalidated, Installed};
-ghost use Rattle.mh_core.specs.Books.{Takes, Rejects};
-ghost use Rattle.mh_core.specs.Installations.{report};
-ghost use Rattle.mh_core.specs.Pending.{IsReady, SameBook};
-ghost use Rattle.mh_core.specs.Rows.{tests};
-ghost use Rattle.mh_base.specs.Tests.{Passes};
+ghost use Rattle.std.specs.Prelude.{◌≡◌, ℕ, true, Some, OnErr, OnOk, IfOk, IfErr};
+ghost use Rattle.mh_core.specs.Books.{MayTake, Rejects, Takes, reply_to};
+ghost use Rattle.mh_core.specs.Pending.{HasEffect, IsNoFlush, IsReady, SameBook, control_of};
+ghost use Rattle.mh_core.specs.declared.pending.Effect.TheVariants.{World};
+ghost use Rattle.mh_core.specs.declared.record.Record.TheVariants.{Snapped, Published};
+ghost use Rattle.mh_core.specs.declared.reply.Reply.TheVariants.{Done};
+ghost use Rattle.mh_site.specs.declared.control.Control.TheVariants.{Target, Invalidate};
 
 use crate::book::Book;
-use crate::install_report::InstallReport;
+use crate::plan::{PublishedPlan, SharedPlan};
 use crate::record::Record;
 use crate::refusal::Refusal;
+use crate::reply::Reply;
+use crate::snapshot::Snapshot;
 use mh_base::NoMemory;
-use mh_site::{Control, Installation, Listing, Retargeting};
+use mh_site::{Control, Listing, Retargeting};
 use mh_tree::Declared;
 use std::marker::Model;
 
-/// A retargeting, an invalidation or an installation that passed its tests, with all the memory
-/// that its book takes to commit it.
+/// A change that passed its tests, with all the memory that its book takes to commit it.
 #[derive(Debug, Drop)]
 pub struct PendingChange {
     entry: Record,
-    control: Control,
+    effect: Effect,
+    reply: Reply,
     calls: usize,
 }
 
@@ -34,161 +35,195 @@ impl Model for PendingChange {
 
     ghost coded = { coded_pending };
 
-    ghost view = { λ p. record { entry = p.entry; control = p.control; calls = p.calls } };
+    ghost view = { λ p. record {
+      entry = p.entry;
+      effect = p.effect;
+      reply = p.reply;
+      calls = p.calls;
+    } };
+}
+
+/// What a record changes beside the records.
+#[derive(Debug, Drop)]
+pub(crate) enum Effect {
+    /// The world.
+    World(Control),
+    /// The snapshots: one more.
+    Snapshot(Snapshot),
+    /// The published plans: one more.
+    Plan(PublishedPlan),
 }
 
 impl PendingChange {
-    /// What it changes, for a further world: another owner of each tree. Refused where a growth was
-    /// refused, or a further owner.
-    pub fn control(&self) -> Result<Control, NoMemory>
-        ensures value { IfOk result (λ c. c ≡ self.now.control) }
+    /// What it changes in a world, for a further world: another owner of each tree. None where it
+    /// changes no world. Fails only if an allocation or a reference count is refused.
+    pub fn control(&self) -> Result<Option<Control>, NoMemory>
+        ensures value { IfOk result (λ c. c ≡ control_of self.now.effect) }
     {
-        self.control.share().map_err(|_| NoMemory)
+        match &self.effect {
+            Effect::World(control) => share_control(control),
+            Effect::Snapshot(_) => Ok(None),
+            Effect::Plan(_) => Ok(None),
+        }
     }
 }
 
 impl Book {
-    /// Makes a retargeting ready: all its tests and growths. What `target` does is this and then
-    /// `commit`.
+    /// Makes a change ready: all its tests, where so many calls were accepted beside the records,
+    /// and then all its growths. A flush is no such change, since it moves the hits of a ledger.
     ///
-    /// Refused as `target` is, and then nothing changes.
-    pub fn prepare_target(&mut self, site: usize, tree: Declared) -> Result<PendingChange, Refusal>
-        ensures ready { IfOk result (λ p. (p.entry ≡ Targeted site tree) × (p.calls ≡ 0)
+    /// Refused as the change is (`target`, `invalidate`, `snapshot`, `publish`, `install`), and
+    /// then nothing changes.
+    pub fn prepare(&mut self, calls: usize, entry: Record) -> Result<PendingChange, Refusal>
+        requires other { IsNoFlush entry }
+        ensures ready { IfOk result (λ p. (p.entry ≡ entry) × (p.calls ≡ calls)
             × IsReady self.new p) }
         ensures same { SameBook self.old self.new }
-        ensures refused { IfErr result
-            (λ told. Rejects self.old 0 (Targeted site tree) told self.new) }
+        ensures refused { IfErr result (λ told. Rejects self.old calls entry told self.new) }
     {
-        self.test_target(0, site, &tree)?;
-        self.ready_target(0, site, tree)
-            .map_err(|_| Refusal::NoMemory)
+        self.test(calls, &entry)?;
+        self.ready(calls, entry).map_err(|_| Refusal::NoMemory)
     }
 
-    /// Makes an invalidation ready: all its tests and growths. What `invalidate` does is this and
-    /// then `commit`.
-    ///
-    /// Refused as `invalidate` is, and then nothing changes.
-    pub fn prepare_invalidation(&mut self, points: Listing<u32>) -> Result<PendingChange, Refusal>
-        ensures ready { IfOk result (λ p. (p.entry ≡ Invalidated points) × (p.calls ≡ 0)
-            × IsReady self.new p) }
-        ensures same { SameBook self.old self.new }
-        ensures refused { IfErr result
-            (λ told. Rejects self.old 0 (Invalidated points) told self.new) }
-    {
-        self.test_points(0, &points)?;
-        self.ready_points(0, points).map_err(|_| Refusal::NoMemory)
-    }
-
-    /// Makes an installation ready: all its tests and growths, and its report. What `install` does
-    /// is this and then `commit`.
-    ///
-    /// Refused as `install` is, and then nothing changes.
-    pub fn prepare_installation(
-        &mut self,
-        plan: usize,
-    ) -> Result<(PendingChange, InstallReport), Refusal>
-        ensures ready { IfOk result (λ p. (p.0.entry ≡ Installed plan) × (p.0.calls ≡ 0)
-            × IsReady self.new p.0) }
-        ensures report { IfOk result (λ p. p.1 ≡ report self.old.definition self.old.records plan) }
-        ensures same { SameBook self.old self.new }
-        ensures refused { IfErr result (λ told. Rejects self.old 0 (Installed plan) told self.new) }
-    {
-        self.test_install(0, plan)?;
-        self.ready_install(0, plan).map_err(|_| Refusal::NoMemory)
-    }
-
-    /// Takes in a change that was made ready, while the book is as it was left then. It takes no
-    /// memory, and is not refused.
-    pub fn commit(&mut self, change: PendingChange)
+    /// Takes in a change that was made ready, while the book is as it was left then, and answers
+    /// it. It takes no memory, and is not refused.
+    pub fn commit(&mut self, change: PendingChange) -> Reply
         requires ready { IsReady self.old change }
         ensures taken { Takes self.old change.calls change.entry self.new }
+        ensures reply { result ≡ reply_to self.old.definition self.old.records change.entry }
         ensures totals { self.new.totals ≡ self.old.totals }
     {
         let PendingChange {
             entry,
-            control,
+            effect,
+            reply,
             calls: _,
         } = change;
         self.records.push_reserved(entry);
-        self.world.absorb(control);
+        match effect {
+            Effect::World(control) => self.world.absorb(control),
+            Effect::Snapshot(snapshot) => self.snapshots.push_reserved(snapshot),
+            Effect::Plan(plan) => self.plans.push_reserved(plan),
+        }
+        reply
     }
 
-    pub(crate) fn ready_target(
-        &mut self,
-        calls: usize,
-        site: usize,
-        tree: Declared,
-    ) -> Result<PendingChange, NoMemory>
-        requires passes { Passes (tests self.old.definition self.old.limits
-            (length self.old.records + calls) self.old.records (Targeted site tree)) }
-        ensures ready { IfOk result (λ p. (p.entry ≡ Targeted site tree) × (p.calls ≡ calls)
+    /// Makes a change ready and takes it in, and answers it.
+    ///
+    /// Refused as `prepare` is, and then nothing changes.
+    pub fn accept(&mut self, calls: usize, entry: Record) -> Result<Reply, Refusal>
+        requires other { IsNoFlush entry }
+        ensures taken { OnOk result (Takes self.old calls entry self.new) }
+        ensures reply { IfOk result (λ reply. reply
+            ≡ reply_to self.old.definition self.old.records entry) }
+        ensures totals { self.new.totals ≡ self.old.totals }
+        ensures refused { IfErr result (λ told. Rejects self.old calls entry told self.new) }
+    {
+        let change = self.prepare(calls, entry)?;
+        Ok(self.commit(change))
+    }
+
+    // All growths of a change that passes its tests. The last one is that of the records.
+    fn ready(&mut self, calls: usize, entry: Record) -> Result<PendingChange, NoMemory>
+        requires other { IsNoFlush entry }
+        requires passes { MayTake self.old calls entry }
+        ensures ready { IfOk result (λ p. (p.entry ≡ entry) × (p.calls ≡ calls)
             × IsReady self.new p) }
         ensures same { SameBook self.old self.new }
         ensures refused { OnErr result (self.new ≡ self.old) }
     {
-        let base = share(&tree)?;
-        let control = Control::Target(Retargeting::new(site, base)?);
-        self.records.reserve(1)?;
-        let entry = Record::Targeted { site, tree };
+        let (effect, reply) = self.effect(&entry)?;
+        self.reserve()?;
         Ok(PendingChange {
             entry,
-            control,
+            effect,
+            reply,
             calls,
         })
     }
 
-    pub(crate) fn ready_points(
-        &mut self,
-        calls: usize,
-        points: Listing<u32>,
-    ) -> Result<PendingChange, NoMemory>
-        requires passes { Passes (tests self.old.definition self.old.limits
-            (length self.old.records + calls) self.old.records (Invalidated points)) }
-        ensures ready { IfOk result (λ p. (p.entry ≡ Invalidated points) × (p.calls ≡ calls)
-            × IsReady self.new p) }
+    // Room for one more of each: records, snapshots and plans.
+    fn reserve(&mut self) -> Result<(), NoMemory>
+        ensures room { OnOk result (self.new.room ≡ true) }
         ensures same { SameBook self.old self.new }
         ensures refused { OnErr result (self.new ≡ self.old) }
     {
-        let recorded = points.copy()?;
+        self.snapshots.reserve(1)?;
+        self.plans.reserve(1)?;
         self.records.reserve(1)?;
-        let entry = Record::Invalidated { points: recorded };
-        let control = Control::Invalidate(points);
-        Ok(PendingChange {
-            entry,
-            control,
-            calls,
-        })
+        Ok(())
     }
 
-    pub(crate) fn ready_install(
-        &mut self,
-        calls: usize,
-        plan: usize,
-    ) -> Result<(PendingChange, InstallReport), NoMemory>
-        requires passes { Passes (tests self.old.definition self.old.limits
-            (length self.old.records + calls) self.old.records (Installed plan)) }
-        ensures ready { IfOk result (λ p. (p.0.entry ≡ Installed plan) × (p.0.calls ≡ calls)
-            × IsReady self.new p.0) }
-        ensures report { IfOk result (λ p. p.1 ≡ report self.old.definition self.old.records plan) }
-        ensures same { SameBook self.old self.new }
-        ensures refused { OnErr result (self.new ≡ self.old) }
+    // What a change that passes its tests changes beside the records, and its answer.
+    fn effect(&self, entry: &Record) -> Result<(Effect, Reply), NoMemory>
+        requires other { IsNoFlush entry.now }
+        requires passes { (calls : ℕ) × MayTake self.now calls entry.now }
+        ensures effect { IfOk result (λ p. HasEffect self.now entry.now p.0) }
+        ensures reply { IfOk result (λ p. p.1
+            ≡ reply_to self.now.definition self.now.records entry.now) }
     {
-        let report = self.report(plan)?;
-        let control = Control::Install(Installation::new(self.relinkings(plan)?));
-        self.records.reserve(1)?;
-        let entry = Record::Installed { plan };
-        let change = PendingChange {
-            entry,
-            control,
-            calls,
+        match entry {
+            Record::Flushed { .. } => unreachable!(),
+            Record::Targeted { site, tree } => retargeting(*site, tree),
+            Record::Invalidated { points } => invalidation(points),
+            Record::Snapped => self.snapped(),
+            Record::Published { snapshot, plan } => self.publication(*snapshot, plan),
+            Record::Installed { plan } => self.installation(*plan),
+        }
+    }
+
+    fn snapped(&self) -> Result<(Effect, Reply), NoMemory>
+        ensures effect { IfOk result (λ p. HasEffect self.now Snapped p.0) }
+        ensures reply { IfOk result (λ p. p.1
+            ≡ reply_to self.now.definition self.now.records Snapped) }
+    {
+        let sites = self.definition.sites().len();
+        let taken = Snapshot::take(self.alloc, &self.totals, &self.world, sites)?;
+        let snapshot = self.snapshots.len() + 1;
+        Ok((Effect::Snapshot(taken), Reply::Taken { snapshot }))
+    }
+
+    fn publication(&self, snapshot: usize, plan: &SharedPlan) -> Result<(Effect, Reply), NoMemory>
+        ensures effect { IfOk result (λ p. HasEffect self.now (Published snapshot plan.now) p.0) }
+        ensures reply { IfOk result (λ p. p.1
+            ≡ reply_to self.now.definition self.now.records (Published snapshot plan.now)) }
+    {
+        let kept = plan.share()?;
+        let told = plan.share()?;
+        let number = self.plans.len() + 1;
+        let published = PublishedPlan {
+            snapshot,
+            plan: kept,
         };
-        Ok((change, report))
+        Ok((
+            Effect::Plan(published),
+            Reply::Published { number, plan: told },
+        ))
     }
 }
 
-// Another owner of a tree.
-fn share(tree: &Declared) -> Result<Declared, NoMemory>
-    ensures value { IfOk result (λ t. t ≡ tree.now) }
+// What a retargeting changes, and its answer.
+fn retargeting(site: usize, tree: &Declared) -> Result<(Effect, Reply), NoMemory>
+    ensures value { IfOk result (λ p. (p.0 ≡ World (Target record { site = site; tree = tree.now }))
+        × (p.1 ≡ Done)) }
 {
-    tree.share().map_err(|_| NoMemory)
+    let base = tree.share().map_err(|_| NoMemory)?;
+    let control = Control::Target(Retargeting::new(site, base)?);
+    Ok((Effect::World(control), Reply::Done))
+}
+
+// What an invalidation changes, and its answer.
+fn invalidation(points: &Listing<u32>) -> Result<(Effect, Reply), NoMemory>
+    ensures value { IfOk result (λ p. (p.0 ≡ World (Invalidate points.now)) × (p.1 ≡ Done)) }
+{
+    let control = Control::Invalidate(points.copy()?);
+    Ok((Effect::World(control), Reply::Done))
+}
+
+// Another owner of what a control has.
+fn share_control(control: &Control) -> Result<Option<Control>, NoMemory>
+    ensures value { IfOk result (λ c. c ≡ Some control.now) }
+{
+    let shared = control.share().map_err(|_| NoMemory)?;
+    Ok(Some(shared))
 }

@@ -51,7 +51,7 @@ impl SharedPlan {
 }
 
 // A published plan, and the number of the snapshot that it was published for.
-#[derive(Drop)]
+#[derive(Debug, Drop)]
 pub(crate) struct PublishedPlan {
     pub(crate) snapshot: usize,
     pub(crate) plan: SharedPlan,

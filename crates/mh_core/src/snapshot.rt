@@ -11,7 +11,7 @@ use std::alloc::Global;
 use std::marker::Model;
 
 // The total of each link, which points are valid, and how often each site was retargeted.
-#[derive(Drop)]
+#[derive(Debug, Drop)]
 pub(crate) struct Snapshot {
     totals: Vec<u64>,
     valid: Vec<bool>,

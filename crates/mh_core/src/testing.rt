@@ -1,4 +1,4 @@
-//! The tests of a book's records, where so many calls were accepted beside them.
+//! The tests of a record, where so many calls were accepted beside those of a book.
 
 ghost use Rattle.std.specs.Prelude.{◌≡◌, ◌⊎◌, ◌<◌, ◌≤◌, ◌+◌, ◌↔◌, length, OnOk, IfErr, IsTrue};
 ghost use Rattle.std.specs.List.{All};
@@ -7,13 +7,15 @@ ghost use Rattle.mh_cert.specs.Plans.{Matches, plan_tests};
 ghost use Rattle.mh_core.specs.declared.record.Record.TheVariants.{Flushed, Targeted, Invalidated, Snapped, Published, Installed};
 ghost use Rattle.mh_core.specs.declared.refusal.Refusal.{Refusal};
 ghost use Rattle.mh_core.specs.Records.{hits_in};
-ghost use Rattle.mh_core.specs.Rows.{tests};
-ghost use Rattle.mh_base.specs.Tests.{Passes, Refuses};
+ghost use Rattle.mh_core.specs.Books.{MayRefuse, MayTake};
+ghost use Rattle.mh_core.specs.Pending.{IsNoFlush};
+ghost use Rattle.mh_base.specs.Tests.{Refuses};
 
 use crate::book::Book;
 use crate::limits::{MOST_PLANS, MOST_SNAPSHOTS};
 use crate::plan::SharedPlan;
 use crate::problem::gains_fit;
+use crate::record::Record;
 use crate::refusal::Refusal;
 use mh_cert::{CheckFault, Plan, check};
 use mh_ledger::Ledger;
@@ -32,17 +34,28 @@ impl Book {
         self.records.len().saturating_add(calls) as u64 >= self.limits.history()
     }
 
-    // The tests of a flush, of which the first that fails is told.
+    // The tests of a record that is no flush, of which the first that fails is reported.
+    pub(crate) fn test(&self, calls: usize, entry: &Record) -> Result<(), Refusal>
+        requires other { IsNoFlush entry.now }
+        ensures passes { OnOk result (MayTake self.now calls entry.now) }
+        ensures refuses { IfErr result (MayRefuse self.now calls entry.now) }
+    {
+        match entry {
+            Record::Flushed { .. } => unreachable!(),
+            Record::Targeted { site, tree } => self.test_target(calls, *site, tree),
+            Record::Invalidated { points } => self.test_points(calls, points),
+            Record::Snapped => self.test_snapshot(calls),
+            Record::Published { snapshot, plan } => self.test_publish(calls, *snapshot, plan),
+            Record::Installed { plan } => self.test_install(calls, *plan),
+        }
+    }
+
+    // The tests of a flush, of which the first that fails is reported.
     pub(crate) fn test_flush(&self, calls: usize, ledger: &Ledger) -> Result<(), Refusal>
         requires held { Holds self.now.totals ledger.now }
-        ensures passes { OnOk result (Passes
-            (tests self.now.definition self.now.limits
-            (length self.now.records + calls) self.now.records
-            (Flushed ledger.now.worker (hits_in ledger.now.unflushed)))) }
+        ensures passes { OnOk result (MayTake self.now calls (Flushed ledger.now.worker (hits_in ledger.now.unflushed))) }
         ensures refuses { IfErr result
-            (λ told. Refuses (tests self.now.definition self.now.limits
-            (length self.now.records + calls) self.now.records
-            (Flushed ledger.now.worker (hits_in ledger.now.unflushed))) told) }
+            (λ told. MayRefuse self.now calls (Flushed ledger.now.worker (hits_in ledger.now.unflushed)) told) }
     {
         if self.is_full(calls) {
             return Err(Refusal::HistoryFull);
@@ -53,19 +66,11 @@ impl Book {
         Ok(())
     }
 
-    // The tests of a retargeting, of which the first that fails is told.
-    pub(crate) fn test_target(
-        &self,
-        calls: usize,
-        site: usize,
-        tree: &Declared,
-    ) -> Result<(), Refusal>
-        ensures passes { OnOk result (Passes
-            (tests self.now.definition self.now.limits
-            (length self.now.records + calls) self.now.records (Targeted site tree.now))) }
+    // The tests of a retargeting, of which the first that fails is reported.
+    fn test_target(&self, calls: usize, site: usize, tree: &Declared) -> Result<(), Refusal>
+        ensures passes { OnOk result (MayTake self.now calls (Targeted site tree.now)) }
         ensures refuses { IfErr result
-            (λ told. Refuses (tests self.now.definition self.now.limits
-            (length self.now.records + calls) self.now.records (Targeted site tree.now)) told) }
+            (λ told. MayRefuse self.now calls (Targeted site tree.now) told) }
     {
         if site >= self.definition.sites().len() {
             return Err(Refusal::NoSite);
@@ -84,14 +89,11 @@ impl Book {
         Ok(())
     }
 
-    // The tests of an invalidation, of which the first that fails is told.
-    pub(crate) fn test_points(&self, calls: usize, points: &Listing<u32>) -> Result<(), Refusal>
-        ensures passes { OnOk result (Passes
-            (tests self.now.definition self.now.limits
-            (length self.now.records + calls) self.now.records (Invalidated points.now))) }
+    // The tests of an invalidation, of which the first that fails is reported.
+    fn test_points(&self, calls: usize, points: &Listing<u32>) -> Result<(), Refusal>
+        ensures passes { OnOk result (MayTake self.now calls (Invalidated points.now)) }
         ensures refuses { IfErr result
-            (λ told. Refuses (tests self.now.definition self.now.limits
-            (length self.now.records + calls) self.now.records (Invalidated points.now)) told) }
+            (λ told. MayRefuse self.now calls (Invalidated points.now) told) }
     {
         if !all_below(points.as_slice(), self.definition.points().len()) {
             return Err(Refusal::NoPoint);
@@ -102,14 +104,11 @@ impl Book {
         Ok(())
     }
 
-    // The tests of a snapshot, of which the first that fails is told.
-    pub(crate) fn test_snapshot(&self, calls: usize) -> Result<(), Refusal>
-        ensures passes { OnOk result (Passes
-            (tests self.now.definition self.now.limits
-            (length self.now.records + calls) self.now.records Snapped)) }
+    // The tests of a snapshot, of which the first that fails is reported.
+    fn test_snapshot(&self, calls: usize) -> Result<(), Refusal>
+        ensures passes { OnOk result (MayTake self.now calls Snapped) }
         ensures refuses { IfErr result
-            (λ told. Refuses (tests self.now.definition self.now.limits
-            (length self.now.records + calls) self.now.records Snapped) told) }
+            (λ told. MayRefuse self.now calls Snapped told) }
     {
         if self.is_full(calls) || self.snapshots.len() >= MOST_SNAPSHOTS {
             return Err(Refusal::HistoryFull);
@@ -121,19 +120,11 @@ impl Book {
         Ok(())
     }
 
-    // The tests of a plan that is offered, of which the first that fails is told.
-    pub(crate) fn test_publish(
-        &self,
-        calls: usize,
-        snapshot: usize,
-        plan: &SharedPlan,
-    ) -> Result<(), Refusal>
-        ensures passes { OnOk result (Passes
-            (tests self.now.definition self.now.limits
-            (length self.now.records + calls) self.now.records (Published snapshot plan.now))) }
+    // The tests of a plan that is offered, of which the first that fails is reported.
+    fn test_publish(&self, calls: usize, snapshot: usize, plan: &SharedPlan) -> Result<(), Refusal>
+        ensures passes { OnOk result (MayTake self.now calls (Published snapshot plan.now)) }
         ensures refuses { IfErr result
-            (λ told. Refuses (tests self.now.definition self.now.limits
-            (length self.now.records + calls) self.now.records (Published snapshot plan.now))
+            (λ told. MayRefuse self.now calls (Published snapshot plan.now)
             told) }
     {
         let problem = self.problem(snapshot)?;
@@ -144,14 +135,11 @@ impl Book {
         Ok(())
     }
 
-    // The tests of an installation, of which the first that fails is told.
-    pub(crate) fn test_install(&self, calls: usize, plan: usize) -> Result<(), Refusal>
-        ensures passes { OnOk result (Passes
-            (tests self.now.definition self.now.limits
-            (length self.now.records + calls) self.now.records (Installed plan))) }
+    // The tests of an installation, of which the first that fails is reported.
+    fn test_install(&self, calls: usize, plan: usize) -> Result<(), Refusal>
+        ensures passes { OnOk result (MayTake self.now calls (Installed plan)) }
         ensures refuses { IfErr result
-            (λ told. Refuses (tests self.now.definition self.now.limits
-            (length self.now.records + calls) self.now.records (Installed plan)) told) }
+            (λ told. MayRefuse self.now calls (Installed plan) told) }
     {
         let newest = self.plans.len();
         if plan == 0 || plan > newest {

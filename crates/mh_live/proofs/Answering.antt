@@ -1,15 +1,12 @@
 -- What an office answers over its book.
-use Rattle.std.proofs.Common.{◌≡◌, ◌⊎◌, inl, inr, ℕ, ◌+◌, ◌<◌, ◌^◌, List, [], ◌∷◌, ◌++◌, length, refl, sym, ap, subst, ◌∙◌, arith}
+use Rattle.std.proofs.Common.{◌≡◌, Some, inr, ℕ, ◌+◌, ◌<◌, ◌^◌, List, [], ◌∷◌, ◌++◌, length, Result, Ok, Err, OnOk, IfErr, refl, sym, ap, subst, ◌∙◌, arith}
 use Rattle.std.specs.Prelude.{reverse}
 use Rattle.std.proofs.lemmas.List.Sums.{fold_push}
 use Rattle.mh_site.specs.Defined.{DefinitionData}
 use Rattle.mh_site.specs.Worlds.{WorldState, after, opened}
 use Rattle.mh_site.specs.declared.control.Control.{Control}
-use Rattle.mh_cert.specs.declared.plan.Plan.{Plan}
-use Rattle.mh_core.specs.Books.{BookState, IsBook, Legal, Takes}
-use Rattle.mh_core.specs.Pending.{IsReady, PendingState, SameBook}
-use Rattle.mh_core.specs.Problems.{IsTaken}
-use Rattle.mh_core.specs.Records.{plans, snapshots}
+use Rattle.mh_core.specs.Books.{BookState, IsBook, Legal, Rejects, Takes}
+use Rattle.mh_core.specs.Pending.{IsReady, PendingState, SameBook, control_of}
 use Rattle.mh_core.specs.Replayed.{controls, world}
 use Rattle.mh_core.specs.Rows.{tests}
 use Rattle.mh_base.specs.Tests.{Tests, test, may_tell, no_more, Passes, Refuses}
@@ -17,8 +14,8 @@ use Rattle.mh_core.specs.declared.record.Record.{Record}
 use Rattle.mh_core.specs.declared.record.Record.TheVariants.{Flushed, Targeted, Invalidated, Snapped, Published, Installed}
 use Rattle.mh_core.specs.Limits.{LimitsData}
 use Rattle.mh_core.specs.declared.refusal.Refusal.{Refusal}
-use Rattle.mh_core.specs.declared.refusal.Refusal.TheVariants.{NoMemory, NoSnapshot}
-use Rattle.mh_core.specs.Laws.{snapshots_count, plans_count, stands, oldest_push, world_front, world_push}
+use Rattle.mh_core.specs.declared.refusal.Refusal.TheVariants.{NoMemory}
+use Rattle.mh_core.specs.Laws.{change_of, stands, oldest_push, world_front, world_push}
 use Rattle.mh_live.proofs.Replays.{after_front}
 use Rattle.mh_live.specs.Offices.{list_of}
 use Rattle.mh_live.specs.Receipts.{IsLegalRefusal}
@@ -46,25 +43,36 @@ list_stays b new e changes takes =
     ap (λ (d : DefinitionData). reverse (controls d new.records)) takes.definition
     ∙ (ap (λ (r : List Record). reverse (controls b.definition r)) takes.records ∙ ap reverse changes)
 
+-- a record that is no control, accepted or refused
+pub list_kept : {X : Type 0} (r : Result X Refusal) (b new : BookState) (e : Record) → controls b.definition (e ∷ b.records) ≡ controls b.definition b.records
+    → OnOk r (Takes b 0 e new) → IfErr r (λ told. Rejects b 0 e told new) → (list_of new ≡ list_of b) × (new.definition ≡ b.definition) × (new.limits ≡ b.limits)
+list_kept (Ok x) b new e changes takes rejects = (list_stays b new e changes takes, takes.definition, takes.limits)
+list_kept (Err told) b new e changes takes rejects = (ap list_of rejects.same, ap (λ (x : BookState). x.definition) rejects.same, ap (λ (x : BookState). x.limits) rejects.same)
+
 pub list_few : (b : BookState) → IsBook b → length (list_of b) < 2 ^ 62
 list_few b is = omega (arith, after_front b.definition (list_of b), world_front b.definition b.records, is.few, is.limits.history)
 
 -- ---- the world of one record more
 pub legal_push : (b : BookState) (p : PendingState) → IsBook b → IsReady b p → Legal b.definition b.limits (p.entry ∷ b.records)
-legal_push b p is ready = ((length b.records + p.calls, ready.passes), is.legal)
+legal_push b p is ready = ((length b.records + p.calls, (omega arith, ready.passes)), is.legal)
 
-pub world_is : (b : BookState) (p : PendingState) → IsReady b p → after (world b.definition b.records) p.control ≡ world b.definition (p.entry ∷ b.records)
-world_is b p ready =
-    sym (fold_push after (opened b.definition) (reverse (controls b.definition b.records)) p.control)
-    ∙ sym (world_push b.definition (p.entry ∷ b.records) b.records p.control ready.changes)
-
-pub stands_after : (d : DefinitionData) (w : WorldState) (log : List Control) (b : BookState) (p : PendingState) (c : Control) → IsBook b → b.definition ≡ d → IsReady b p → w ≡ world_after d log → log ≡ list_of b → c ≡ p.control → AreStanding d (after w c)
-stands_after d w log b p c is definition ready replays list same =
+pub stands_after : (d : DefinitionData) (w : WorldState) (log : List Control) (b : BookState) (p : PendingState) (c : Control) → IsBook b → b.definition ≡ d → IsReady b p → w ≡ world_after d log → log ≡ list_of b → control_of p.effect ≡ Some c
+    → AreStanding d (after w c)
+stands_after d w log b p c is definition ready replays list own_control =
     let own : DefinitionData = b.definition in
     let now : w ≡ world own b.records = replays ∙ (ap (world_after d) list ∙ ap (λ (x : DefinitionData). world_after x (list_of b)) (sym definition)) in
-    let next : after w c ≡ world own (p.entry ∷ b.records) = ap (λ (v : WorldState). after v c) now ∙ (ap (after (world own b.records)) same ∙ world_is b p ready) in
+    let pushed : after (world own b.records) c ≡ world own (p.entry ∷ b.records) =
+    sym (fold_push after (opened own) (reverse (controls own b.records)) c) ∙ sym (world_push own (p.entry ∷ b.records) b.records c (change_of b p.entry p.effect c ready.effect own_control)) in
+    let next : after w c ≡ world own (p.entry ∷ b.records) = ap (λ (v : WorldState). after v c) now ∙ pushed in
     let standing : AreStanding own (after w c) = subst (AreStanding own) (sym next) (λ s h. stands own b.limits (p.entry ∷ b.records) s is.definition (legal_push b p is ready) h) in
     subst (λ (x : DefinitionData). AreStanding x (after w c)) definition standing
+
+-- the list that has the control of a change at its end is that of the records then
+pub list_of_change : (b new : BookState) (p : PendingState) (c : Control) (front next : List Control) → IsReady b p → p.calls ≡ 0 → Takes b p.calls p.entry new → control_of p.effect ≡ Some c → front ≡ list_of b → next ≡ front ++ c ∷ []
+    → Takes b 0 p.entry new × (next ≡ list_of new)
+list_of_change b new p c front next ready none takes own known more =
+    let plain : Takes b 0 p.entry new = subst (λ (n : ℕ). Takes b n p.entry new) none takes in
+    (plain, more ∙ (ap (λ (cs : List Control). cs ++ c ∷ []) known ∙ sym (list_push b new p.entry c (change_of b p.entry p.effect c ready.effect own) plain)))
 
 -- ---- refusals
 -- want of memory may be told where all tests pass
@@ -95,18 +103,3 @@ ready_refusal old mid p told same none ready is =
     let moved : IsReady (record old { room = mid.room }) p = subst (λ (b : BookState). IsReady b p) same ready in
     let legal : Refuses (tests old.definition old.limits (length old.records + p.calls) old.records p.entry) NoMemory = passes_wanting (tests old.definition old.limits (length old.records + p.calls) old.records p.entry) (may_want old.definition old.limits (length old.records + p.calls) old.records p.entry) moved.passes in
     subst (IsLegalRefusal old p.entry) (sym is) (plain_refusal old p.entry NoMemory (subst (λ (n : ℕ). Refuses (tests old.definition old.limits (length old.records + n) old.records p.entry) NoMemory) none legal))
-
-pub unshared_refusal : (b : BookState) (n : ℕ) (plan : Plan) (told : Refusal) → ((told ≡ NoSnapshot) × (IsTaken b.records n → ⊥)) ⊎ ((told ≡ NoMemory) × IsTaken b.records n) → IsLegalRefusal b (Published n plan) told
-unshared_refusal b n plan told (inl (is, missing)) = inl (missing, is)
-unshared_refusal b n plan told (inr (is, taken)) = inr (taken, inl is)
-
-pub publish_refusal : (b : BookState) (n : ℕ) (plan given : Plan) (told : Refusal) → given ≡ plan → Refuses (tests b.definition b.limits (length b.records + 0) b.records (Published n given)) told → IsLegalRefusal b (Published n plan) told
-publish_refusal b n plan given told same refuses =
-    subst (λ (p : Plan). IsLegalRefusal b (Published n p) told) same (plain_refusal b (Published n given) told refuses)
-
--- ---- numbers
-pub snapshots_taken : (b : BookState) → IsBook b → length b.snapshots ≡ snapshots b.records
-snapshots_taken b is = ap length is.snapshots ∙ snapshots_count b.definition b.records
-
-pub plans_published : (b : BookState) → IsBook b → length b.plans ≡ plans b.records
-plans_published b is = ap length is.plans ∙ plans_count b.records

@@ -9,4 +9,5 @@ mod Replays
 mod RollCalls
 mod Ruling
 mod Sending
+mod Shares
 mod Showing

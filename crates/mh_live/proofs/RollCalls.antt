@@ -1,5 +1,6 @@
 -- Sums over passes, of which each worker has one.
 use Rattle.std.proofs.Common.{◌≡◌, ℕ, zero, suc, ◌+◌, ◌*◌, ◌<◌, ◌≤◌, ◌^◌, ◌==◌, nat_lt, Bool, true, false, cond, List, [], ◌∷◌, length, get_or, take, map, refl, ap, sym, ◌∙◌, arith, subst, add-one}
+use Rattle.std.specs.Prelude.{reverse}
 use Rattle.std.specs.List.{All, count_by, range_with_len, sum_by}
 use Rattle.std.proofs.lemmas.List.{take_all}
 use Rattle.std.proofs.lemmas.List.Elements.{All-head, All-tail, All-weaker}
@@ -11,10 +12,14 @@ use Rattle.mh_site.specs.Defined.{DefinitionData}
 use Rattle.mh_site.specs.Links.{links}
 use Rattle.mh_site.specs.declared.control.Control.{Control}
 use Rattle.mh_core.specs.Books.{BookState}
+use Rattle.mh_core.specs.Limits.{LimitsData}
+use Rattle.mh_core.specs.Replayed.{controls}
 use Rattle.mh_live.specs.Offices.{OfficeState}
 use Rattle.mh_live.specs.Passes.{PassState}
 use Rattle.mh_live.specs.Receipts.{IsOffice}
-use Rattle.mh_live.specs.Settled.{AreBack, IsSettled, IsWithin, SettledState, Settles, made_by, unflushed_by}
+use Rattle.mh_live.specs.Settled.{AreBack, IsSettled, IsUnsettled, IsUnsettledBy, IsWithin, SettledState, Settles, made_by, unflushed_by}
+use Rattle.mh_live.specs.declared.settle_fault.SettleFault.{SettleFault}
+use Rattle.mh_live.proofs.Receiving.{totals_of}
 
 module _ {X : Type 0} (key : X → ℕ) (g : ℕ → ℕ) where
   abbrev below : ℕ → X → ℕ
@@ -90,7 +95,7 @@ pub held_made : (t : TotalsState) (passes : List PassState) (j : ℕ) → IsTota
 held_made t passes j is back = omega (arith, held_total t passes j is back, made_is_sum j passes)
 
 -- ---- what is settled
-module _ (d : DefinitionData) (o : OfficeState) (passes : List PassState) (hits : List ℕ) (office : IsOffice d o) (is : IsTotals o.book.totals) (back : AreBack o.book.totals passes)
+module _ (d : DefinitionData) (l : LimitsData) (workers : ℕ) (o : OfficeState) (passes : List PassState) (hits : List ℕ) (office : IsOffice d l workers o) (is : IsTotals o.book.totals) (back : AreBack o.book.totals passes)
     (value : hits ≡ map (unflushed_by passes) (range_with_len 0 (length o.book.totals.total))) (b : BookState) (f : List Control) (book : b ≡ o.book) (front : f ≡ o.published) where
   abbrev state : BookState → List Control → SettledState
   state x l = record { book = x; unflushed = hits; front = l }
@@ -98,13 +103,15 @@ module _ (d : DefinitionData) (o : OfficeState) (passes : List PassState) (hits 
   links_count : length o.book.totals.total ≡ length (links d)
   links_count = office.lawful.totals.count ∙ ap (λ (x : DefinitionData). length (links x)) office.definition
 
-  pub settled_of : All (λ n. n ≤ 2 ^ 126) hits → IsSettled d (state b f)
+  pub settled_of : All (λ n. n ≤ 2 ^ 126) hits → IsSettled d l workers (state b f)
   settled_of within =
-      subst (λ (x : BookState). IsSettled d (state x f)) (sym book)
-      (subst (λ (l : List Control). IsSettled d (state o.book l)) (sym front)
+      subst (λ (x : BookState). IsSettled d l workers (state x f)) (sym book)
+      (subst (λ (cs : List Control). IsSettled d l workers (state o.book cs)) (sym front)
       record {
         lawful = office.lawful;
         definition = office.definition;
+        limits = office.limits;
+        shares = office.shares;
         links_are = ap length value ∙ (length-map-range_with_len (unflushed_by passes) 0 (length o.book.totals.total) ∙ links_count);
         within = within;
         shows = office.shows;
@@ -122,3 +129,15 @@ module _ (d : DefinitionData) (o : OfficeState) (passes : List PassState) (hits 
         made_is = λ j h. omega (arith, unflushed_is j h, held_made o.book.totals passes j is back);
         fronts = fronts;
       }
+
+-- what is not settled
+pub unsettled_of : (d : DefinitionData) (l : LimitsData) (workers : ℕ) (o : OfficeState) (passes : List PassState) (fault : SettleFault) → IsOffice d l workers o → IsTotals o.book.totals
+    → All (IsWithin o.published) passes → IsUnsettledBy o.book.totals passes fault → IsUnsettled d l workers passes fault
+unsettled_of d l workers o passes fault office is fronts told =
+    let list : o.published ≡ reverse (controls d o.book.records) = office.shows ∙ ap (λ (x : DefinitionData). reverse (controls x o.book.records)) office.definition in
+    record {
+      totals = o.book.totals;
+      are = totals_of d l workers o office is;
+      fronts = subst (λ (cs : List Control). All (IsWithin cs) passes) list fronts;
+      told = told;
+    }

@@ -1,11 +1,14 @@
 -- What contracts see of an office and of its receipts.
-use Rattle.std.specs.Prelude.{◌≡◌, Bool, false, List, [], fold, reverse}
+use Rattle.std.specs.Prelude.{ℕ, ◌≡◌, Bool, false, List, [], fold, length, reverse}
 use mathlib.Core.List.{IsPrefix}
 use Rattle.logbook.specs.Pages.{Book}
+use Rattle.mh_ledger.specs.Ledgers.{IsTotals, TotalsState}
 use Rattle.mh_site.specs.Defined.{DefinitionData}
 use Rattle.mh_site.specs.declared.control.Control.{Control}
-use Rattle.mh_core.specs.Books.{BookState}
+use Rattle.mh_core.specs.Books.{AreTotals, BookState, Legal}
+use Rattle.mh_core.specs.Limits.{LimitsData}
 use Rattle.mh_core.specs.Replayed.{controls}
+use Rattle.mh_core.specs.declared.record.Record.{Record}
 use Rattle.mh_core.specs.declared.reply.Reply.{Reply}
 use Rattle.mh_live.specs.Rules.{Stands}
 use Rattle.mh_live.specs.Steps.{stepped}
@@ -18,17 +21,27 @@ pub record OfficeState : Type 0 where
   pub published : List Control
   pub closed : Bool
 
+-- the totals of some records that are legal within these limits, with a share of each of so many workers
+pub record AreTotalsOf (d : DefinitionData) (l : LimitsData) (workers : ℕ) (t : TotalsState) : Type 0 where
+  pub records : List Record
+  pub legal : Legal d l records
+  pub sums : AreTotals d l records t
+  pub shares : length t.shares ≡ workers
+  pub lawful : IsTotals t
+
 -- the controls of a book's records, oldest first
 abbrev pub list_of : BookState → List Control
 list_of b = reverse (controls b.definition b.records)
 
 -- The list that is published is that of the records. Nothing is pending while the office is open
-pub record InStep (name : Book) (d : DefinitionData) (shown : Published) (pending : List Step) (front : List Control) (b : BookState) (closed : Bool) : Type 0 where
+pub record InStep (name : Book) (d : DefinitionData) (l : LimitsData) (workers : ℕ) (shown : Published) (pending : List Step) (front : List Control) (b : BookState) (closed : Bool) : Type 0 where
   pub stands : Stands name d shown
   pub published : shown.past.log ≡ list_of b
   pub known : front ≡ list_of b
   pub still : closed ≡ false → pending ≡ []
   pub definition : b.definition ≡ d
+  pub limits : b.limits ≡ l
+  pub shares : length b.totals.shares ≡ workers
 
 -- what is pending leads to a world that may be published
 abbrev pub CanShow : Book → DefinitionData → Published → List Step → Type 0

@@ -1,5 +1,5 @@
 -- What stands once all passes are back.
-use Rattle.std.specs.Prelude.{ℕ, ◌≡◌, ◌+◌, ◌==◌, ◌<◌, ◌≤◌, ◌^◌, List, length}
+use Rattle.std.specs.Prelude.{ℕ, ◌≡◌, ◌⊎◌, ◌+◌, ◌==◌, ◌<◌, ◌≤◌, List, length, reverse}
 use Rattle.std.specs.List.{All, count_by, sum_by}
 use mathlib.Core.List.{IsPrefix}
 use Rattle.mh_ledger.specs.Ledgers.{TotalsState, Holds, at, made}
@@ -7,9 +7,13 @@ use Rattle.mh_site.specs.Defined.{DefinitionData}
 use Rattle.mh_site.specs.Links.{links}
 use Rattle.mh_site.specs.declared.control.Control.{Control}
 use Rattle.mh_core.specs.Books.{BookState, IsBook}
+use Rattle.mh_core.specs.Limits.{LimitsData}
+use Rattle.mh_core.specs.Replayed.{controls}
 use Rattle.mh_live.specs.Limits.{most_hits_of_all}
-use Rattle.mh_live.specs.Offices.{list_of}
+use Rattle.mh_live.specs.Offices.{AreTotalsOf, list_of}
 use Rattle.mh_live.specs.Passes.{PassState}
+use Rattle.mh_live.specs.declared.settle_fault.SettleFault.{SettleFault}
+use Rattle.mh_live.specs.declared.settle_fault.SettleFault.TheVariants.{MissingPass, NoMemory}
 
 -- each worker has one pass among them, and the totals hold the ledgers of all
 pub record AreBack (t : TotalsState) (passes : List PassState) : Type 0 where
@@ -24,9 +28,9 @@ unflushed_by passes j = sum_by (λ p. at p.ledger.unflushed j) passes
 abbrev pub made_by : List PassState → ℕ → ℕ
 made_by passes j = sum_by (λ p. made p.ledger j) passes
 
--- a list that the pass has seen, and that is not longer than this one, begins it
+-- of what the pass has seen and this list one begins the other
 abbrev pub IsWithin : List Control → PassState → Type 0
-IsWithin front p = length p.seen ≤ length front → IsPrefix p.seen front
+IsWithin front p = IsPrefix p.seen front ⊎ IsPrefix front p.seen
 
 -- the book, for each link the hits that no worker flushed, and the list of controls
 pub record SettledState : Type 0 where
@@ -35,9 +39,11 @@ pub record SettledState : Type 0 where
   pub front : List Control
 
 -- as many links as are declared, with sums that can be added, and the list of the book's records
-pub record IsSettled (d : DefinitionData) (s : SettledState) : Type 0 where
+pub record IsSettled (d : DefinitionData) (l : LimitsData) (workers : ℕ) (s : SettledState) : Type 0 where
   pub lawful : IsBook s.book
   pub definition : s.book.definition ≡ d
+  pub limits : s.book.limits ≡ l
+  pub shares : length s.book.totals.shares ≡ workers
   pub links_are : length s.unflushed ≡ length (links d)
   pub within : All (λ n. n ≤ most_hits_of_all) s.unflushed
   pub shows : s.front ≡ list_of s.book
@@ -48,3 +54,15 @@ pub record Settles (d : DefinitionData) (passes : List PassState) (s : SettledSt
   pub unflushed_is : (j : ℕ) → j < length (links d) → at s.unflushed j ≡ unflushed_by passes j
   pub made_is : (j : ℕ) → j < length (links d) → at s.book.totals.total j + at s.unflushed j ≡ made_by passes j
   pub fronts : All (IsWithin s.front) passes
+
+-- by these totals not all passes are back; or they are, and memory was wanting
+abbrev pub IsUnsettledBy : TotalsState → List PassState → SettleFault → Type 0
+IsUnsettledBy t passes MissingPass = AreBack t passes → ⊥
+IsUnsettledBy t passes NoMemory = AreBack t passes
+
+-- why passes are not settled, by the totals of some legal records: of their list and what each pass has seen one begins the other
+pub record IsUnsettled (d : DefinitionData) (l : LimitsData) (workers : ℕ) (passes : List PassState) (fault : SettleFault) : Type 0 where
+  pub totals : TotalsState
+  pub are : AreTotalsOf d l workers totals
+  pub fronts : All (IsWithin (reverse (controls d are.records))) passes
+  pub told : IsUnsettledBy totals passes fault

@@ -64,16 +64,22 @@ pub type Past = Seen<Control, u64, Law>;
 /// A control that is to be added. It has no bytes.
 pub type Intent = Offer<Control, u64, Law, Nothing>;
 
-/// Which list of controls it is, and of which definition: an opening makes a list, and its office,
-/// passes and receipts all carry its name. A caller takes it as a type parameter and picks it where
-/// it opens.
+/// Which list of controls it is, of which definition, within which limits and for how many workers:
+/// an opening makes a list, and its office, passes and receipts all carry its name. A caller takes
+/// it as a type parameter and picks it where it opens.
 pub trait Name {
+    ghost use Rattle.std.specs.Prelude.{ℕ};
     ghost use Rattle.logbook.specs.Pages.{Book};
     ghost use Rattle.mh_site.specs.Defined.{DefinitionData};
+    ghost use Rattle.mh_core.specs.Limits.{LimitsData};
 
     ghost book: { Book };
 
     ghost definition: { DefinitionData };
+
+    ghost limits: { LimitsData };
+
+    ghost workers: { ℕ };
 }
 
 impl Name for Brand {
@@ -82,6 +88,10 @@ impl Name for Brand {
     ghost book = { record { number = 0; log_name = 0; cells_name = 0 } };
 
     ghost definition = { record { points = []; sites = [] } };
+
+    ghost limits = { record { history = 0; ledger = 0; total = 0 } };
+
+    ghost workers = { 0 };
 }
 
 /// The word that counts the controls.

@@ -1,6 +1,6 @@
 //! An office that threads share.
 
-ghost use Rattle.std.specs.Prelude.{◌≡◌, ◌++◌, ◌∷◌, [], List, IfErr, IfOk, OnErr, OnOk};
+ghost use Rattle.std.specs.Prelude.{◌≡◌, ◌⊎◌, ◌++◌, ◌∷◌, [], List, IfErr, IfOk, OnErr, OnOk};
 ghost use mathlib.Core.List.{IsPrefix};
 ghost use Rattle.mh_ledger.specs.Ledgers.{settled};
 ghost use Rattle.mh_site.specs.Controls.{Relinked};
@@ -9,7 +9,7 @@ ghost use Rattle.mh_site.specs.declared.control.Control.TheVariants.{Target, Inv
 ghost use Rattle.mh_core.specs.Records.{hits_in};
 ghost use Rattle.mh_core.specs.declared.record.Record.TheVariants.{Flushed, Installed, Invalidated, Published, Snapped, Targeted};
 ghost use Rattle.mh_live.specs.Receipts.{IsFlushRefusal, IsNoProblem, IsProblem, IsReceipt, IsRefusal};
-ghost use Rattle.mh_live.specs.Settled.{Settles};
+ghost use Rattle.mh_live.specs.Settled.{IsUnsettled, Settles};
 
 use crate::flush_fault::FlushFault;
 use crate::front::Name;
@@ -72,10 +72,10 @@ impl<N: Name> Live<N> {
         site: usize,
         tree: Declared,
     ) -> Result<Receipt<N>, Refusal>
-        ensures receipt { IfOk result (IsReceipt N.definition (Targeted site tree)) }
+        ensures receipt { IfOk result (IsReceipt N.definition N.limits (Targeted site tree)) }
         ensures ends { IfOk result (λ r. (before : List Control)
             × (r.front ≡ before ++ Target record { site = site; tree = tree } ∷ [])) }
-        ensures refused { IfErr result (IsRefusal N.definition (Targeted site tree)) }
+        ensures refused { IfErr result (IsRefusal N.definition N.limits (Targeted site tree)) }
     {
         self.office.lock(rt).target(rt, site, tree)
     }
@@ -86,10 +86,10 @@ impl<N: Name> Live<N> {
     /// Refused with `NoPoint` where a number is past the last point, with `HistoryFull`, and then
     /// with `NoMemory`, as `set_target` is.
     pub fn invalidate<R: Wait>(&self, rt: &R, points: Listing<u32>) -> Result<Receipt<N>, Refusal>
-        ensures receipt { IfOk result (IsReceipt N.definition (Invalidated points)) }
+        ensures receipt { IfOk result (IsReceipt N.definition N.limits (Invalidated points)) }
         ensures ends { IfOk result (λ r. (before : List Control)
             × (r.front ≡ before ++ Invalidate points ∷ [])) }
-        ensures refused { IfErr result (IsRefusal N.definition (Invalidated points)) }
+        ensures refused { IfErr result (IsRefusal N.definition N.limits (Invalidated points)) }
     {
         self.office.lock(rt).invalidate(rt, points)
     }
@@ -101,8 +101,8 @@ impl<N: Name> Live<N> {
     /// the gains of its problem would add up to more than 2^62, and then with `NoMemory`; nothing
     /// changes.
     pub fn snapshot<R: Wait>(&self, rt: &R) -> Result<Receipt<N>, Refusal>
-        ensures receipt { IfOk result (IsReceipt N.definition Snapped) }
-        ensures refused { IfErr result (IsRefusal N.definition Snapped) }
+        ensures receipt { IfOk result (IsReceipt N.definition N.limits Snapped) }
+        ensures refused { IfErr result (IsRefusal N.definition N.limits Snapped) }
     {
         self.office.lock(rt).snapshot()
     }
@@ -111,8 +111,8 @@ impl<N: Name> Live<N> {
     ///
     /// Refused with `NoSnapshot` where it was not taken, and then with `NoMemory`.
     pub fn problem<R: Wait>(&self, rt: &R, snapshot: usize) -> Result<Problem, Refusal>
-        ensures problem { IfOk result (IsProblem N.definition snapshot) }
-        ensures refused { IfErr result (IsNoProblem N.definition snapshot) }
+        ensures problem { IfOk result (IsProblem N.definition N.limits snapshot) }
+        ensures refused { IfErr result (IsNoProblem N.definition N.limits snapshot) }
     {
         self.office.lock(rt).book().problem(snapshot)
     }
@@ -128,8 +128,8 @@ impl<N: Name> Live<N> {
         snapshot: usize,
         plan: SharedPlan,
     ) -> Result<Receipt<N>, Refusal>
-        ensures receipt { IfOk result (IsReceipt N.definition (Published snapshot plan)) }
-        ensures refused { IfErr result (IsRefusal N.definition (Published snapshot plan)) }
+        ensures receipt { IfOk result (IsReceipt N.definition N.limits (Published snapshot plan)) }
+        ensures refused { IfErr result (IsRefusal N.definition N.limits (Published snapshot plan)) }
     {
         self.office.lock(rt).publish(snapshot, plan)
     }
@@ -140,10 +140,10 @@ impl<N: Name> Live<N> {
     /// Refused with `NoPlan`, with `OldPlan` where a newer plan was published, with `HistoryFull`,
     /// and then with `NoMemory`, as `set_target` is.
     pub fn install<R: Wait>(&self, rt: &R, plan: usize) -> Result<Receipt<N>, Refusal>
-        ensures receipt { IfOk result (IsReceipt N.definition (Installed plan)) }
+        ensures receipt { IfOk result (IsReceipt N.definition N.limits (Installed plan)) }
         ensures ends { IfOk result (λ r. (before : List Control) × (changes : List Relinked)
             × (r.front ≡ before ++ Install changes ∷ [])) }
-        ensures refused { IfErr result (IsRefusal N.definition (Installed plan)) }
+        ensures refused { IfErr result (IsRefusal N.definition N.limits (Installed plan)) }
     {
         self.office.lock(rt).install(rt, plan)
     }
@@ -155,12 +155,14 @@ impl<N: Name> Live<N> {
     /// nothing changes.
     pub fn flush<R: Wait>(&self, rt: &R, pass: &mut Pass<N>) -> Result<Receipt<N>, FlushFault>
         ensures receipt { IfOk result
-            (IsReceipt N.definition (Flushed pass.old.ledger.worker
+            (IsReceipt N.definition N.limits (Flushed pass.old.ledger.worker
             (hits_in pass.old.ledger.unflushed))) }
         ensures ledger { OnOk result (pass.new.ledger ≡ settled pass.old.ledger) }
         ensures seen { OnOk result (IsPrefix pass.old.seen pass.new.seen) }
         ensures learnt { IfOk result (λ r. IsPrefix r.front pass.new.seen) }
-        ensures refused { IfErr result (IsFlushRefusal N.definition pass.old.ledger) }
+        ensures one { IfOk result (λ r. (pass.new.seen ≡ pass.old.seen)
+            ⊎ (pass.new.seen ≡ r.front)) }
+        ensures refused { IfErr result (IsFlushRefusal N.definition N.limits N.workers pass.old.ledger) }
         ensures kept { OnErr result (pass.new ≡ pass.old) }
     {
         let receipt = self.office.lock(rt).flush(&mut pass.ledger)?;
@@ -180,14 +182,16 @@ impl<N: Name> Live<N> {
         passes: Vec<Pass<N>>,
     ) -> Result<Settled<N>, Unsettled<N>>
         ensures sums { IfOk result (Settles N.definition passes.items) }
-        ensures refused { IfErr result (λ u. u.passes ≡ passes) }
+        ensures refused { IfErr result (λ u. IsUnsettled N.definition N.limits N.workers
+            passes.items u.fault) }
+        ensures kept { IfErr result (λ u. u.passes ≡ passes) }
     {
         let Live { office } = self;
         let office = office.into_inner();
+        compare_all(passes.as_slice(), office.front());
         match unflushed_hits(alloc, &office, passes.as_slice()) {
             Ok(unflushed) => {
                 let (book, front) = office.close(rt);
-                compare_all(passes.as_slice(), &front);
                 Ok(Settled::new(book, unflushed, front))
             }
             Err(fault) => Err(Unsettled {

@@ -1,13 +1,12 @@
 //! A book with the writer of the published world.
 
 ghost use Rattle.std.specs.Prelude.{◌≡◌, ◌⊎◌, ◌+◌, ◌<◌, ◌++◌, ◌∷◌, ◌^◌, [], ℕ, List, false, true, drop, fold, length, slice_set, IfErr, IfOk, MatchBool, MatchResult, OnErr, OnOk};
-ghost use Rattle.mh_ledger.specs.Ledgers.{AreHeld, Holds, LedgerState, settled};
+ghost use Rattle.mh_ledger.specs.Ledgers.{AreHeld, Holds, IsTotals, LedgerState, settled};
 ghost use Rattle.mh_core.specs.Pending.{IsReady};
 ghost use Rattle.mh_core.specs.Records.{hits_in};
 ghost use Rattle.mh_core.specs.declared.record.Record.TheVariants.{Flushed, Installed, Invalidated, Published, Snapped, Targeted};
 ghost use Rattle.mh_live.specs.Offices.{list_of};
-ghost use Rattle.mh_core.specs.Problems.{IsTaken};
-ghost use Rattle.mh_live.specs.Receipts.{Accepts, IsLegalFault, IsLegalRefusal, IsOffice, IsUntouched, MayClose, reply_to};
+ghost use Rattle.mh_live.specs.Receipts.{Accepts, IsLegalFault, IsLegalRefusal, IsOffice, IsUntouched, MayClose};
 ghost use Rattle.mh_live.specs.Rules.{Stands};
 
 use crate::flush_fault::FlushFault;
@@ -15,7 +14,7 @@ use crate::front::{Front, Head, Name};
 use crate::publishing::{Halt, show};
 use crate::receipt::Receipt;
 use crate::rule::WorldWriter;
-use mh_core::{Book, PendingChange, Refusal, Reply, SharedPlan};
+use mh_core::{Book, PendingChange, Record, Refusal, Reply, SharedPlan};
 use mh_ledger::Ledger;
 use mh_site::Listing;
 use mh_tree::Declared;
@@ -50,7 +49,7 @@ impl<N: Name> Model for Office<N> {
       closed = o.closed;
     } };
 
-    ghost invariant = { λ o. InStep N.book N.definition o.writer.desk.shown.value (drop o.writer.behind o.writer.log.items) o.front o.book o.closed };
+    ghost invariant = { λ o. InStep N.book N.definition N.limits N.workers o.writer.desk.shown.value (drop o.writer.behind o.writer.log.items) o.front o.book o.closed };
 }
 
 /// Its book.
@@ -86,7 +85,8 @@ impl<N: Name> Office<N> {
         front: Front<N>,
         writer: WorldWriter<N>,
     ) -> Office<N>
-        requires book { (book.records ≡ []) × (book.definition ≡ N.definition) }
+        requires book { (book.records ≡ []) × (book.definition ≡ N.definition)
+            × (book.limits ≡ N.limits) × (length book.totals.shares ≡ N.workers) }
         requires front { front ≡ [] }
         requires writer { Stands N.book N.definition writer.desk.shown.value
             × (writer.desk.shown.value.past.log ≡ []) × (drop writer.behind writer.log.items ≡ []) }
@@ -104,10 +104,9 @@ impl<N: Name> Office<N> {
     /// The book.
     pub fn book(&self) -> &Book
         ensures value { result.now ≡ self.now.book }
-        ensures office { IsOffice N.definition self.now }
+        ensures office { IsOffice N.definition N.limits N.workers self.now }
     {
-        // Read for what a book keeps.
-        let _records = self.book.records();
+        self.book.kept();
         let _front = &self.front;
         &self.book
     }
@@ -132,7 +131,8 @@ impl<N: Name> Office<N> {
     /// Refused with `NotHeld` where the totals do not hold the ledger, and then as by the book;
     /// nothing changes.
     pub fn flush(&mut self, ledger: &mut Ledger) -> Result<Receipt<N>, FlushFault>
-        ensures office { IsOffice N.definition self.old }
+        ensures office { IsOffice N.definition N.limits N.workers self.old }
+        ensures totals { IsTotals self.old.book.totals }
         ensures held { OnOk result (Holds self.old.book.totals ledger.old) }
         ensures accepted { IfOk result
             (λ r. Accepts self.old (Flushed ledger.old.worker (hits_in ledger.old.unflushed)) r
@@ -144,8 +144,8 @@ impl<N: Name> Office<N> {
         ensures refused { IfErr result (IsLegalFault self.old.book ledger.old) }
         ensures kept { OnErr result ((self.new ≡ self.old) × (ledger.new ≡ ledger.old)) }
     {
-        // Read for what a book keeps.
-        let _records = self.book.records();
+        self.book.kept();
+        let _links = self.book.totals().links();
         if !self.book.holds(ledger) {
             return Err(FlushFault::NotHeld);
         }
@@ -159,40 +159,33 @@ impl<N: Name> Office<N> {
     /// nothing.
     ///
     /// Refused as by the book; nothing changes.
-    #[tactic(auto, using(crate::proofs::Answering::snapshots_taken))]
     pub fn snapshot(&mut self) -> Result<Receipt<N>, Refusal>
-        ensures office { IsOffice N.definition self.old }
+        ensures office { IsOffice N.definition N.limits N.workers self.old }
         ensures accepted { IfOk result (λ r. Accepts self.old Snapped r self.new) }
         ensures totals { self.new.book.totals ≡ self.old.book.totals }
         ensures refused { IfErr result (IsLegalRefusal self.old.book Snapped) }
         ensures kept { OnErr result (self.new ≡ self.old) }
     {
-        // Read for what a book keeps.
-        let _records = self.book.records();
-        let snapshot = self.book.snapshot()?;
-        Ok(Receipt::new(Reply::Taken { snapshot }, self.front.copy()))
+        self.book.kept();
+        let reply = self.book.accept(0, Record::Snapped)?;
+        Ok(Receipt::new(reply, self.front.copy()))
     }
 
     /// Publishes a plan for the problem of a snapshot, and answers the plan and its number, from 1.
     /// It changes no world, and passes read what they read before.
     ///
     /// Refused as by the book; nothing changes.
-    #[tactic(auto, using(crate::proofs::Answering::plans_published))]
     pub fn publish(&mut self, snapshot: usize, plan: SharedPlan) -> Result<Receipt<N>, Refusal>
-        ensures office { IsOffice N.definition self.old }
+        ensures office { IsOffice N.definition N.limits N.workers self.old }
         ensures accepted { IfOk result
             (λ r. Accepts self.old (Published snapshot plan) r self.new) }
         ensures totals { self.new.book.totals ≡ self.old.book.totals }
         ensures refused { IfErr result (IsLegalRefusal self.old.book (Published snapshot plan)) }
         ensures kept { OnErr result (self.new ≡ self.old) }
     {
-        // Read for what a book keeps.
-        let _records = self.book.records();
-        let Ok(recorded) = plan.share() else {
-            return Err(refusal_of_plan(&self.book, snapshot));
-        };
-        let number = self.book.publish(snapshot, recorded)?;
-        Ok(Receipt::new(Reply::Published { number, plan }, self.front.copy()))
+        self.book.kept();
+        let reply = self.book.accept(0, Record::Published { snapshot, plan })?;
+        Ok(Receipt::new(reply, self.front.copy()))
     }
 
     /// Retargets a site (`MutableCallSite.setTarget`), by one publication.
@@ -205,18 +198,18 @@ impl<N: Name> Office<N> {
         site: usize,
         tree: Declared,
     ) -> Result<Receipt<N>, Refusal>
-        ensures office { IsOffice N.definition self.old }
+        ensures office { IsOffice N.definition N.limits N.workers self.old }
         ensures accepted { IfOk result (λ r. Accepts self.old (Targeted site tree) r self.new) }
         ensures open { OnOk result (self.old.closed ≡ false) }
         ensures totals { self.new.book.totals ≡ self.old.book.totals }
         ensures refused { IfErr result (IsLegalRefusal self.old.book (Targeted site tree)) }
         ensures kept { OnErr result (IsUntouched self.old self.new) }
-        ensures closed { IfErr result (λ told. MayClose self.old told self.new) }
+        ensures closed { IfErr result (λ told. MayClose self.old (Targeted site tree) told
+            self.new) }
     {
-        // Read for what a book keeps.
-        let _records = self.book.records();
-        let change = self.book.prepare_target(site, tree)?;
-        self.accept(rt, change, Reply::Done)
+        self.book.kept();
+        let change = self.book.prepare(0, Record::Targeted { site, tree })?;
+        self.accept(rt, change)
     }
 
     /// Invalidates points (`SwitchPoint.invalidateAll`), by one publication.
@@ -228,18 +221,18 @@ impl<N: Name> Office<N> {
         rt: &R,
         points: Listing<u32>,
     ) -> Result<Receipt<N>, Refusal>
-        ensures office { IsOffice N.definition self.old }
+        ensures office { IsOffice N.definition N.limits N.workers self.old }
         ensures accepted { IfOk result (λ r. Accepts self.old (Invalidated points) r self.new) }
         ensures open { OnOk result (self.old.closed ≡ false) }
         ensures totals { self.new.book.totals ≡ self.old.book.totals }
         ensures refused { IfErr result (IsLegalRefusal self.old.book (Invalidated points)) }
         ensures kept { OnErr result (IsUntouched self.old self.new) }
-        ensures closed { IfErr result (λ told. MayClose self.old told self.new) }
+        ensures closed { IfErr result (λ told. MayClose self.old (Invalidated points) told
+            self.new) }
     {
-        // Read for what a book keeps.
-        let _records = self.book.records();
-        let change = self.book.prepare_invalidation(points)?;
-        self.accept(rt, change, Reply::Done)
+        self.book.kept();
+        let change = self.book.prepare(0, Record::Invalidated { points })?;
+        self.accept(rt, change)
     }
 
     /// Installs the newest plan, by one publication, and answers what became of the sites.
@@ -247,50 +240,42 @@ impl<N: Name> Office<N> {
     /// Refused as by the book, and with `NoMemory` where no test fails and the office is closed, or
     /// what passes read cannot be changed. Records and what passes read stay as they are.
     pub fn install<R: Wait>(&mut self, rt: &R, plan: usize) -> Result<Receipt<N>, Refusal>
-        ensures office { IsOffice N.definition self.old }
+        ensures office { IsOffice N.definition N.limits N.workers self.old }
         ensures accepted { IfOk result (λ r. Accepts self.old (Installed plan) r self.new) }
         ensures open { OnOk result (self.old.closed ≡ false) }
         ensures totals { self.new.book.totals ≡ self.old.book.totals }
         ensures refused { IfErr result (IsLegalRefusal self.old.book (Installed plan)) }
         ensures kept { OnErr result (IsUntouched self.old self.new) }
-        ensures closed { IfErr result (λ told. MayClose self.old told self.new) }
+        ensures closed { IfErr result (λ told. MayClose self.old (Installed plan) told
+            self.new) }
     {
-        // Read for what a book keeps.
-        let _records = self.book.records();
-        let (change, report) = self.book.prepare_installation(plan)?;
-        self.accept(rt, change, Reply::Installed(report))
+        self.book.kept();
+        let change = self.book.prepare(0, Record::Installed { plan })?;
+        self.accept(rt, change)
     }
 
-    // Publishes a prepared control, and then commits it. What is refused after the control is
-    // pending closes the office.
-    fn accept<R: Wait>(
-        &mut self,
-        rt: &R,
-        change: PendingChange,
-        reply: Reply,
-    ) -> Result<Receipt<N>, Refusal>
+    // Publishes what a prepared change of the world changes, and then commits it. What is refused
+    // after the control is pending closes the office.
+    fn accept<R: Wait>(&mut self, rt: &R, change: PendingChange) -> Result<Receipt<N>, Refusal>
         requires ready { IsReady self.old.book change }
         requires calls { change.calls ≡ 0 }
-        requires reply { reply ≡ reply_to self.old.book.definition self.old.book.records
-            change.entry }
         ensures accepted { IfOk result (λ r. Accepts self.old change.entry r self.new) }
         ensures open { OnOk result (self.old.closed ≡ false) }
         ensures totals { self.new.book.totals ≡ self.old.book.totals }
         ensures refused { IfErr result (λ told. (told ≡ Refusal.NoMemory)
             × (self.new.book ≡ self.old.book) × (self.new.published ≡ self.old.published)) }
-        ensures closed { IfErr result (λ told. MayClose self.old told self.new) }
+        ensures closed { OnErr result (self.old.closed ≡ true → self.new.closed ≡ true) }
     {
-        // Read for what a book keeps.
-        let _records = self.book.records();
+        self.book.kept();
         if self.closed {
             return Err(Refusal::NoMemory);
         }
-        let Ok(control) = change.control() else {
+        let Ok(Some(control)) = change.control() else {
             return Err(Refusal::NoMemory);
         };
         match show(rt, &mut self.writer, &self.head, &self.front, control) {
             Ok(front) => {
-                self.book.commit(change);
+                let reply = self.book.commit(change);
                 self.front = front;
                 Ok(Receipt::new(reply, self.front.copy()))
             }
@@ -304,12 +289,11 @@ impl<N: Name> Office<N> {
 
     /// Waits for the readers, and gives the book and the list of its controls.
     pub(crate) fn close<R: Wait>(self, rt: &R) -> (Book, Front<N>)
-        ensures office { IsOffice N.definition self }
+        ensures office { IsOffice N.definition N.limits N.workers self }
         ensures book { result.0 ≡ self.book }
         ensures front { result.1 ≡ self.published }
     {
-        // Read for what a book keeps.
-        let _records = self.book.records();
+        self.book.kept();
         let Office {
             book,
             head: _,
@@ -319,16 +303,5 @@ impl<N: Name> Office<N> {
         } = self;
         writer.take(rt);
         (book, front)
-    }
-}
-
-// What is told of a plan of which no further owner could be made.
-fn refusal_of_plan(book: &Book, snapshot: usize) -> Refusal
-    ensures value { ((result ≡ Refusal.NoSnapshot) × (IsTaken book.now.records snapshot → ⊥))
-        ⊎ ((result ≡ Refusal.NoMemory) × IsTaken book.now.records snapshot) }
-{
-    match book.problem(snapshot) {
-        Ok(_) => Refusal::NoMemory,
-        Err(refusal) => refusal,
     }
 }

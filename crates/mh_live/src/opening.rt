@@ -107,14 +107,16 @@ impl Opening {
         })
     }
 
-    /// The office, and a pass for each worker, in order. N names this opening: its book, and its
-    /// definition.
+    /// The office, and a pass for each worker, in order. N names this opening: its book, its
+    /// definition, its limits and how many workers it has.
     ///
     /// Refused with `NoMemory`, and with `NoReader` where no reader of the published world can be
     /// made.
     pub fn open<N: Name>(self) -> Result<(Live<N>, Vec<Pass<N>>), OpenFault>
         requires name { self.name ≡ N.book }
         requires definition { self.definition ≡ N.definition }
+        requires limits { self.limits ≡ N.limits }
+        requires workers { self.workers ≡ N.workers }
         ensures passes { IfOk result (λ t. t.1.items
             ≡ new_passes self.definition self.limits.ledger self.workers) }
         ensures held { IfOk result (λ t. AreHeld

@@ -4,7 +4,8 @@ ghost use Rattle.std.specs.Prelude.{◌≡◌, ◌<◌, ◌==◌, ◌↔◌, ◌
 ghost use Rattle.std.specs.List.{All, count_by, range_with_len};
 ghost use Rattle.mh_ledger.specs.Ledgers.{Holds, IsTotals};
 ghost use Rattle.mh_live.specs.Limits.{most_hits_of_all};
-ghost use Rattle.mh_live.specs.Settled.{AreBack, IsWithin, unflushed_by};
+ghost use Rattle.mh_live.specs.Receipts.{IsOffice};
+ghost use Rattle.mh_live.specs.Settled.{AreBack, IsUnsettledBy, IsWithin, unflushed_by};
 
 use crate::front::{Front, Name};
 use crate::office::Office;
@@ -19,13 +20,13 @@ pub(crate) fn unflushed_hits<N: Name>(
     office: &Office<N>,
     passes: &[Pass<N>],
 ) -> Result<Vec<u128>, SettleFault>
+    ensures office { IsOffice N.definition N.limits N.workers office.now }
     ensures totals { IsTotals office.now.book.totals }
     ensures back { OnOk result (AreBack office.now.book.totals passes.now) }
     ensures value { IfOk result (λ v. v.items
         ≡ map (unflushed_by passes.now) (range_with_len 0 (length office.now.book.totals.total))) }
     ensures within { IfOk result (λ v. All (λ n. n ≤ most_hits_of_all) v.items) }
-    ensures missing { (result ≡ Err SettleFault.MissingPass)
-        ↔ (AreBack office.now.book.totals passes.now → ⊥) }
+    ensures refused { IfErr result (IsUnsettledBy office.now.book.totals passes.now) }
 {
     let totals = office.book().totals();
     // Read for what totals keep.
@@ -96,7 +97,7 @@ fn are_held<N: Name>(totals: &Totals, passes: &[Pass<N>]) -> bool
     passes.iter().all(|pass| totals.holds(pass.ledger()))
 }
 
-// What each pass has seen begins the list, or is longer.
+// Of what each pass has seen and the list one begins the other.
 pub(crate) fn compare_all<N: Name>(passes: &[Pass<N>], front: &Front<N>)
     ensures within { All (IsWithin front.now) passes.now }
 {

@@ -4,7 +4,6 @@ ghost use Rattle.std.specs.Prelude.{◌≡◌, ◌+◌, ◌<◌, ◌≤◌, leng
 ghost use Rattle.std.specs.List.{All};
 ghost use Rattle.mh_ledger.specs.Ledgers.{at};
 ghost use Rattle.mh_site.specs.Links.{links};
-ghost use Rattle.mh_core.specs.Books.{IsBook};
 ghost use Rattle.mh_ledger.specs.Limits.{greatest_limit};
 ghost use Rattle.mh_live.specs.Limits.{most_hits_of_all};
 ghost use Rattle.mh_live.specs.Offices.{list_of};
@@ -37,7 +36,7 @@ impl<N: Name> Model for Settled<N> {
 
     ghost view = { λ s. record { book = s.book; unflushed = s.unflushed.items; front = s.front } };
 
-    ghost invariant = { λ s. IsSettled N.definition record {
+    ghost invariant = { λ s. IsSettled N.definition N.limits N.workers record {
       book = s.book;
       unflushed = s.unflushed.items;
       front = s.front;
@@ -55,7 +54,7 @@ impl<N: Name> Settled<N> {
     /// The book of an office with the list of its controls, and for each link the hits that were
     /// not flushed.
     pub(crate) fn new(book: Book, unflushed: Vec<u128>, front: Front<N>) -> Settled<N>
-        requires settled { IsSettled N.definition record
+        requires settled { IsSettled N.definition N.limits N.workers record
             { book = book; unflushed = unflushed.items; front = front } }
         ensures value { result ≡ record
             { book = book; unflushed = unflushed.items; front = front } }
@@ -70,7 +69,7 @@ impl<N: Name> Settled<N> {
     /// The number of links.
     pub fn links(&self) -> usize
         ensures count { result ≡ length (links N.definition) }
-        ensures settled { IsSettled N.definition self.now }
+        ensures settled { IsSettled N.definition N.limits N.workers self.now }
     {
         self.unflushed.len()
     }

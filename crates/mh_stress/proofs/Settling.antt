@@ -9,6 +9,7 @@ use Rattle.mh_site.specs.Defined.{DefinitionData}
 use Rattle.mh_site.specs.Links.{links}
 use Rattle.mh_core.specs.Laws.{few_links}
 use Rattle.mh_core.specs.Books.{Legal}
+use Rattle.mh_core.specs.Limits.{LimitsData}
 use Rattle.mh_core.specs.Records.{total}
 use Rattle.mh_live.specs.Passes.{PassState, new_passes}
 use Rattle.mh_live.specs.Settled.{IsSettled, SettledState, Settles}
@@ -19,8 +20,8 @@ use Rattle.mh_stress.specs.declared.sums.Sums.{Sums}
 use Rattle.mh_stress.proofs.WorkerSums.{made_within, sum_small}
 
 -- a settlement is over 4,096 links at most
-pub few_places : (d : DefinitionData) (s : SettledState) → IsSettled d s → length (links d) ≤ 16384
-few_places d s is = subst (λ (x : DefinitionData). length (links x) ≤ 16384) is.definition (few_links s.book.definition is.lawful.definition)
+pub few_places : (d : DefinitionData) (l : LimitsData) (n : ℕ) (s : SettledState) → IsSettled d l n s → length (links d) ≤ 16384
+few_places d l n s is = subst (λ (x : DefinitionData). length (links x) ≤ 16384) is.definition (few_links s.book.definition is.lawful.definition)
 
 -- sums of what is the same below a bound
 sum_same : (f g : ℕ → ℕ) (a n : ℕ) → ((j : ℕ) → a ≤ j → j < a + n → f j ≡ g j) → sum_by f (range_with_len a n) ≡ sum_by g (range_with_len a n)
@@ -55,14 +56,13 @@ module _ (d : DefinitionData) (calls : List Call) (limit workers rounds : ℕ) (
       let hits = few_hits d calls workers rounds j short some few in
       omega (arith, made, within, hits)
 
-  pub is_settlement : IsSettled d s → (sums : Sums) → sums ≡ sums_over (length (links d)) flushed rest → IsSettlement d calls workers rounds sums
-  is_settlement is sums e =
+  pub is_settlement : (l : LimitsData) (n : ℕ) → IsSettled d l n s → (sums : Sums) → sums ≡ sums_over (length (links d)) flushed rest → IsSettlement d l calls workers rounds sums
+  is_settlement l n is sums e =
       let kept : (j : ℕ) → j < length (links d) → flushed j ≡ total s.book.records j = λ j lt. is.lawful.totals.sums j (subst (λ (x : DefinitionData). j < length (links x)) (sym is.definition) lt) in
       let same = sum_same flushed (total s.book.records) 0 (length (links d)) (λ j low high. kept j (omega (arith, high))) in
       record {
-        limits = s.book.limits;
         records = s.book.records;
-        legal = subst (λ (x : DefinitionData). Legal x s.book.limits s.book.records) is.definition is.lawful.legal;
+        legal = subst (λ (m : LimitsData). Legal d m s.book.records) is.limits (subst (λ (x : DefinitionData). Legal x s.book.limits s.book.records) is.definition is.lawful.legal);
         unflushed = rest;
         within = λ j lt.
             let made = settles.made_is j lt in

@@ -60,11 +60,11 @@ sums_over n total unflushed =
 abbrev pub hits_of_round : DefinitionData → List Call → ℕ → ℕ → ℕ
 hits_of_round d calls workers j = sum_by (λ w. times_hit d calls w j) (range_with_len 0 workers)
 
--- The totals are those of some legal records over the definition. No link has more hits than all rounds of the calls make.
-pub record IsSettlement (d : DefinitionData) (calls : List Call) (workers rounds : ℕ) (sums : Sums) : Type 0 where
-  pub limits : LimitsData
+-- The totals are those of some records over the definition that are legal within the limits. No link has more hits than all rounds
+-- of the calls make.
+pub record IsSettlement (d : DefinitionData) (l : LimitsData) (calls : List Call) (workers rounds : ℕ) (sums : Sums) : Type 0 where
   pub records : List Record
-  pub legal : Legal d limits records
+  pub legal : Legal d l records
   pub unflushed : ℕ → ℕ
   pub within : (j : ℕ) → j < length (links d) → total records j + unflushed j ≤ rounds * hits_of_round d calls workers j
   pub sums_are : sums ≡ sums_over (length (links d)) (total records) unflushed
@@ -72,7 +72,7 @@ pub record IsSettlement (d : DefinitionData) (calls : List Call) (workers rounds
 -- the same of a script
 abbrev pub IsSettlementOf : StressOptions → Script → Sums → Type 0
 IsSettlementOf options script =
-    IsSettlement script.definition (calls_in script.steps) (workers_of options.workers script.workers) options.rounds
+    IsSettlement script.definition script.limits (calls_in script.steps) (workers_of options.workers script.workers) options.rounds
 
 -- `settled made 9 totals 9 unflushed 0`
 abbrev pub settled_text : Sums → List ℕ

@@ -56,7 +56,7 @@ fn settle_rounds<N: Name + Send + Sync, T: Threads + Wait + Sync>(
     requires fresh { AreFresh N.definition passes.items }
     requires workers { (0 < length passes.items) × (length passes.items ≤ most_workers) }
     requires rounds { rounds ≤ most_rounds }
-    ensures settled { IfOk result (IsSettlement N.definition division.calls.items
+    ensures settled { IfOk result (IsSettlement N.definition N.limits division.calls.items
         (length passes.items) rounds) }
     ensures told { IfErr result (λ e. e ≡ outside no_memory) }
 {
@@ -81,9 +81,12 @@ fn run_threads<N: Name + Send + Sync, T: Threads + Wait + Sync>(
 ) -> Result<Sums, Fault>
     requires name { opening.name ≡ N.book }
     requires definition { opening.definition ≡ N.definition }
-    requires workers { (0 < opening.workers) × (opening.workers ≤ most_workers) }
+    requires limits { opening.limits ≡ N.limits }
+    requires workers { opening.workers ≡ N.workers }
+    requires some { 0 < opening.workers }
+    requires few { opening.workers ≤ most_workers }
     requires rounds { rounds ≤ most_rounds }
-    ensures settled { IfOk result (IsSettlement opening.definition division.calls.items
+    ensures settled { IfOk result (IsSettlement opening.definition opening.limits division.calls.items
         opening.workers rounds) }
     ensures told { IfErr result (λ e. (e ≡ outside no_memory) ⊎ (e ≡ outside NoReader)) }
 {

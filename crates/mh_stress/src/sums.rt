@@ -21,7 +21,7 @@ pub struct Sums {
 pub(crate) fn sums_of<N: Name>(settled: &Settled<N>) -> Sums
     requires small { (j : ℕ) → j < length (links N.definition)
         → at settled.now.unflushed j ≤ most_unflushed }
-    ensures settled { IsSettled N.definition settled.now }
+    ensures settled { IsSettled N.definition N.limits N.workers settled.now }
     ensures value { result ≡ sums_over (length (links N.definition))
         (at settled.now.book.totals.total) (at settled.now.unflushed) }
 {

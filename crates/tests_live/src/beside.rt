@@ -172,6 +172,8 @@ fn count_beside<N: Name + Send + Sync, R: Wait + Threads + Sync>(
 ) -> Result<Counts, Fail>
     requires name { opening.name ≡ N.book }
     requires definition { opening.definition ≡ N.definition }
+    requires limits { opening.limits ≡ N.limits }
+    requires workers { opening.workers ≡ N.workers }
 {
     let (live, passes) = opening.open::<N>()?;
     let passes = call_beside(rt, alloc, &live, passes, calls, retargetings)?;

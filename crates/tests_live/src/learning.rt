@@ -20,6 +20,8 @@ fn learn<N: Name>(pass: &mut Pass<N>, receipt: &Receipt<N>) -> u64 {
 fn open_one<N: Name>(opening: Opening) -> Result<(Live<N>, Pass<N>), Fail>
     requires name { opening.name ≡ N.book }
     requires definition { opening.definition ≡ N.definition }
+    requires limits { opening.limits ≡ N.limits }
+    requires workers { opening.workers ≡ N.workers }
 {
     let (live, mut passes) = opening.open::<N>()?;
     match passes.pop() {
@@ -66,6 +68,8 @@ fn calls_around_a_receipt<N: Name, R: Wait>(
 ) -> Result<[CallAnswer; 2], Fail>
     requires name { opening.name ≡ N.book }
     requires definition { opening.definition ≡ N.definition }
+    requires limits { opening.limits ≡ N.limits }
+    requires workers { opening.workers ≡ N.workers }
 {
     let (live, mut pass) = open_one::<N>(opening)?;
     call_around_learning(rt, alloc, &live, &mut pass)

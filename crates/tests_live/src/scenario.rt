@@ -353,6 +353,8 @@ fn play_named<N: Name, R: Wait + Threads + Sync>(
 ) -> Result<usize, Fail>
     requires name { opening.name ≡ N.book }
     requires definition { opening.definition ≡ N.definition }
+    requires limits { opening.limits ≡ N.limits }
+    requires workers { opening.workers ≡ N.workers }
 {
     let (live, passes) = opening.open::<N>()?;
     let mut running = Running {

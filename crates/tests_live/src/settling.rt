@@ -59,6 +59,8 @@ fn settles_all_hits<N: Name, R: Wait>(
 ) -> Result<(bool, Counts), Fail>
     requires name { opening.name ≡ N.book }
     requires definition { opening.definition ≡ N.definition }
+    requires limits { opening.limits ≡ N.limits }
+    requires workers { opening.workers ≡ N.workers }
 {
     let (live, mut passes) = opening.open::<N>()?;
     let right = work_each(rt, &live, &mut passes);
@@ -116,6 +118,8 @@ fn settle_without<N: Name, R: Wait>(
 fn settles_late<N: Name, R: Wait>(rt: &R, alloc: Global, opening: Opening) -> Result<Late, Fail>
     requires name { opening.name ≡ N.book }
     requires definition { opening.definition ≡ N.definition }
+    requires limits { opening.limits ≡ N.limits }
+    requires workers { opening.workers ≡ N.workers }
 {
     let (live, mut passes) = opening.open::<N>()?;
     match passes.pop() {

@@ -77,7 +77,7 @@ past_legal d l (Flushed w hits ∷ r) n legal taken = past_legal d l r n legal.1
 past_legal d l (Targeted t tree ∷ r) n legal taken = past_legal d l r n legal.1 taken
 past_legal d l (Invalidated points ∷ r) n legal taken = past_legal d l r n legal.1 taken
 past_legal d l (Snapped ∷ r) n legal taken = elim (cases_lt (snapshots r) n) [
-  | inl last ↦ subst (WasLegal d l) (sym (past_last r n (omega (arith, last, taken.1)))) record { legal = legal.1; gains = legal.0.1.1.0 }
+  | inl last ↦ subst (WasLegal d l) (sym (past_last r n (omega (arith, last, taken.1)))) record { legal = legal.1; gains = legal.0.1.1.1.0 }
   | inr earlier ↦ subst (WasLegal d l) (sym (past_earlier r n earlier)) (past_legal d l r n legal.1 (taken.0, earlier))
 ]
 past_legal d l (Published m plan ∷ r) n legal taken = past_legal d l r n legal.1 taken
@@ -86,7 +86,7 @@ past_legal d l (Installed m ∷ r) n legal taken = past_legal d l r n legal.1 ta
 -- no total passes its limit
 pub total_within : (d : DefinitionData) (l : LimitsData) (r : List Record) (j : ℕ) → Legal d l r → j < length (links d) → total r j ≤ l.total
 total_within d l [] j legal h = omega arith
-total_within d l (Flushed w hits ∷ r) j legal h = legal.0.1.1.0 j h
+total_within d l (Flushed w hits ∷ r) j legal h = legal.0.1.1.1.0 j h
 total_within d l (Targeted t tree ∷ r) j legal h = total_within d l r j legal.1 h
 total_within d l (Invalidated points ∷ r) j legal h = total_within d l r j legal.1 h
 total_within d l (Snapped ∷ r) j legal h = total_within d l r j legal.1 h

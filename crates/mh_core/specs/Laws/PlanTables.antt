@@ -105,7 +105,7 @@ was_tested d l (Invalidated points ∷ r) m legal known = let was = was_tested d
 was_tested d l (Snapped ∷ r) m legal known = snapped_tested d r (plan_at r m) (was_tested d l r m legal.1 known)
 was_tested d l (Published n plan ∷ r) m legal known = elim (cases_lt (plans r) m) [
   | inl last ↦
-      subst (WasTested d (Published n plan ∷ r)) (sym (plan_last r n plan m (omega (arith, last, known.1)))) record { taken = legal.0.1.0; matching = legal.0.1.1.0 }
+      subst (WasTested d (Published n plan ∷ r)) (sym (plan_last r n plan m (omega (arith, last, known.1)))) record { taken = legal.0.1.1.0; matching = legal.0.1.1.1.0 }
   | inr earlier ↦
       let was = was_tested d l r m legal.1 (known.0, earlier) in
       subst (WasTested d (Published n plan ∷ r)) (sym (plan_earlier r n plan m earlier)) record { taken = was.taken; matching = was.matching }

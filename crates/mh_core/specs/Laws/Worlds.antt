@@ -228,7 +228,7 @@ base_suits d l (Flushed w hits ∷ r) s is h legal = base_suits d l r s is h leg
 base_suits d l (Targeted t tree ∷ r) s is h legal =
     suits_cond d s (t == s) tree (base d r s)
     (λ e. let same : t ≡ s = grind (arith, nat_tests) in
-    record { signature = legal.0.1.1.0 ∙ ap (λ (i : ℕ). (site_at d i).method_type) same; points = legal.0.1.1.1.0 })
+    record { signature = legal.0.1.1.1.0 ∙ ap (λ (i : ℕ). (site_at d i).method_type) same; points = legal.0.1.1.1.1.0 })
     (base_suits d l r s is h legal.1)
 base_suits d l (Invalidated points ∷ r) s is h legal = base_suits d l r s is h legal.1
 base_suits d l (Snapped ∷ r) s is h legal = base_suits d l r s is h legal.1

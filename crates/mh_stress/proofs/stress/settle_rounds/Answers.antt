@@ -20,4 +20,4 @@ returns-in-Ok-clause-settled g c =
     let calls = c.args.division.calls in
     let workers = length c.args.passes.items in
     let worked = subst (λ (l : List PassState). HaveWorked g.N.Name.definition calls.items c.args.rounds l c.in-Some.passes.items) c.requires.fresh.passes_are c.in-Some.ensures.worked in
-    is_settlement g.N.Name.definition calls.items c.requires.fresh.limit workers c.args.rounds c.in-Some.passes.items worked c.in-Ok.settled c.in-Ok.ensures.sums c.sums_of.ensures.settled c.sums_of.result c.sums_of.ensures.value
+    is_settlement g.N.Name.definition calls.items c.requires.fresh.limit workers c.args.rounds c.in-Some.passes.items worked c.in-Ok.settled c.in-Ok.ensures.sums g.N.Name.limits g.N.Name.workers c.sums_of.ensures.settled c.sums_of.result c.sums_of.ensures.value

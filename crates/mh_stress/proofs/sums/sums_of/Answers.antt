@@ -27,13 +27,13 @@ loop-link-preserved g c =
 
 pub overflow_add-unflushed : goal.overflow_add-unflushed
 overflow_add-unflushed g c =
-    let few = few_places g.N.Name.definition c.args.settled.now c.links-link-end.ensures.settled in
+    let few = few_places g.N.Name.definition g.N.Name.limits g.N.Name.workers c.args.settled.now c.links-link-end.ensures.settled in
     let small = c.requires.small c.loop-link.link (omega (arith, c.loop-link-test.true, c.links-link-end.ensures.count)) in
     omega (arith, c.loop-link.invariant.within, c.unflushed-unflushed.ensures.value, small, c.loop-link-test.true, c.links-link-end.ensures.count, few)
 
 pub overflow_add-result : goal.overflow_add-result
 overflow_add-result g c =
-    let few = few_places g.N.Name.definition c.args.settled.now c.links-link-end.ensures.settled in
+    let few = few_places g.N.Name.definition g.N.Name.limits g.N.Name.workers c.args.settled.now c.links-link-end.ensures.settled in
     omega (arith, c.loop-link.invariant.within, c.loop-link.invariant.small, c.loop-link.auto.link-end, c.links-link-end.ensures.count, few)
 
 pub returns : goal.returns

@@ -6,4 +6,4 @@ use Rattle.mh_live.proofs.live.Live.invalidate.Goals as goal
 pub returns-clause-refused : goal.returns-clause-refused
 returns-clause-refused g c =
     MatchResult-weaker c.invalidate.result c.invalidate.ensures.refused (λ _ always. always)
-    (λ told legal. refusal_of g.N.Name.definition _ (Invalidated c.args.points) told c.invalidate.ensures.office legal)
+    (λ told legal. refusal_of g.N.Name.definition g.N.Name.limits g.N.Name.workers _ (Invalidated c.args.points) told c.invalidate.ensures.office legal)

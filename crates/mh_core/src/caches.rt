@@ -1,0 +1,186 @@
+//! The links of a plan that an installation can use, and the inline caches that they make.
+
+ghost use Rattle.std.specs.Prelude.{◌≡◌, ◌<◌, ◌≤◌, ◌&&◌, not, nat_lt, length, map, IfOk};
+ghost use Rattle.std.specs.List.{All};
+ghost use Rattle.std.specs.List.Sorted.{IsStrictlyIncreasing};
+ghost use Rattle.mh_network.specs.Selection.{member};
+ghost use Rattle.mh_site.specs.Links.{links as links_of, site_of as site_of_link};
+ghost use Rattle.mh_core.specs.Books.{IsBook};
+ghost use Rattle.mh_core.specs.Installations.{IsPublished, cached, chosen, entry as entry_of, is_concerned as concerns, is_current as is_current_at, kept, left_out as left_out_of, plan_at, usable as usable_of};
+ghost use Rattle.mh_core.specs.Problems.{is_eligible as is_eligible_after};
+ghost use Rattle.mh_core.specs.Records.{base};
+
+use crate::book::Book;
+use crate::problem::{all_valid, link_of};
+use mh_base::NoMemory;
+use mh_pic::{Entry, prepared_chain};
+use mh_site::{KeptLinks, Listing};
+use mh_tree::{Handle, Prepared};
+
+impl Book {
+    // The plan's links that an installation does not link, since a need is invalid.
+    pub(crate) fn left_out(&self, plan: usize) -> Result<Listing<u32>, NoMemory>
+        requires published { IsPublished self.now.records plan }
+        ensures value { IfOk result (λ links. links
+            ≡ left_out_of self.now.definition self.now.records plan) }
+    {
+        let mut left_out = Vec::new(self.alloc);
+        for link in self.links_of_plan(plan) {
+            if self.is_left_out(plan, *link as usize) {
+                left_out.push(*link)?;
+            }
+        }
+        Ok(Listing::from_vec(left_out))
+    }
+
+    fn is_left_out(&self, plan: usize, link: usize) -> bool
+        requires published { IsPublished self.now.records plan }
+        requires inside { link < length (links_of self.now.definition) }
+        ensures value { result ≡ (is_current_at self.now.records plan
+            (site_of_link self.now.definition link) && not
+            (is_eligible_after self.now.definition self.now.records link)) }
+    {
+        self.is_current(plan, self.definition.site_of(link)) && !self.is_eligible(link)
+    }
+
+    // The inline cache of the usable links of a site over its base tree.
+    pub(crate) fn make_cache(
+        &self,
+        plan: usize,
+        site: usize,
+        links: &[usize],
+    ) -> Result<Prepared, NoMemory>
+        requires inside { site < length self.now.definition.sites }
+        requires usable { links.now ≡ usable_of self.now.definition self.now.records plan site }
+        ensures value { IfOk result (λ p. p
+            ≡ cached self.now.definition site (base self.now.definition self.now.records site)
+            links.now) }
+    {
+        let base = prepare(self.world.base(site).handle())?;
+        let Some(key_place) = self.definition.key(site) else {
+            return Ok(base);
+        };
+        let entries = self.entries(links)?;
+        let cache = prepared_chain(self.alloc, &base, key_place, &entries)?;
+        Ok(cache)
+    }
+
+    fn entries(&self, links: &[usize]) -> Result<Vec<Entry>, NoMemory>
+        requires inside { All (λ j. j < length (links_of self.now.definition)) links.now }
+        ensures value { IfOk result (λ v. v.items ≡ map (entry_of self.now.definition) links.now) }
+    {
+        let mut entries = Vec::new(self.alloc);
+        for link in links {
+            entries.push(self.entry(*link)?)?;
+        }
+        Ok(entries)
+    }
+
+    fn entry(&self, link: usize) -> Result<Entry, NoMemory>
+        requires inside { link < length (links_of self.now.definition) }
+        ensures value { IfOk result (λ e. e ≡ entry_of self.now.definition link) }
+    {
+        let declared = link_of(&self.definition, link);
+        let key = declared.when.share().map_err(|_| NoMemory)?;
+        let needs = declared.needs.as_slice().to_vec(self.alloc)?;
+        Ok(Entry::new(key, needs))
+    }
+
+    // The links of a site that a plan has and whose needs are all valid.
+    pub(crate) fn usable(&self, plan: usize, site: usize) -> KeptLinks
+        requires published { IsPublished self.now.records plan }
+        requires inside { site < length self.now.definition.sites }
+        ensures value { result.items ≡ usable_of self.now.definition self.now.records plan site }
+    {
+        let mut usable = KeptLinks::new();
+        let first = self.definition.first_link(site);
+        for link in first..first + self.definition.links(site).len() {
+            if self.is_usable(plan, link) {
+                usable.push(link);
+            }
+        }
+        usable
+    }
+
+    // Whether a plan has a link, and its needs are all valid.
+    fn is_usable(&self, plan: usize, link: usize) -> bool
+        requires published { IsPublished self.now.records plan }
+        requires inside { link < length (links_of self.now.definition) }
+        ensures value { result ≡ (member (plan_at self.now.records plan).plan.links link &&
+            is_eligible_after self.now.definition self.now.records link) }
+    {
+        self.has(plan, link) && self.is_eligible(link)
+    }
+
+    // Whether an installation concerns a site: the plan has a link of it, or it holds links.
+    pub(crate) fn is_concerned(&self, plan: usize, site: usize) -> bool
+        requires published { IsPublished self.now.records plan }
+        requires inside { site < length self.now.definition.sites }
+        ensures value { result ≡ concerns self.now.definition self.now.records plan site }
+    {
+        self.has_any(plan, site) || !self.world.kept(site).is_empty()
+    }
+
+    // Whether a plan has a link of a site.
+    fn has_any(&self, plan: usize, site: usize) -> bool
+        requires published { IsPublished self.now.records plan }
+        requires inside { site < length self.now.definition.sites }
+        ensures value { result ≡ nat_lt 0
+            (length (chosen self.now.definition self.now.records plan site)) }
+    {
+        let first = self.definition.first_link(site);
+        for link in first..first + self.definition.links(site).len() {
+            if self.has(plan, link) {
+                return true;
+            }
+        }
+        false
+    }
+
+    // Whether a plan has a link. O(log links).
+    fn has(&self, plan: usize, link: usize) -> bool
+        requires published { IsPublished self.now.records plan }
+        requires inside { link < length (links_of self.now.definition) }
+        ensures value { result ≡ member (plan_at self.now.records plan).plan.links link }
+    {
+        let links = self.links_of_plan(plan);
+        links.binary_search(&(link as u32)).is_ok()
+    }
+
+    // The links of a plan, ascending.
+    fn links_of_plan(&self, plan: usize) -> &[u32]
+        requires published { IsPublished self.now.records plan }
+        ensures value { result.now ≡ (plan_at self.now.records plan).plan.links }
+        ensures inside { All (λ j. j < length (links_of self.now.definition)) result.now }
+        ensures ascending { IsStrictlyIncreasing result.now }
+        ensures book { IsBook self.now }
+    {
+        self.plans[plan - 1].plan.plan().links.as_slice()
+    }
+
+    // Whether a site was not retargeted since the snapshot of a plan.
+    pub(crate) fn is_current(&self, plan: usize, site: usize) -> bool
+        requires published { IsPublished self.now.records plan }
+        requires inside { site < length self.now.definition.sites }
+        ensures value { result ≡ is_current_at self.now.records plan site }
+    {
+        let snapshot = self.plans[plan - 1].snapshot;
+        self.snapshots[snapshot - 1].versions()[site] == self.world.version(site)
+    }
+
+    // Whether all points that a link needs are valid.
+    fn is_eligible(&self, link: usize) -> bool
+        requires inside { link < length (links_of self.now.definition) }
+        ensures value { result ≡ is_eligible_after self.now.definition self.now.records link }
+    {
+        let needs = link_of(&self.definition, link).needs.as_slice();
+        all_valid(needs, self.world.valid())
+    }
+}
+
+// A tree with its code.
+fn prepare(handle: &Handle) -> Result<Prepared, NoMemory>
+    ensures value { IfOk result (λ p. p ≡ handle.now) }
+{
+    Prepared::new(handle).map_err(|_| NoMemory)
+}

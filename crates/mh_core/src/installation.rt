@@ -1,0 +1,90 @@
+//! What an installation changes, and its answer.
+
+ghost use Rattle.std.specs.Prelude.{◌≡◌, ◌<◌, ◌++◌, ◌∷◌, [], true, false, length, map, IfOk, OnOk};
+ghost use Rattle.mh_core.specs.Books.{reply_to};
+ghost use Rattle.mh_core.specs.Installations.{IsPublished, concerned, is_current, linkage_of, site_linkage};
+ghost use Rattle.mh_core.specs.Pending.{HasEffect};
+ghost use Rattle.mh_core.specs.Replayed.{changes, relinked};
+ghost use Rattle.mh_core.specs.declared.record.Record.TheVariants.{Installed};
+
+use crate::book::Book;
+use crate::install_report::{InstallReport, Linkage, SiteLinkage};
+use crate::pending::Effect;
+use crate::reply::Reply;
+use mh_base::NoMemory;
+use mh_site::{Control, Installation, Listing, Relinking};
+
+impl Book {
+    // What the installation of a plan changes, and its answer: each site is decided once.
+    pub(crate) fn installation(&self, plan: usize) -> Result<(Effect, Reply), NoMemory>
+        requires published { IsPublished self.now.records plan }
+        ensures effect { IfOk result (λ p. HasEffect self.now (Installed plan) p.0) }
+        ensures reply { IfOk result (λ p. p.1
+            ≡ reply_to self.now.definition self.now.records (Installed plan)) }
+    {
+        let (sites, changes) = self.decide(plan)?;
+        let left_out = self.left_out(plan)?;
+        let report = InstallReport { sites, left_out };
+        let control = Control::Install(Installation::new(changes));
+        Ok((Effect::World(control), Reply::Installed(report)))
+    }
+
+    // What becomes of each site that an installation concerns, and the new linked trees of those
+    // that it does not skip.
+    fn decide(&self, plan: usize) -> Result<(Listing<SiteLinkage>, Vec<Relinking>), NoMemory>
+        requires published { IsPublished self.now.records plan }
+        ensures sites { IfOk result (λ p. p.0
+            ≡ map (site_linkage self.now.definition self.now.records plan)
+            (concerned self.now.definition self.now.records plan)) }
+        ensures changes { IfOk result (λ p. p.1.items
+            ≡ changes self.now.definition self.now.records plan) }
+    {
+        let mut sites = Vec::new(self.alloc);
+        let mut relinkings = Vec::new(self.alloc);
+        for site in 0..self.definition.sites().len() {
+            if self.is_concerned(plan, site) {
+                let linkage = self.link(plan, site, &mut relinkings)?;
+                sites.push(SiteLinkage { site, linkage })?;
+            }
+        }
+        Ok((Listing::from_vec(sites), relinkings))
+    }
+
+    // Adds the new linked tree of a site, unless the installation skips it, and says what became
+    // of it.
+    fn link(
+        &self,
+        plan: usize,
+        site: usize,
+        relinkings: &mut Vec<Relinking>,
+    ) -> Result<Linkage, NoMemory>
+        requires published { IsPublished self.now.records plan }
+        requires inside { site < length self.now.definition.sites }
+        ensures linkage { IfOk result (λ l. record { site = site; linkage = l }
+            ≡ site_linkage self.now.definition self.now.records plan site) }
+        ensures linked { OnOk result (is_current self.now.records plan site ≡ true
+            → relinkings.new.items ≡ relinkings.old.items
+            ++ relinked self.now.definition self.now.records plan site ∷ []) }
+        ensures skipped { OnOk result (is_current self.now.records plan site ≡ false
+            → relinkings.new.items ≡ relinkings.old.items) }
+    {
+        if !self.is_current(plan, site) {
+            return Ok(Linkage::Skipped);
+        }
+        let kept = self.usable(plan, site);
+        let linkage = linkage(kept.as_slice());
+        let linked = self.make_cache(plan, site, kept.as_slice())?;
+        relinkings.push(Relinking::new(site, linked, kept))?;
+        Ok(linkage)
+    }
+}
+
+// What a site has with these links.
+fn linkage(links: &[usize]) -> Linkage
+    ensures value { result ≡ linkage_of links.now }
+{
+    match links.len() {
+        0 => Linkage::Unlinked,
+        count => Linkage::Linked(count),
+    }
+}
