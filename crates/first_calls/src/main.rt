@@ -8,7 +8,7 @@ mod events;
 mod planning;
 mod telling;
 
-use crate::definition::open;
+use crate::definition::{F, G, open};
 use crate::events::{flush, invalidate, retarget, take_snapshot};
 use crate::planning::{install, publish};
 use crate::telling::tell_call;
@@ -26,9 +26,9 @@ fn main(rt: HostRuntime) -> anyhow::Result<()> {
 
 /// Calls, of which two hit the link, and the hits in a snapshot.
 fn count_hits(rt: &impl Print, machine: &mut Machine) -> anyhow::Result<()> {
-    tell_call(rt, machine, 1)?;
-    tell_call(rt, machine, 1)?;
-    tell_call(rt, machine, 2)?;
+    tell_call(rt, machine, F, 1)?;
+    tell_call(rt, machine, F, 1)?;
+    tell_call(rt, machine, F, 2)?;
     flush(rt, machine)?;
     take_snapshot(rt, machine)
 }
@@ -41,14 +41,15 @@ fn link_site<R: Print + Threads + Sync>(
 ) -> anyhow::Result<()> {
     publish(rt, alloc, machine)?;
     install(rt, machine)?;
-    tell_call(rt, machine, 1)?;
-    tell_call(rt, machine, 2)
+    tell_call(rt, machine, F, 1)?;
+    tell_call(rt, machine, F, 2)
 }
 
-/// Calls after an invalidation, and after a retargeting.
+/// Calls after an invalidation, and after a retargeting, which `g` sees too.
 fn change_site(rt: &impl Print, alloc: Global, machine: &mut Machine) -> anyhow::Result<()> {
     invalidate(rt, alloc, machine)?;
-    tell_call(rt, machine, 1)?;
+    tell_call(rt, machine, F, 1)?;
     retarget(rt, alloc, machine)?;
-    tell_call(rt, machine, 1)
+    tell_call(rt, machine, F, 1)?;
+    tell_call(rt, machine, G, 3)
 }

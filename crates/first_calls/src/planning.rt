@@ -5,8 +5,7 @@ ghost use Rattle.mh_core.specs.Histories.{records};
 ghost use Rattle.mh_core.specs.Problems.{problem_at};
 ghost use Rattle.mh_core.specs.Selection.{IsLeast, member};
 
-use crate::telling::tell;
-use mh_core::{Event, Machine, SharedPlan};
+use mh_core::{Machine, SharedPlan};
 use mh_plan::{OpenGate, plan};
 use std::alloc::Global;
 use std::thread::Threads;
@@ -36,12 +35,14 @@ pub(crate) fn publish<R: Print + Threads + Sync>(
     machine: &mut Machine,
 ) -> anyhow::Result<()> {
     let plan = best_plan(rt, alloc, machine, 1)?;
-    let reply = machine.step(Event::Publish { snapshot: 1, plan });
-    tell(rt, "publish", &reply)
+    let number = machine.publish(1, plan)?;
+    println!(rt; "publish: plan {number}")?;
+    Ok(())
 }
 
 /// The links of plan 1 become inline caches of their sites.
 pub(crate) fn install(rt: &impl Print, machine: &mut Machine) -> anyhow::Result<()> {
-    let reply = machine.step(Event::Install { plan: 1 });
-    tell(rt, "install", &reply)
+    let report = machine.install(1)?;
+    println!(rt; "install: {report}")?;
+    Ok(())
 }

@@ -1,23 +1,20 @@
-//! What the machine answers, in words.
+//! What a call gives, in words.
 
+use crate::definition::F;
 use crate::events::call;
-use mh_core::{Machine, Reply};
+use mh_core::Machine;
 
-/// Calls `f`, and prints the int that it gives.
+/// Calls a site, and prints the int that it gives.
 pub(crate) fn tell_call(
     rt: &impl Print,
     machine: &mut Machine,
+    site: usize,
     argument: i32,
 ) -> anyhow::Result<()> {
-    match call(machine, argument) {
-        Some(number) => println!(rt; "f({argument}): {number}")?,
-        None => println!(rt; "f({argument}): no int")?,
+    let name = if site == F { "f" } else { "g" };
+    match call(machine, site, argument) {
+        Some(number) => println!(rt; "{name}({argument}): {number}")?,
+        None => println!(rt; "{name}({argument}): no int")?,
     }
-    Ok(())
-}
-
-/// Prints the answer to a change.
-pub(crate) fn tell(rt: &impl Print, event: &str, reply: &Reply) -> anyhow::Result<()> {
-    println!(rt; "{event}: {reply}")?;
     Ok(())
 }

@@ -36,6 +36,7 @@ pub(crate) fn define(alloc: Global, tree: &Declared) -> anyhow::Result<Definitio
     let site = Site {
         name: Name::new(alloc, "f")?,
         method_type: MethodType::new(Kind::Int, &[Kind::Int])?,
+        level: 0,
         key: Some(0),
         target: tree.share()?,
         links: links(alloc)?,

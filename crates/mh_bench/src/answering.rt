@@ -1,16 +1,17 @@
 //! The answers of calls after all is opened, for runs in which a growth is refused.
 
-ghost use Rattle.std.specs.Prelude.{◌≤◌};
+ghost use Rattle.std.specs.Prelude.{◌≤◌, []};
 ghost use Rattle.mh_tree.specs.Limits.{point_bound};
+ghost use Rattle.mh_tree.specs.Sites.{IsLawful};
 ghost use Rattle.mh_type.specs.Fits.{Fits};
 
 use crate::calling::run_once;
 use crate::histories::{define, open, step_once};
-use crate::measuring::VALID;
+use crate::measuring::{VALID, may_run};
 use crate::request::Way;
 use crate::subject::Subject;
 use mh_core::Machine;
-use mh_eval::{Stack, fits};
+use mh_eval::{Here, Stack};
 use mh_tree::{Handle, Prepared};
 use mh_type::Value;
 use std::alloc::Global;
@@ -51,8 +52,8 @@ fn answer_opened(
     arguments: &[Value],
     machine: &mut Machine,
 ) -> anyhow::Result<()> {
-    if !fits(handle.method_type(), arguments) || handle.point_bound() > VALID.len() {
-        anyhow::bail!("the arguments do not fit, or a point is not there");
+    if !may_run(handle, arguments) {
+        anyhow::bail!("the arguments do not fit, or a point or a site is not there");
     }
     let prepared = Prepared::new(handle)?;
     let mut stack = Stack::new(alloc)?;
@@ -71,6 +72,7 @@ fn answer_rounds(
 ) -> anyhow::Result<()>
     requires fits { Fits prepared.now.signature arguments.now }
     requires known { point_bound prepared.now.tree ≤ 1 }
+    requires lawful { IsLawful [] [] prepared.now.tree }
 {
     for _ in 0..ROUNDS {
         answer_run(rt, stack, prepared, arguments)?;
@@ -88,8 +90,13 @@ fn answer_run(
 ) -> anyhow::Result<()>
     requires fits { Fits prepared.now.signature arguments.now }
     requires known { point_bound prepared.now.tree ≤ 1 }
+    requires lawful { IsLawful [] [] prepared.now.tree }
 {
-    match run_once(stack, &VALID, prepared, arguments) {
+    let here = Here {
+        valid: &VALID,
+        targets: &[],
+    };
+    match run_once(stack, &here, prepared, arguments) {
         Ok((outcome, _)) => println!(rt; "run {outcome}")?,
         Err(refused) => println!(rt; "run refused {refused}")?,
     }

@@ -38,6 +38,7 @@ pub(crate) fn define(
     let site = Site {
         name: Name::new(alloc, "f")?,
         method_type: handle.method_type().copy(),
+        level: 0,
         key,
         target: Declared::new(handle)?,
         links: Listing::from_vec(links),
@@ -88,7 +89,7 @@ pub(crate) fn step_once(
     machine: &mut Machine,
     alloc: Global,
     arguments: &[Value],
-) -> Result<(Outcome, u64), Unanswered> {
+) -> Result<(Outcome, u128), Unanswered> {
     let Ok(arguments) = owned(alloc, arguments) else {
         return Err(Unanswered::NoMemory);
     };

@@ -1,7 +1,8 @@
 //! Calls that are counted and timed.
 
-ghost use Rattle.std.specs.Prelude.{◌≤◌};
+ghost use Rattle.std.specs.Prelude.{◌≤◌, ◌↔◌, [], IsTrue};
 ghost use Rattle.mh_tree.specs.Limits.{point_bound};
+ghost use Rattle.mh_tree.specs.Sites.{IsLawful};
 ghost use Rattle.mh_type.specs.Fits.{Fits};
 
 use crate::calling::{eval_rounds, run_rounds};
@@ -9,7 +10,7 @@ use crate::histories::step_rounds;
 use crate::request::{Calls, Way};
 use crate::subject::Subject;
 use crate::tally::Tally;
-use mh_eval::{Stack, evaluate, fits};
+use mh_eval::{Here, Stack, evaluate, fits, lawful};
 use mh_tree::{Handle, Prepared};
 use mh_type::Value;
 use std::alloc::Global;
@@ -71,7 +72,7 @@ fn tell_answer(
     handle: &Handle,
     arguments: &[Value],
 ) -> anyhow::Result<()> {
-    let (outcome, _) = evaluate(alloc, &VALID, handle, arguments)?;
+    let (outcome, _) = evaluate(alloc, &VALID, &[], &[], handle, arguments)?;
     let (way, subject) = (calls.way.word(), calls.subject.word());
     print!(rt; "{way} {subject}: {outcome}")?;
     Ok(())
@@ -98,6 +99,16 @@ fn tell_sums(
     Ok(())
 }
 
+/// Whether a tree may run on arguments: they fit, its points are there, and it invokes no site.
+pub(crate) fn may_run(handle: &Handle, arguments: &[Value]) -> bool
+    ensures decides { IsTrue result ↔ (Fits handle.now.signature arguments.now
+        × (point_bound handle.now.tree ≤ 1) × IsLawful [] [] handle.now.tree) }
+{
+    fits(handle.method_type(), arguments)
+        && handle.point_bound() <= VALID.len()
+        && lawful(&[], &[], handle)
+}
+
 /// So many calls in a way.
 fn call_rounds(
     alloc: Global,
@@ -106,8 +117,8 @@ fn call_rounds(
     arguments: &[Value],
     rounds: u64,
 ) -> anyhow::Result<Tally> {
-    if !fits(handle.method_type(), arguments) || handle.point_bound() > VALID.len() {
-        anyhow::bail!("the arguments do not fit, or a point is not there");
+    if !may_run(handle, arguments) {
+        anyhow::bail!("the arguments do not fit, or a point or a site is not there");
     }
     match way {
         Way::Run => run_calls(alloc, handle, arguments, rounds),
@@ -125,10 +136,15 @@ fn run_calls(
 ) -> anyhow::Result<Tally>
     requires fits { Fits handle.now.signature arguments.now }
     requires known { point_bound handle.now.tree ≤ 1 }
+    requires lawful { IsLawful [] [] handle.now.tree }
 {
     let prepared = Prepared::new(handle)?;
     let mut stack = Stack::new(alloc)?;
-    run_rounds(&mut stack, &VALID, &prepared, arguments, rounds)
+    let here = Here {
+        valid: &VALID,
+        targets: &[],
+    };
+    run_rounds(&mut stack, &here, &prepared, arguments, rounds)
 }
 
 /// So many calls by `eval`.
@@ -140,7 +156,8 @@ fn eval_calls(
 ) -> anyhow::Result<Tally>
     requires fits { Fits handle.now.signature arguments.now }
     requires known { point_bound handle.now.tree ≤ 1 }
+    requires lawful { IsLawful [] [] handle.now.tree }
 {
     let mut stack = Stack::new(alloc)?;
-    eval_rounds(&mut stack, &VALID, handle, arguments, rounds)
+    eval_rounds(&mut stack, &VALID, &[], &[], handle, arguments, rounds)
 }

@@ -6,7 +6,7 @@ ghost use Rattle.mh_bench.specs.Tallies.{magnitude as magnitude_of};
 use mh_type::{Outcome, Value};
 use thiserror::Error;
 
-/// The answers or the nodes of calls add up to 2^64 or more.
+/// The answers of calls add up to 2^64 or more, or their nodes to 2^128 or more.
 #[derive(Clone, Copy, Debug, PartialEq, Eq, Error)]
 #[error("a sum is too large")]
 pub(crate) struct SumTooLarge;
@@ -17,7 +17,7 @@ pub(crate) struct Tally {
     /// The sum of the answers: of a number its magnitude, of a text its bytes, of `true` 1.
     pub(crate) answers: u64,
     /// The nodes entered.
-    pub(crate) steps: u64,
+    pub(crate) steps: u128,
 }
 
 impl Tally {
@@ -34,7 +34,7 @@ impl Tally {
 
     /// With what one more call gave.
     #[inline(always)]
-    pub(crate) fn count(self, outcome: &Outcome, steps: u64) -> Result<Tally, SumTooLarge>
+    pub(crate) fn count(self, outcome: &Outcome, steps: u128) -> Result<Tally, SumTooLarge>
         ensures answers { IfOk result (λ t. t.answers ≡ self.answers + magnitude_of outcome.now) }
         ensures steps { IfOk result (λ t. t.steps ≡ self.steps + steps) }
     {

@@ -1,17 +1,17 @@
 -- How a request ends: its work, the last flush, and what is told.
-use Rattle.std.proofs.Common.{◌≡◌, ◌≢◌, ◌⊎◌, ◌<◌, ◌≤◌, inl, inr, refl, sym, ap, ◌∙◌, subst, ℕ, List, [], ◌++◌, append-nil, Option, Some, None, Result, Ok, Err, IfOk, IfErr, OnOk, IfSome, arith}
+use Rattle.std.proofs.Common.{◌≡◌, ◌≢◌, ◌⊎◌, ◌<◌, ◌≤◌, inl, inr, refl, sym, ap, ◌∙◌, subst, ℕ, List, [], ◌++◌, append-nil, Option, Some, None, Result, Ok, Err, IfOk, IfErr, IfSome, arith}
 use Rattle.std.proofs.KnownBytes.{Appends-kept, Keeps-refl, Keeps-trans}
 use Rattle.std.specs.Io.KnownBytes.{Appends, Keeps}
 use Rattle.mh_core.specs.Legal.{MachineState}
 use Rattle.mh_text.specs.declared.json.step.Step.{Step}
 use Rattle.mh_text.specs.Bytes.{HasFailed, one_more}
 use Rattle.mh_text.specs.Faults.{fault_line}
-use Rattle.mh_text.specs.Gives.{IsEndOf, no_memory}
+use Rattle.mh_text.specs.Gives.{IsEndOf, IsHonest, no_memory}
 use Rattle.mh_text.specs.Lines.{lines_of}
 use Rattle.mh_text.specs.Output as output
 use Rattle.mh_text.specs.Output.{first, outside, EndsEarly, Failed}
 use Rattle.mh_text.specs.declared.fault.Fault.{Fault}
-use Rattle.mh_text.specs.declared.fault.InputFault.TheVariants.{NoMemory, TooLong, NotJson, BadShape, BadValue, UnknownShared, Tree, Definition, Problem, BadType}
+use Rattle.mh_text.specs.declared.fault.InputFault.TheVariants.{NoMemory, TooLong, NotJson, BadShape, BadValue, UnknownShared, UnknownSite, Tree, Definition, Problem, BadType}
 use Rattle.mh_text.specs.declared.fault.TextFault.{TextFault}
 use Rattle.mh_text.specs.declared.fault.TextFault.TheVariants.{Input, ReadFailed, WriteFailed, NoReader}
 use Rattle.mh_text.specs.declared.json.script.Script.{Script}
@@ -44,6 +44,7 @@ told_range (Input NotJson) = (omega arith, omega arith, omega arith)
 told_range (Input BadShape) = (omega arith, omega arith, omega arith)
 told_range (Input BadValue) = (omega arith, omega arith, omega arith)
 told_range (Input UnknownShared) = (omega arith, omega arith, omega arith)
+told_range (Input UnknownSite) = (omega arith, omega arith, omega arith)
 told_range (Input (Tree cause)) = (omega arith, omega arith, omega arith)
 told_range (Input (Definition cause)) = (omega arith, omega arith, omega arith)
 told_range (Input (Problem cause)) = (omega arith, omega arith, omega arith)
@@ -60,6 +61,7 @@ stream_failed A B (Input NotJson) three end = absurd (omega (arith, three))
 stream_failed A B (Input BadShape) three end = absurd (omega (arith, three))
 stream_failed A B (Input BadValue) three end = absurd (omega (arith, three))
 stream_failed A B (Input UnknownShared) three end = absurd (omega (arith, three))
+stream_failed A B (Input UnknownSite) three end = absurd (omega (arith, three))
 stream_failed A B (Input (Tree cause)) three end = absurd (omega (arith, three))
 stream_failed A B (Input (Definition cause)) three end = absurd (omega (arith, three))
 stream_failed A B (Input (Problem cause)) three end = absurd (omega (arith, three))
@@ -132,8 +134,11 @@ module _ (old new : Option (List ℕ)) (A B : Type 0) (e : Fault) (small : statu
   refuses_input (Stress options) (Some bytes) (inr (text, stressed, (is, failed, begun))) = absurd (not_outside WriteFailed (omega arith) is)
 
 -- The work of a request from the output o to m, a flush to n, and what is told from the errors e to f.
--- The numbers are the failures of the output and of the errors.
-module _ (request : Request) (input o m n e f : Option (List ℕ)) (A : Type 0) (out_old out_mid out_new err_old err_new result : ℕ) (kept : Keeps m n) where
+-- The numbers are the failures of the input, of the output and of the errors.
+module _ (request : Request) (input o m n e f : Option (List ℕ)) (in_old in_new out_old out_mid out_new err_old err_new result : ℕ) (kept : Keeps m n) where
+  abbrev pub A : Type 0
+  A = HasFailed in_old in_new
+
   abbrev pub B : Type 0
   B = HasFailed out_old out_mid
 
@@ -186,29 +191,29 @@ module _ (request : Request) (input o m n e f : Option (List ℕ)) (A : Type 0) 
   answers (Err fault) works fails done (inr (inr (is, idle)), same) small = absurd (omega (arith, is, small))
 
   pub stops : (worked : Result ℕ Fault) → IfOk worked (λ status. status < 2) → IfOk worked (Works request input o m) → IfErr worked (FailsIn request input o m A B)
-      → OnOk worked (out_mid ≡ out_old) → IfOk worked IsFinished → IfErr worked IsEnded → 2 ≤ result → Stops
-  stops (Ok status) small works fails quiet (inl ((is, idle), same)) told large = absurd (omega (arith, is, small, large))
-  stops (Ok status) small works fails quiet (inr (failed, more)) told large =
-      let counted : HasFailed out_old out_new = subst (λ k. HasFailed k out_new) quiet (subst (HasFailed out_mid) (sym more) (one_more_fails out_mid)) in
+      → IsHonest worked in_old in_new out_old out_mid → IfOk worked IsFinished → IfErr worked IsEnded → 2 ≤ result → Stops
+  stops (Ok status) small works fails honest (inl ((is, idle), same)) told large = absurd (omega (arith, is, small, large))
+  stops (Ok status) small works fails honest (inr (failed, more)) told large =
+      let counted : HasFailed out_old out_new = subst (λ k. HasFailed k out_new) honest.1 (subst (HasFailed out_mid) (sym more) (one_more_fails out_mid)) in
       (outside WriteFailed, inr (refl, counted, (status, works_kept o m n kept request input status works)), failed)
-  stops (Err fault) small works fails quiet done (told, same) large =
+  stops (Err fault) small works fails honest done (told, same) large =
       (fault, inl (subst (λ k. FailsIn request input o n A (HasFailed out_old k) fault) (sym same) (fails_kept o m n kept request input A B fault fails)), told)
 
-  pub some_failed : (worked : Result ℕ Fault) → IfOk worked (λ status. status < 2) → IfErr worked (λ fault. IsEndOf A B fault.kind)
-      → OnOk worked (out_mid ≡ out_old) → IfOk worked IsFinished → IfErr worked IsEnded → result ≡ 3 → A ⊎ HasFailed out_old out_new ⊎ HasFailed err_old err_new
-  some_failed (Ok status) small end quiet (inl ((is, idle), same)) told three = absurd (omega (arith, is, small, three))
-  some_failed (Ok status) small end quiet (inr (failed, more)) told three =
-      inr (inl (subst (λ k. HasFailed k out_new) quiet (subst (HasFailed out_mid) (sym more) (one_more_fails out_mid))))
-  some_failed (Err fault) small end quiet done (inl (is, line, same_errors), same) three =
-      elim (stream_failed A B fault.kind (sym is ∙ three) end) [
+  pub some_failed : (worked : Result ℕ Fault) → IfOk worked (λ status. status < 2) → IsHonest worked in_old in_new out_old out_mid
+      → IfOk worked IsFinished → IfErr worked IsEnded → result ≡ 3 → A ⊎ HasFailed out_old out_new ⊎ HasFailed err_old err_new
+  some_failed (Ok status) small honest (inl ((is, idle), same)) told three = absurd (omega (arith, is, small, three))
+  some_failed (Ok status) small honest (inr (failed, more)) told three =
+      inr (inl (subst (λ k. HasFailed k out_new) honest.1 (subst (HasFailed out_mid) (sym more) (one_more_fails out_mid))))
+  some_failed (Err fault) small honest done (inl (is, line, same_errors), same) three =
+      elim (stream_failed A B fault.kind (sym is ∙ three) honest) [
         | inl read ↦ inl read
         | inr write ↦ inr (inl (subst (HasFailed out_old) (sym same) write))
       ]
-  some_failed (Err fault) small end quiet done (inr (inl (is, failed)), same) three = inr (inr failed)
-  some_failed (Err fault) small end quiet done (inr (inr (four, idle)), same) three = absurd (omega (arith, four, three))
+  some_failed (Err fault) small honest done (inr (inl (is, failed)), same) three = inr (inr failed)
+  some_failed (Err fault) small honest done (inr (inr (four, idle)), same) three = absurd (omega (arith, four, three))
 
-  pub is_quiet : (worked : Result ℕ Fault) (R : Type 0) → OnOk worked R → OnOk worked (out_mid ≡ out_old) → IfOk worked IsFinished → IfErr worked IsEnded → result ≡ 0
-      → Keeps e f × R × (out_new ≡ out_old) × (err_new ≡ err_old)
-  is_quiet (Ok status) R reads quiet (inl ((is, idle), same)) told zero = (idle.0, reads, same ∙ quiet, idle.1)
-  is_quiet (Ok status) R reads quiet (inr (failed, more)) told zero = let k = told_known (outside WriteFailed) failed in let above = k.0 in absurd (omega (arith, above, zero))
-  is_quiet (Err fault) R reads quiet done (told, same) zero = let k = told_known fault told in let above = k.0 in absurd (omega (arith, above, zero))
+  pub is_quiet : (worked : Result ℕ Fault) → IsHonest worked in_old in_new out_old out_mid → IfOk worked IsFinished → IfErr worked IsEnded → result ≡ 0
+      → Keeps e f × (in_new ≡ in_old) × (out_new ≡ out_old) × (err_new ≡ err_old)
+  is_quiet (Ok status) honest (inl ((is, idle), same)) told zero = (idle.0, honest.0, same ∙ honest.1, idle.1)
+  is_quiet (Ok status) honest (inr (failed, more)) told zero = let k = told_known (outside WriteFailed) failed in let above = k.0 in absurd (omega (arith, above, zero))
+  is_quiet (Err fault) honest done (told, same) zero = let k = told_known fault told in let above = k.0 in absurd (omega (arith, above, zero))

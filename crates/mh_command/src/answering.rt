@@ -4,7 +4,7 @@ ghost use Rattle.std.specs.Io.KnownBytes.{Appends, Keeps};
 ghost use Rattle.clap.specs.Words.{kind_of};
 ghost use Rattle.clap.specs.declared.error.kind.ErrorKind.{ErrorKind};
 ghost use Rattle.mh_text.specs.Bytes.{HasFailed, one_more};
-ghost use Rattle.mh_text.specs.Gives.{IsEndOf};
+ghost use Rattle.mh_text.specs.Gives.{IsHonest};
 ghost use Rattle.mh_text.specs.Output.{outside};
 ghost use Rattle.mh_text.specs.declared.fault.TextFault.TheVariants.{WriteFailed};
 ghost use Rattle.mh_command.specs.Answers.{Works, FailsIn};
@@ -38,10 +38,8 @@ pub(crate) fn work<T: Threads + Wait + Sync, R: Read, W: Write>(
         (W.contents out.old.inner) (W.contents out.new.inner)
         (HasFailed reader.old.failures reader.new.failures)
         (HasFailed out.old.failures out.new.failures)) }
-    ensures told { IfErr result (λ e. IsEndOf (HasFailed reader.old.failures reader.new.failures)
-        (HasFailed out.old.failures out.new.failures) e.kind) }
-    ensures reads { OnOk result (reader.new.failures ≡ reader.old.failures) }
-    ensures writes { OnOk result (out.new.failures ≡ out.old.failures) }
+    ensures honest { IsHonest result reader.old.failures reader.new.failures
+        out.old.failures out.new.failures }
 {
     match request {
         Request::Run => {

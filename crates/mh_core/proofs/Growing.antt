@@ -24,7 +24,7 @@ book_room b is =
 
 pub fits_in : (d : DefinitionData) (l : LimitsData) (n : ℕ) (r : List Record) (e : Record) → Passes (tests d l n r e) → n < l.history
 fits_in d l n r (Flushed w hits) passes = passes.0
-fits_in d l n r (Targeted s tree) passes = passes.1.1.1.0
+fits_in d l n r (Targeted s tree) passes = passes.1.1.1.1.0
 fits_in d l n r (Invalidated points) passes = passes.1.0
 fits_in d l n r Snapped passes = passes.0.0
 fits_in d l n r (Published m plan) passes = passes.1.1.0.0

@@ -2,7 +2,9 @@
 use Rattle.std.specs.Prelude.{ℕ, ◌+◌, ◌<◌, ◌≤◌, ◌==◌, nat_lt, pos, Bool, not, ◌&&◌, ◌||◌, Some, None, List, [], ◌∷◌, map, filter, length, take, if◌then◌else◌}
 use Rattle.std.specs.List.{range_with_len}
 use Rattle.mh_type.specs.declared.kind.Kind.{Kind}
+use Rattle.mh_tree.specs.Environment.{Environment}
 use Rattle.mh_tree.specs.Handle.{TypedTree}
+use Rattle.mh_tree.specs.Sites.{Setting, env, sites}
 use Rattle.mh_pic.specs.Chains.{PlainEntry, chain}
 use Rattle.mh_network.specs.Selection.{member}
 use Rattle.mh_cert.specs.declared.plan.Plan.{Plan}
@@ -16,7 +18,7 @@ use Rattle.mh_core.specs.declared.install_report.SiteLinkage.{SiteLinkage}
 use Rattle.mh_core.specs.declared.record.Record.{Record}
 use Rattle.mh_core.specs.declared.record.Record.TheVariants.{Flushed, Targeted, Invalidated, Snapped, Published, Installed}
 use Rattle.mh_core.specs.Problems.{is_eligible}
-use Rattle.mh_core.specs.Records.{numbers, base, version, past, plans}
+use Rattle.mh_core.specs.Records.{numbers, base, valid_points, version, past, plans}
 
 -- a plan, and the number of the snapshot that it was published for
 pub record PublishedPlan : Type 0 where
@@ -80,6 +82,18 @@ cached d s t js = record { tree = chain (before_key (site_at d s)) t.tree (map (
 -- the tree that a call of the site runs
 abbrev pub linked : DefinitionData → List Record → ℕ → TypedTree
 linked d r s = cached d s (base d r s) (kept d r s)
+
+-- the linked tree of each site, by number
+abbrev pub linkeds : DefinitionData → List Record → List TypedTree
+linkeds d r = map (linked d r) (numbers (length d.sites))
+
+-- the valid points, and the linked trees, which run in the place of the base trees
+abbrev pub linked_sites : DefinitionData → List Record → Setting
+linked_sites d r = sites (valid_points d r) (linkeds d r)
+
+-- what trees do after the records, and in which steps: an invocation runs the linked tree of its site
+abbrev pub environment_of_links : DefinitionData → List Record → Environment
+environment_of_links d r = env (linked_sites d r)
 
 -- an installation concerns the sites that have a link in the plan, and those that hold links now
 abbrev pub is_concerned : DefinitionData → List Record → ℕ → ℕ → Bool

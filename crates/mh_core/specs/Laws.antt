@@ -1,6 +1,7 @@
 -- Laws of the definitions, for the proofs of crates above. Each is proved: nothing here is to be believed.
 pub mod Caches
 pub mod Changes
+pub mod InvokedTrees
 pub mod LawfulLinks
 pub mod Numbered
 pub mod PastSnapshots
@@ -9,6 +10,7 @@ pub mod ProblemRows
 pub mod StandingTrees
 pub mod Worlds
 pub use Rattle.mh_core.specs.Laws.Changes.{change_of}
+pub use Rattle.mh_core.specs.Laws.InvokedTrees.{levels_of, links_known, links_lawful, links_mean}
 pub use Rattle.mh_core.specs.Laws.LawfulLinks.{few_links}
 pub use Rattle.mh_core.specs.Laws.PastSnapshots.{snapshots_count}
 pub use Rattle.mh_core.specs.Laws.PlanTables.{plans_count}

@@ -17,8 +17,8 @@ use Rattle.mh_core.specs.declared.reply.Reply.TheVariants as answers
 use Rattle.mh_core.specs.Histories.{records}
 use Rattle.mh_core.specs.Hits.{hits, unflushed, moved}
 use Rattle.mh_core.specs.Limits.{LimitsData}
-use Rattle.mh_core.specs.Installations.{linked, report}
-use Rattle.mh_core.specs.Records.{base, environment, snapshots, plans}
+use Rattle.mh_core.specs.Installations.{environment_of_links, linked, linked_sites, report}
+use Rattle.mh_core.specs.Records.{base, environment_of_bases, snapshots, plans}
 use Rattle.mh_core.specs.Rows as rows
 use Rattle.mh_base.specs.Tests.{Tests, test, only, Refuses, Passes}
 use Rattle.mh_core.specs.Refusals.{memory_last}
@@ -42,9 +42,9 @@ opened_machine d workers limits = record { setting = record { definition = d; wo
 abbrev pub extended : MachineState → Event → MachineState
 extended m e = record { setting = m.setting; history = e ∷ m.history }
 
--- what the site's base tree means, in the steps of its linked tree, with the points that are valid
+-- what the site's base tree means, where invocations mean base trees, in the steps of its linked tree, where they run linked trees
 abbrev pub answer_of_call : DefinitionData → List Record → ℕ → List Value → Reply
-answer_of_call d r s a = answers.Called (mean (environment d r) (base d r s).tree a) (steps (environment d r) (linked d r s).tree a)
+answer_of_call d r s a = answers.Called (mean (environment_of_bases d r) (base d r s).tree a) (steps (environment_of_links d r) (linked d r s).tree a)
 
 module _ (x : Setting) where
   -- the worker may count the hit of a call, if it hits a link
@@ -80,9 +80,9 @@ module _ (x : Setting) where
   answer h (Publish n plan) = answers.Published (plans (records x.definition h) + 1) plan
   answer h (Install m) = answers.Installed (report x.definition (records x.definition h) m)
 
-  -- a call whose tree enters no node that has String in its type, so that it asks for no memory
+  -- a call that enters no node, of invoked trees too, that has String in its type, so that it asks for no memory
   abbrev pub TakesNoMemory : List Event → Event → Type 0
-  TakesNoMemory h (Call w s a) = let r = records x.definition h in EntersPlain (environment x.definition r) (linked x.definition r s).tree a
+  TakesNoMemory h (Call w s a) = let r = records x.definition h in EntersPlain (linked_sites x.definition r) (linked x.definition r s).tree a
   TakesNoMemory h _ = ⊥
 
   -- the event passes its tests, is answered and is in the history; or it is refused, and is not

@@ -10,7 +10,8 @@ use Rattle.mh_site.specs.declared.control.Control.{Control}
 use Rattle.mh_site.specs.declared.control.Control.TheVariants as control
 use Rattle.mh_core.specs.declared.record.Record.{Record}
 use Rattle.mh_core.specs.declared.record.Record.TheVariants.{Flushed, Targeted, Invalidated, Snapped, Published, Installed}
-use Rattle.mh_tree.specs.Environment.{Environment, with_points}
+use Rattle.mh_tree.specs.Environment.{Environment}
+use Rattle.mh_tree.specs.Sites.{with_sites}
 
 -- the numbers below a bound
 abbrev pub numbers : ℕ → List ℕ
@@ -42,9 +43,13 @@ is_valid r p = look_back.is_valid (plain_controls r) p
 abbrev pub valid_points : DefinitionData → List Record → List Bool
 valid_points d r = map (is_valid r) (numbers (length d.points))
 
--- what trees mean after the records
-abbrev pub environment : DefinitionData → List Record → Environment
-environment d r = with_points (valid_points d r)
+-- the base tree of each site, by number
+abbrev pub bases : DefinitionData → List Record → List TypedTree
+bases d r = map (base d r) (numbers (length d.sites))
+
+-- what trees mean after the records: an invocation means the base tree of its site
+abbrev pub environment_of_bases : DefinitionData → List Record → Environment
+environment_of_bases d r = with_sites (valid_points d r) (bases d r)
 
 -- the links that were hit, each with its number of hits, where each link has this number
 abbrev pub hits_in : List ℕ → List (ℕ × ℕ)

@@ -3,7 +3,7 @@ use Rattle.std.specs.Prelude.{ℕ, List, codes, ◌++◌}
 use Rattle.std.specs.Fmt.{decimal}
 use Rattle.mh_cert.specs.Plans.{fault_number}
 use Rattle.mh_core.specs.declared.refusal.Refusal.{Refusal}
-use Rattle.mh_core.specs.declared.refusal.Refusal.TheVariants.{NoMemory, HistoryFull, NoSite, NoPoint, WrongType, NoSnapshot, NoPlan, PlanRefused, OldPlan, TotalTooLarge, LedgerFull, GainTooLarge, NoWorker}
+use Rattle.mh_core.specs.declared.refusal.Refusal.TheVariants.{NoMemory, HistoryFull, NoSite, NoPoint, WrongType, NoSnapshot, NoPlan, PlanRefused, OldPlan, TotalTooLarge, LedgerFull, GainTooLarge, NoWorker, WrongLevel}
 use Rattle.mh_base.specs.Tests.{Tests, no_more, may_tell, only}
 
 -- want of memory is told where no test fails
@@ -28,6 +28,7 @@ refusal_number TotalTooLarge = 10
 refusal_number LedgerFull = 11
 refusal_number GainTooLarge = 12
 refusal_number NoWorker = 13
+refusal_number WrongLevel = 14
 
 -- the number and the name
 abbrev pub refusal_text : Refusal → List ℕ
@@ -44,3 +45,4 @@ refusal_text TotalTooLarge = codes "10 TotalTooLarge"
 refusal_text LedgerFull = codes "11 LedgerFull"
 refusal_text GainTooLarge = codes "12 GainTooLarge"
 refusal_text NoWorker = codes "13 NoWorker"
+refusal_text WrongLevel = codes "14 WrongLevel"

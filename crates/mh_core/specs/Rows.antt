@@ -1,17 +1,18 @@
 -- The tests of a record.
 use Rattle.std.specs.Prelude.{◌≡◌, ℕ, ◌+◌, ◌<◌, ◌≤◌, List, length}
 use Rattle.std.specs.List.{All}
-use Rattle.mh_tree.specs.Limits.{point_bound}
+use Rattle.mh_tree.specs.Limits.{point_bound, site_bound}
 use Rattle.mh_network.specs.Problems.{sum_of_gains}
 use Rattle.mh_cert.specs.Plans.{Matches, plan_tests}
 use Rattle.mh_cert.specs.declared.fault.CheckFault.{CheckFault}
 use Rattle.mh_cert.specs.declared.plan.Plan.{Plan}
 use Rattle.mh_site.specs.Defined.{DefinitionData, site_at}
+use Rattle.mh_site.specs.Invoking.{InvokesLower, InvokesOfType}
 use Rattle.mh_site.specs.Links.{links}
 use Rattle.mh_core.specs.declared.record.Record.{Record}
 use Rattle.mh_core.specs.declared.record.Record.TheVariants.{Flushed, Targeted, Invalidated, Snapped, Published, Installed}
 use Rattle.mh_core.specs.declared.refusal.Refusal.{Refusal}
-use Rattle.mh_core.specs.declared.refusal.Refusal.TheVariants.{NoSite, WrongType, NoPoint, HistoryFull, NoSnapshot, NoPlan, PlanRefused, OldPlan, TotalTooLarge, GainTooLarge}
+use Rattle.mh_core.specs.declared.refusal.Refusal.TheVariants.{NoSite, WrongType, NoPoint, WrongLevel, HistoryFull, NoSnapshot, NoPlan, PlanRefused, OldPlan, TotalTooLarge, GainTooLarge}
 use Rattle.mh_core.specs.Installations.{IsPublished}
 use Rattle.mh_core.specs.Limits.{LimitsData, most_snapshots, most_plans}
 use Rattle.mh_network.specs.Limits.{greatest_sum}
@@ -34,10 +35,11 @@ tests d l accepted r (Flushed w hits) =
     test (accepted < l.history) (only HistoryFull)
     (test (TotalsFit d l r hits) (only TotalTooLarge) memory_last)
 tests d l accepted r (Targeted s tree) =
-    test (s < length d.sites) (only NoSite)
-    (test (tree.signature ≡ (site_at d s).method_type) (only WrongType)
+    test ((s < length d.sites) × (site_bound tree.tree ≤ length d.sites)) (only NoSite)
+    (test ((tree.signature ≡ (site_at d s).method_type) × InvokesOfType d.sites tree.tree) (only WrongType)
     (test (point_bound tree.tree ≤ length d.points) (only NoPoint)
-    (test (accepted < l.history) (only HistoryFull) memory_last)))
+    (test (InvokesLower d.sites (site_at d s).level tree.tree) (only WrongLevel)
+    (test (accepted < l.history) (only HistoryFull) memory_last))))
 tests d l accepted r (Invalidated points) =
     test (All (λ p. p < length d.points) points) (only NoPoint)
     (test (accepted < l.history) (only HistoryFull) memory_last)

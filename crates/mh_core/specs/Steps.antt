@@ -9,6 +9,7 @@ use Rattle.mh_core.specs.declared.reply.Reply.TheVariants.{Called, Refused}
 use Rattle.mh_core.specs.Legal.{MachineState, answer, extended, tests}
 use Rattle.mh_base.specs.Tests.{Passes, Refuses}
 
+-- an event that is no call
 abbrev pub IsNoCall : Event → Type 0
 IsNoCall (Call w s a) = ⊥
 IsNoCall (Flush w) = Unit {0}

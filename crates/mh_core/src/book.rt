@@ -70,7 +70,7 @@ impl fmt::Debug for Book {
 
 impl Book {
     /// The book of a definition, without records, and a ledger without hits for each of so many
-    /// workers, all held. Refused where a growth was refused, or a further owner.
+    /// workers, all held. Fails only if an allocation or a reference count is refused.
     pub fn open(
         alloc: Global,
         definition: &Definition,
@@ -214,8 +214,10 @@ impl Book {
 
     /// Gives a site another tree (`MutableCallSite.setTarget`).
     ///
-    /// Refused with `NoSite`, with `WrongType` where the tree is of another type than the site,
-    /// with `NoPoint` where it names a point past the last, with `HistoryFull`, and then with
+    /// Refused with `NoSite`, also where the tree invokes a site past the last; with `WrongType`
+    /// where the tree is of another type than the site, or invokes a site with another type than
+    /// that site's; with `NoPoint` where it names a point past the last; with `WrongLevel` where it
+    /// invokes a site whose level is not below the site's; with `HistoryFull`, and then with
     /// `NoMemory`; nothing changes.
     pub fn target(&mut self, site: usize, tree: Declared) -> Result<(), Refusal>
         ensures taken { OnOk result (Takes self.old 0 (Targeted site tree) self.new) }

@@ -9,6 +9,7 @@ ghost use Rattle.mh_core.specs.Legal.{MachineState, Step, Run, TakesNoMemory, op
 ghost use Rattle.mh_core.specs.Pending.{IsNoFlush};
 
 mod call;
+mod events;
 
 use crate::book::Book;
 use crate::call_history::CallHistory;
@@ -67,8 +68,8 @@ impl fmt::Debug for Machine {
 }
 
 impl Machine {
-    /// The machine of a definition with so many workers, and with the empty history. Refused where
-    /// a growth was refused, or a further owner of a tree or a text.
+    /// The machine of a definition with so many workers, and with the empty history. Fails only if
+    /// an allocation or a reference count is refused.
     pub fn open(
         alloc: Global,
         definition: &Definition,
@@ -148,28 +149,13 @@ impl Machine {
     {
         match event {
             Event::Call { .. } => unreachable!(),
-            Event::Flush { worker } => self.flush(worker),
+            Event::Flush { worker } => self.flush(worker).map(|()| Reply::Done),
             Event::Target { site, tree } => self.take(Record::Targeted { site, tree }),
             Event::Invalidate { points } => self.take(Record::Invalidated { points }),
             Event::Snapshot => self.take(Record::Snapped),
             Event::Publish { snapshot, plan } => self.take(Record::Published { snapshot, plan }),
             Event::Install { plan } => self.take(Record::Installed { plan }),
         }
-    }
-
-    // Adds a worker's hits to the totals.
-    fn flush(&mut self, worker: u32) -> Result<Reply, Refusal>
-        ensures accepted { IfOk result (λ reply. IsAccepted self.old (Flush worker) reply
-            self.new) }
-        ensures refused { IfErr result (λ told. IsRefused self.old (Flush worker) told self.new) }
-    {
-        if worker >= self.workers {
-            return Err(Refusal::NoWorker);
-        }
-        let calls = self.calls.len();
-        let ledger = &mut self.ledgers[worker as usize];
-        self.book.flush_after(calls, ledger)?;
-        Ok(Reply::Done)
     }
 
     // Has the book take a record behind the accepted calls.
@@ -204,7 +190,7 @@ impl Machine {
 
 // The reply to a call.
 #[inline(always)]
-fn called(answer: Result<(Outcome, u64), Refusal>) -> Reply
+fn called(answer: Result<(Outcome, u128), Refusal>) -> Reply
     ensures value { result ≡ call_reply answer }
 {
     match answer {

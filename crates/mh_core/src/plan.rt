@@ -26,7 +26,7 @@ impl Model for SharedPlan {
 }
 
 impl SharedPlan {
-    /// The first owner of a plan. Refused where memory was.
+    /// The first owner of a plan. Fails only if an allocation is refused.
     pub fn new(alloc: Global, plan: Plan) -> Result<SharedPlan, NoMemory>
         ensures value { IfOk result (λ p. p ≡ plan) }
     {

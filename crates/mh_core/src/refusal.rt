@@ -10,16 +10,17 @@ use std::fmt;
 /// Why an event was refused. A refused event changes nothing.
 #[derive(Clone, Copy, Debug, PartialEq, Eq)]
 pub enum Refusal {
-    /// A growth or a further owner was refused. It is told only where no test fails, and where a
-    /// plan that is offered for a snapshot could not be tested.
+    /// Out of memory: an allocation or a reference count was refused. It is reported only where no
+    /// test fails, and where a plan that is offered for a snapshot could not be tested.
     NoMemory,
     /// As many events were accepted, snapshots taken or plans published as may be.
     HistoryFull,
-    /// A site that is not there.
+    /// A site that is not there, also one that a tree invokes.
     NoSite,
     /// A point that is not there.
     NoPoint,
-    /// Arguments that do not fit the site's type, or a tree of another type.
+    /// Arguments that do not fit the site's type, or a tree of another type, or one that invokes a
+    /// site with another type than its own.
     WrongType,
     /// A snapshot that was not taken.
     NoSnapshot,
@@ -37,10 +38,12 @@ pub enum Refusal {
     GainTooLarge,
     /// A worker that is not there.
     NoWorker,
+    /// A tree that invokes a site whose level is not below that of the site that it is for.
+    WrongLevel,
 }
 
 impl Refusal {
-    /// The refusal's number, from 1 to 13.
+    /// The refusal's number, from 1 to 14.
     pub fn number(self) -> u8
         ensures value { result ≡ refusal_number self }
     {
@@ -58,6 +61,7 @@ impl Refusal {
             Refusal::LedgerFull => 11,
             Refusal::GainTooLarge => 12,
             Refusal::NoWorker => 13,
+            Refusal::WrongLevel => 14,
         }
     }
 }
@@ -83,6 +87,7 @@ impl fmt::Display for Refusal {
             Refusal::LedgerFull => write!(f, "11 LedgerFull"),
             Refusal::GainTooLarge => write!(f, "12 GainTooLarge"),
             Refusal::NoWorker => write!(f, "13 NoWorker"),
+            Refusal::WrongLevel => write!(f, "14 WrongLevel"),
         }
     }
 }

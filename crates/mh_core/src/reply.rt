@@ -10,7 +10,7 @@ use std::fmt;
 #[derive(Debug, Drop)]
 pub enum Reply {
     /// What a call ended with, and the number of nodes that it entered.
-    Called { outcome: Outcome, steps: u64 },
+    Called { outcome: Outcome, steps: u128 },
     /// The change was made.
     Done,
     /// A snapshot was taken, and has this number, from 1.
@@ -19,7 +19,7 @@ pub enum Reply {
     Published { number: usize, plan: SharedPlan },
     /// The plan was installed, as the report tells.
     Installed(InstallReport),
-    /// The first test that failed, or want of memory.
+    /// The first test that failed, or out of memory.
     Refused(Refusal),
 }
 

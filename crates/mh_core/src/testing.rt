@@ -9,6 +9,7 @@ ghost use Rattle.mh_core.specs.declared.refusal.Refusal.{Refusal};
 ghost use Rattle.mh_core.specs.Records.{hits_in};
 ghost use Rattle.mh_core.specs.Books.{MayRefuse, MayTake};
 ghost use Rattle.mh_core.specs.Pending.{IsNoFlush};
+ghost use Rattle.mh_core.specs.Problems.{IsTaken, problem_at};
 ghost use Rattle.mh_base.specs.Tests.{Refuses};
 
 use crate::book::Book;
@@ -20,7 +21,7 @@ use crate::refusal::Refusal;
 use mh_cert::{CheckFault, Plan, check};
 use mh_ledger::Ledger;
 use mh_network::Problem;
-use mh_site::Listing;
+use mh_site::{Listing, invokes_known, invokes_lower, invokes_of_type};
 use mh_tree::Declared;
 use std::alloc::Global;
 
@@ -72,16 +73,20 @@ impl Book {
         ensures refuses { IfErr result
             (λ told. MayRefuse self.now calls (Targeted site tree.now) told) }
     {
-        if site >= self.definition.sites().len() {
+        let handle = tree.handle();
+        let sites = self.definition.sites();
+        if site >= sites.len() || !invokes_known(sites, handle) {
             return Err(Refusal::NoSite);
         }
-        let handle = tree.handle();
         let declared = self.definition.method_type(site);
-        if !handle.method_type().equals(declared) {
+        if !handle.method_type().equals(declared) || !invokes_of_type(sites, handle) {
             return Err(Refusal::WrongType);
         }
         if handle.point_bound() > self.definition.points().len() {
             return Err(Refusal::NoPoint);
+        }
+        if !invokes_lower(sites, self.definition.level(site), handle) {
+            return Err(Refusal::WrongLevel);
         }
         if self.is_full(calls) {
             return Err(Refusal::HistoryFull);
@@ -128,7 +133,26 @@ impl Book {
             told) }
     {
         let problem = self.problem(snapshot)?;
-        test_plan(self.alloc, &problem, plan.plan())?;
+        self.test_offer(calls, snapshot, &problem, plan)
+    }
+
+    // The tests of a plan that is offered for the problem of a snapshot that was taken.
+    pub(crate) fn test_offer(
+        &self,
+        calls: usize,
+        snapshot: usize,
+        problem: &Problem,
+        plan: &SharedPlan,
+    ) -> Result<(), Refusal>
+        requires taken { IsTaken self.now.records snapshot }
+        requires problem { problem.now
+            ≡ problem_at self.now.definition self.now.records snapshot }
+        ensures passes { OnOk result (MayTake self.now calls (Published snapshot plan.now)) }
+        ensures refuses { IfErr result
+            (λ told. MayRefuse self.now calls (Published snapshot plan.now)
+            told) }
+    {
+        test_plan(self.alloc, problem, plan.plan())?;
         if self.is_full(calls) || self.plans.len() >= MOST_PLANS {
             return Err(Refusal::HistoryFull);
         }

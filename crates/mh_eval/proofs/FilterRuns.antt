@@ -2,7 +2,7 @@
 use Rattle.std.proofs.Common.{◌≡◌, ℕ, ◌+◌, ◌≤◌, List, [], ◌∷◌, length, take, drop, arith, lit≤, length-drop, length-take, ap, ◌-◌, Ok, Err}
 use Rattle.mh_type.specs.declared.kind.Kind.{Kind}
 use Rattle.mh_type.specs.declared.value.Value.{Value}
-use Rattle.mh_tree.specs.Limits.{total_size, greatest_bound}
+use Rattle.mh_tree.specs.Limits.{all_steps, greatest_bound}
 use Rattle.mh_tree.specs.Tree.{Tree, Filters, filter, no_more, absent, present}
 use Rattle.mh_tree.specs.Typing.{AreTyped}
 use Rattle.mh_type.specs.declared.outcome.Throw.{Throw}
@@ -10,23 +10,23 @@ use Rattle.mh_type.specs.declared.outcome.Outcome.TheVariants.{Thrown}
 use Rattle.mh_tree.specs.Meaning.{mean, steps, filtered, filter_steps, with_arguments, after_filters}
 use Rattle.mh_tree.specs.Widths.{CanRun, CanFilter}
 use Rattle.mh_tree.specs.Laws.{as_few, as_many}
-use Rattle.mh_tree.specs.Environment.{Environment}
+use Rattle.mh_tree.specs.Sites.{Setting, env, EachInvokes, MayReach, most_at, greatest_steps}
 
-can_filter : (fs : Filters) (old new : List Kind) (p w n : ℕ) → AreTyped fs old new → p + length old ≤ w → greatest_bound fs ≤ n → total_size fs ≤ 262144 → CanFilter fs p w n
-can_filter no_more old new p w n h a b c = tt
-can_filter (absent fs) (k ∷ old) (j ∷ new) p w n h a b c = (omega arith, can_filter fs old new (p + 1) w n h.1 (omega arith) b c)
-can_filter (absent fs) [] new p w n h a b c = absurd h
-can_filter (absent fs) (k ∷ old) [] p w n h a b c = absurd h
-can_filter (present f fs) (k ∷ old) (j ∷ new) p w n h a b c = (
+can_filter : (fs : Filters) (old new : List Kind) (p w : ℕ) (v : Setting) → AreTyped fs old new → p + length old ≤ w → greatest_bound fs ≤ length v.valid → all_steps (most_at v.level) fs ≤ greatest_steps → EachInvokes (MayReach v.level v.targets (length v.valid)) fs → CanFilter fs p w v
+can_filter no_more old new p w v h a b c e = tt
+can_filter (absent fs) (k ∷ old) (j ∷ new) p w v h a b c e = (omega arith, can_filter fs old new (p + 1) w v h.1 (omega arith) b c e)
+can_filter (absent fs) [] new p w v h a b c e = absurd h
+can_filter (absent fs) (k ∷ old) [] p w v h a b c e = absurd h
+can_filter (present f fs) (k ∷ old) (j ∷ new) p w v h a b c e = (
   omega arith,
-  record { signature = record { ret = k; parameters = j ∷ [] }; typed = h.0; wide = lit≤ tt; known = omega arith; small = omega arith },
-  can_filter fs old new (p + 1) w n h.1 (omega arith) (omega arith) (omega arith),
+  record { signature = record { ret = k; parameters = j ∷ [] }; typed = h.0; wide = lit≤ tt; known = omega arith; small = omega arith; invokes = e.0 },
+  can_filter fs old new (p + 1) w v h.1 (omega arith) (omega arith) (omega arith) e.1,
 )
-can_filter (present f fs) [] new p w n h a b c = absurd h
-can_filter (present f fs) (k ∷ old) [] p w n h a b c = absurd h
+can_filter (present f fs) [] new p w v h a b c e = absurd h
+can_filter (present f fs) (k ∷ old) [] p w v h a b c e = absurd h
 
-pub runs_filters : (t : Tree) (p : ℕ) (fs : Filters) (w n : ℕ) → CanRun (filter t p fs) w n → CanFilter fs p w n × (total_size fs ≤ 262144)
-runs_filters t p fs w n r =
+pub runs_filters : (t : Tree) (p : ℕ) (fs : Filters) (w : ℕ) (v : Setting) → CanRun (filter t p fs) w v → CanFilter fs p w v × (all_steps (most_at v.level) fs ≤ greatest_steps)
+runs_filters t p fs w v r =
     let old = r.typed.0.parameters in
     let new = r.signature.parameters in
     let typed = r.typed.5 in
@@ -35,11 +35,11 @@ runs_filters t p fs w n r =
     let lengths : (length (drop p old) ≡ length old - p) × (length (drop p new) ≡ length new - p) = (length-drop p old, length-drop p new) in
     let firsts : length (take p new) ≡ length (take p old) = ap (λ (ks : List Kind). length ks) r.typed.4 in
     let room : p + length (drop p old) ≤ w = omega (arith, r.wide, r.typed.2, length-take p old, length-take p new) in
-    let small : total_size fs ≤ 262144 = omega (arith, r.small) in
-    (can_filter fs (drop p old) (drop p new) p w n typed room (omega (arith, r.known)) small, small)
+    let small : all_steps (most_at v.level) fs ≤ greatest_steps = omega (arith, r.small) in
+    (can_filter fs (drop p old) (drop p new) p w v typed room (omega (arith, r.known)) small r.invokes.1, small)
 
-pub target_runs : (t : Tree) (p : ℕ) (fs : Filters) (w n : ℕ) → CanRun (filter t p fs) w n → CanRun t w n
-target_runs t p fs w n r =
+pub target_runs : (t : Tree) (p : ℕ) (fs : Filters) (w : ℕ) (v : Setting) → CanRun (filter t p fs) w v → CanRun t w v
+target_runs t p fs w v r =
     let old = r.typed.0.parameters in
     let new = r.signature.parameters in
     let many = as_many fs (drop p old) (drop p new) r.typed.5 in
@@ -50,17 +50,18 @@ target_runs t p fs w n r =
       wide = omega (arith, r.wide, r.typed.2, length-take p old, length-take p new, length-drop p old, length-drop p new);
       known = omega (arith, r.known);
       small = omega (arith, r.small);
+      invokes = r.invokes.0;
     }
 
-module _ (v : Environment) (t : Tree) (p : ℕ) (fs : Filters) (a : List Value) where
-  pub filter_throws : (x : Throw) → filtered v fs p a ≡ Err x → mean v (filter t p fs) a ≡ Thrown x
-  filter_throws x h = ap (λ r. with_arguments r (mean v t)) h
+module _ (v : Setting) (t : Tree) (p : ℕ) (fs : Filters) (a : List Value) where
+  pub filter_throws : (x : Throw) → filtered (env v) fs p a ≡ Err x → mean (env v) (filter t p fs) a ≡ Thrown x
+  filter_throws x h = ap (λ r. with_arguments r (mean (env v) t)) h
 
-  pub filter_throws_steps : (x : Throw) → filtered v fs p a ≡ Err x → steps v (filter t p fs) a ≡ 1 + filter_steps v fs p a
-  filter_throws_steps x h = let e = ap (λ r. after_filters r (steps v t)) h in omega (arith, e)
+  pub filter_throws_steps : (x : Throw) → filtered (env v) fs p a ≡ Err x → steps (env v) (filter t p fs) a ≡ 1 + filter_steps (env v) fs p a
+  filter_throws_steps x h = let e = ap (λ r. after_filters r (steps (env v) t)) h in omega (arith, e)
 
-  pub filter_goes : (b : List Value) → filtered v fs p a ≡ Ok b → mean v (filter t p fs) a ≡ mean v t b
-  filter_goes b h = ap (λ r. with_arguments r (mean v t)) h
+  pub filter_goes : (b : List Value) → filtered (env v) fs p a ≡ Ok b → mean (env v) (filter t p fs) a ≡ mean (env v) t b
+  filter_goes b h = ap (λ r. with_arguments r (mean (env v) t)) h
 
-  pub filter_goes_steps : (b : List Value) → filtered v fs p a ≡ Ok b → steps v (filter t p fs) a ≡ 1 + (filter_steps v fs p a + steps v t b)
-  filter_goes_steps b h = let e = ap (λ r. after_filters r (steps v t)) h in omega (arith, e)
+  pub filter_goes_steps : (b : List Value) → filtered (env v) fs p a ≡ Ok b → steps (env v) (filter t p fs) a ≡ 1 + (filter_steps (env v) fs p a + steps (env v) t b)
+  filter_goes_steps b h = let e = ap (λ r. after_filters r (steps (env v) t)) h in omega (arith, e)

@@ -4,6 +4,9 @@ mod EntersLeading
 mod Extending
 mod FilterRuns
 mod FilterWalks
+mod Invocations
+mod LawfulTrees
 mod QuietCalls
 mod QuietTrees
+mod SiteRuns
 mod Walks

@@ -1,6 +1,7 @@
 -- Where no node that is entered has String in its type, the code takes no memory.
 use Rattle.std.proofs.Common.{◌≡◌, ℕ, zero, suc, ◌+◌, ◌*◌, ◌≤◌, refl, ap, sym, ◌∙◌, List, [], ◌∷◌, ◌++◌, take, drop, map, length, arith, Bool, true, false, max, Result, Ok, Err, subst, length-append, length-take, length-drop, ℤ, if◌then◌else◌}
 use Rattle.std.specs.Prelude.{slice_set}
+use Rattle.std.proofs.lemmas.List.{take-map}
 use Rattle.std.proofs.Math.ListN.{length-set}
 use Rattle.mh_type.specs.declared.kind.Kind.{Kind}
 use Rattle.mh_type.specs.declared.kind.Kind.TheVariants as kind
@@ -14,20 +15,23 @@ use Rattle.mh_type.specs.declared.outcome.Outcome.TheVariants.{Thrown, Value as 
 use Rattle.mh_type.specs.Kinds.{kind_of}
 use Rattle.mh_type.specs.Operations.{operate, op_signature, two_ints, two_longs, two_booleans, two_texts, one_int, one_long, first, with_boolean, with_text, is_zero}
 use Rattle.mh_type.specs.Signature.{Signature}
-use Rattle.mh_tree.specs.Limits.{depth, deepest}
+use Rattle.mh_tree.specs.Limits.{depth, deepest, size, total_size}
 use Rattle.mh_tree.specs.Meaning.{◌>>=◌, mean, filtered, with_arguments, with_value, argument, put_in, taken_out, choose, is_valid}
-use Rattle.mh_tree.specs.Tree.{Tree, Filters, constant, identity, operation, insert, discard, permute, filter, filter_return, fold, guard, point, no_more, absent, present}
+use Rattle.mh_tree.specs.Tree.{Tree, Filters, constant, identity, operation, insert, discard, permute, filter, filter_return, fold, guard, point, invoke, no_more, absent, present}
 use Rattle.mh_tree.specs.TypeOf.{type_of}
 use Rattle.mh_tree.specs.Typing.{IsTyped, AreTyped}
 use Rattle.mh_tree.specs.Laws.{few_parameters, type_computed, mean_leading, filtered_length, Reads, reads_now, reads_at, reads_inserted, reads_discarded, reads_permuted, reads_one, reads_newest, reads_set, reads_nothing, permuted_wide, filter_wide, shorter, one_more, means}
-use Rattle.mh_tree.specs.Code.{Code}
+use Rattle.mh_tree.specs.Code.{Code, leaf, apply, bind, branch, switch, call}
+use Rattle.mh_eval.specs.Height.{height}
+use Rattle.mh_tree.specs.Running.{value_of}
 use Rattle.mh_eval.proofs.EntersLeading.{chosen_along, one_along, enters_leading}
-use Rattle.mh_eval.specs.Entered.{WithValue, Chosen, OneOf, IsPlainKind, ArePlain, IsPlain, WithArguments, EntersPlain, FiltersPlain}
+use Rattle.mh_eval.specs.Entered.{WithValue, Chosen, OneOf, IsPlainKind, ArePlain, IsPlain, WithArguments, EntersPlain, FiltersPlain, plain_below}
 use Rattle.mh_tree.specs.Prepared.{operand_at, prepared, prepared_filters}
 use Rattle.mh_eval.specs.Quiet.{IsQuiet, NoTexts, deep}
 use Rattle.mh_tree.specs.declared.operand.Operand.{Operand}
 use Rattle.mh_tree.specs.declared.operand.Operand.TheVariants.{Local, Constant}
-use Rattle.mh_tree.specs.Environment.{Environment}
+use Rattle.mh_tree.specs.Sites.{Setting, setting, env, env as world, EachInvoke, EachInvokes, MayReach, target_at, calls_below}
+use Rattle.mh_tree.specs.Handle.{TypedTree}
 
 abbrev NoText : Outcome → Type 0
 NoText o = WithValue o (λ x. IsPlainKind (kind_of x))
@@ -155,7 +159,7 @@ of_operation Len b h = of_one_text b _ (λ x. tt)
 pub not_text : (k : Kind) → IsPlainKind k → k ≡ kind.Text → ⊥
 not_text k h e = subst IsPlainKind e h
 
-root_plain : (v : Environment) (t : Tree) (a : List Value) → EntersPlain v t a → IsPlain (type_of t)
+root_plain : (v : Setting) (t : Tree) (a : List Value) → EntersPlain v t a → IsPlain (type_of t)
 root_plain v (constant x) a e = e.0
 root_plain v (identity k) a e = e.0
 root_plain v (operation o) a e = e.0
@@ -167,14 +171,15 @@ root_plain v (filter_return t f) a e = e.0
 root_plain v (fold t c) a e = e.0
 root_plain v (guard c x y) a e = e.0
 root_plain v (point p x y) a e = e.0
+root_plain v (invoke s n) a e = e.0
 
 -- the parameters of a node that is entered
-pub plain_parameters : (v : Environment) (t : Tree) (m : Signature) (a : List Value) → IsTyped t m → EntersPlain v t a → ArePlain m.parameters
+pub plain_parameters : (v : Setting) (t : Tree) (m : Signature) (a : List Value) → IsTyped t m → EntersPlain v t a → ArePlain m.parameters
 plain_parameters v t m a typed e =
     let P : Signature → Type 0 = λ n. ArePlain n.parameters in
     subst P (type_computed t m typed) (root_plain v t a e).1
 
-pub inserted_plain : (v : Environment) (t : Tree) (n : Signature) (p : ℕ) (xs b : List Value) → IsTyped t n → map kind_of xs ≡ take (length xs) (drop p n.parameters) → NoTexts b → EntersPlain v t (put_in b p xs) → NoTexts (put_in b p xs)
+pub inserted_plain : (v : Setting) (t : Tree) (n : Signature) (p : ℕ) (xs b : List Value) → IsTyped t n → map kind_of xs ≡ take (length xs) (drop p n.parameters) → NoTexts b → EntersPlain v t (put_in b p xs) → NoTexts (put_in b p xs)
 inserted_plain v t n p xs b typed kinds h e =
     let plain = plain_parameters v t n _ typed e in
     let values = of_kinds xs (subst ArePlain (sym kinds) (kinds_take (length xs) (drop p n.parameters) (kinds_drop p n.parameters plain))) in
@@ -208,62 +213,90 @@ if_plain : (z : Bool) (X Y : Outcome) (A B : Type 0) → OneOf z A B → (A → 
 if_plain true X Y A B e f g = f e
 if_plain false X Y A B e f g = g e
 
+-- where no site gives a text that enters no node with String in its type
+abbrev pub Safe : Setting → Type 0
+Safe v = (s : ℕ) (n : Signature) → MayReach v.level v.targets (length v.valid) s n → (a : List Value) → length n.parameters ≤ length a → NoTexts a → plain_below v.level v.valid v.targets s a → NoText (calls_below v.level v.valid v.targets s a)
+
+-- what is asked of a tree
+abbrev Reaches : Setting → Tree → Type 0
+Reaches v t = EachInvoke (MayReach v.level v.targets (length v.valid)) t
+
+abbrev ReachAll : Setting → Filters → Type 0
+ReachAll v fs = EachInvokes (MayReach v.level v.targets (length v.valid)) fs
+
 -- a tree that enters no node with String in its type gives no text
 mutual
-  pub plain_result : (v : Environment) (t : Tree) (m : Signature) (b : List Value) → IsTyped t m → length m.parameters ≤ length b → NoTexts b → EntersPlain v t b → NoText (mean v t b)
-  plain_result v (constant x) m b typed wide h e = e.0.0
-  plain_result v (identity k) m b typed wide h e = texts_at 0 b h
-  plain_result v (operation o) m b typed wide h e = of_operation o b e.0.0
-  plain_result v (insert t p xs) m b (n, typed, inserts) wide h e =
+  pub result_plain : (v : Setting) → Safe v → (t : Tree) (m : Signature) (b : List Value) → Reaches v t → IsTyped t m → length m.parameters ≤ length b → NoTexts b → EntersPlain v t b → NoText (mean (env v) t b)
+  result_plain v safe (constant x) m b r typed wide h e = e.0.0
+  result_plain v safe (identity k) m b r typed wide h e = texts_at 0 b h
+  result_plain v safe (operation o) m b r typed wide h e = of_operation o b e.0.0
+  result_plain v safe (insert t p xs) m b r (n, typed, inserts) wide h e =
       let made = ap (λ (k : Signature). length k.parameters) inserts.made in
       let inside = inserts.inside in
       let count = simp (length-append, length-take, length-drop) at made in
-      plain_result v t n (put_in b p xs) typed (simp (length-append, length-take, length-drop) (omega arith)) (inserted_plain v t n p xs b typed inserts.kinds h e.1) e.1
-  plain_result v (discard t p ks) m b (n, typed, discards) wide h e =
+      result_plain v safe t n (put_in b p xs) r typed (simp (length-append, length-take, length-drop) (omega arith)) (inserted_plain v t n p xs b typed inserts.kinds h e.1) e.1
+  result_plain v safe (discard t p ks) m b r (n, typed, discards) wide h e =
       let made = ap (λ (k : Signature). length k.parameters) discards.made in
       let inside = discards.inside in
       let count = simp (length-append, length-take, length-drop) at made in
-      plain_result v t n (taken_out b p (length ks)) typed (simp (length-append, length-take, length-drop) (omega arith)) (texts_append (take p b) _ (texts_take p b h) (texts_drop (p + length ks) b h)) e.1
-  plain_result v (permute t new_type r) m b (n, typed, reorders, made) wide h e =
-      plain_result v t n (map (argument b) r) typed (permuted_wide n m r b reorders) (texts_reordered b r h) e.1
-  plain_result v (filter t p fs) m b (n, typed, inside, returns, firsts, filters) wide h e =
+      result_plain v safe t n (taken_out b p (length ks)) r typed (simp (length-append, length-take, length-drop) (omega arith)) (texts_append (take p b) _ (texts_take p b h) (texts_drop (p + length ks) b h)) e.1
+  result_plain v safe (permute t new_type q) m b r (n, typed, reorders, made) wide h e =
+      result_plain v safe t n (map (argument b) q) r typed (permuted_wide n m q b reorders) (texts_reordered b q h) e.1
+  result_plain v safe (filter t p fs) m b r (n, typed, inside, returns, firsts, filters) wide h e =
       let enough = filter_wide p fs n.parameters m.parameters b inside firsts filters wide in
-      with_filtered (filtered v fs p b) (mean v t) (EntersPlain v t) (plain_filters v fs _ _ p b filters h e.1) e.2
-      (λ a is texts inner. plain_result v t n a typed (omega (arith, filtered_length v fs p b a is)) texts inner)
-  plain_result v (filter_return t f) m b (k, typed, last) wide h e =
-      then_plain (mean v t b) _ (λ x. EntersPlain v f (x ∷ [])) (plain_result v t _ b typed wide h e.1) e.2
-      (λ x p inner. plain_result v f _ (x ∷ []) last (omega arith) (p, tt) inner)
-  plain_result v (fold t c) m b (k, ks, typed, combiner, begins) wide h e =
+      with_filtered (filtered (env v) fs p b) (mean (env v) t) (EntersPlain v t) (filters_plain v safe fs _ _ p b r.1 filters h e.1) e.2
+      (λ a is texts inner. result_plain v safe t n a r.0 typed (omega (arith, filtered_length (env v) fs p b a is)) texts inner)
+  result_plain v safe (filter_return t f) m b r (k, typed, last) wide h e =
+      then_plain (mean (env v) t b) _ (λ x. EntersPlain v f (x ∷ [])) (result_plain v safe t _ b r.0 typed wide h e.1) e.2
+      (λ x p inner. result_plain v safe f _ (x ∷ []) r.1 last (omega arith) (p, tt) inner)
+  result_plain v safe (fold t c) m b r (k, ks, typed, combiner, begins) wide h e =
       let few = shorter ks m.parameters begins in
-      let lead = mean_leading v c _ b combiner (omega arith) in
+      let lead = mean_leading (env v) c _ b combiner (omega arith) in
       let entered = enters_leading v c _ b combiner (omega arith) e.1 in
       let W : Outcome → Type 0 = λ o. WithValue o (λ x. EntersPlain v t (x ∷ b)) in
-      let P : Outcome → Type 0 = λ o. NoText (o >>= (λ x. mean v t (x ∷ b))) in
+      let P : Outcome → Type 0 = λ o. NoText (o >>= (λ x. mean (env v) t (x ∷ b))) in
       subst P (sym lead)
-      (then_plain (mean v c b) _ (λ x. EntersPlain v t (x ∷ b)) (plain_result v c _ b combiner (omega arith) h entered) (subst W lead e.2)
-      (λ x p inner. plain_result v t _ (x ∷ b) typed (omega arith) (p, h) inner))
-  plain_result v (guard c x y) m b (ks, test, begins, one, two) wide h e =
+      (then_plain (mean (env v) c b) _ (λ x. EntersPlain v t (x ∷ b)) (result_plain v safe c _ b r.1 combiner (omega arith) h entered) (subst W lead e.2)
+      (λ x p inner. result_plain v safe t _ (x ∷ b) r.0 typed (omega arith) (p, h) inner))
+  result_plain v safe (guard c x y) m b r (ks, test, begins, one, two) wide h e =
       let few = shorter ks m.parameters begins in
-      let lead = mean_leading v c _ b test (omega arith) in
+      let lead = mean_leading (env v) c _ b test (omega arith) in
       let entered = enters_leading v c _ b test (omega arith) e.1 in
       let W : Outcome → Type 0 = λ o. WithValue o (λ z. Chosen z (EntersPlain v x b) (EntersPlain v y b)) in
-      let P : Outcome → Type 0 = λ o. NoText (o >>= (λ z. choose z (mean v x b) (mean v y b))) in
+      let P : Outcome → Type 0 = λ o. NoText (o >>= (λ z. choose z (mean (env v) x b) (mean (env v) y b))) in
       subst P (sym lead)
-      (then_plain (mean v c b) _ (λ z. Chosen z (EntersPlain v x b) (EntersPlain v y b)) (plain_result v c _ b test (omega arith) h entered) (subst W lead e.2)
-      (λ z p inner. choose_plain z _ _ _ _ inner (plain_result v x m b one wide h) (plain_result v y m b two wide h)))
-  plain_result v (point p x y) m b (one, two) wide h e =
-      if_plain (is_valid v p) _ _ _ _ e.1 (plain_result v x m b one wide h) (plain_result v y m b two wide h)
+      (then_plain (mean (env v) c b) _ (λ z. Chosen z (EntersPlain v x b) (EntersPlain v y b)) (result_plain v safe c _ b r.0 test (omega arith) h entered) (subst W lead e.2)
+      (λ z p inner. choose_plain z _ _ _ _ inner (result_plain v safe x m b r.1 one wide h) (result_plain v safe y m b r.2 two wide h)))
+  result_plain v safe (point p x y) m b r (one, two) wide h e =
+      if_plain (is_valid (env v) p) _ _ _ _ e.1 (result_plain v safe x m b r.0 one wide h) (result_plain v safe y m b r.1 two wide h)
+  result_plain v safe (invoke s n) m b r (few, made) wide h e =
+      let many = ap (λ (k : Signature). length k.parameters) made in
+      safe s n r (take (length n.parameters) b) (omega (arith, length-take (length n.parameters) b)) (texts_take (length n.parameters) b h) e.1
 
-  pub plain_filters : (v : Environment) (fs : Filters) (old new : List Kind) (p : ℕ) (b : List Value) → AreTyped fs old new → NoTexts b → FiltersPlain v fs p b → WithArguments (filtered v fs p b) NoTexts
-  plain_filters v no_more old new p b typed h e = h
-  plain_filters v (absent fs) (z ∷ old) (j ∷ new) p b typed h e = plain_filters v fs old new (p + 1) b typed.1 h e
-  plain_filters v (absent fs) [] new p b typed h e = absurd typed
-  plain_filters v (absent fs) (z ∷ old) [] p b typed h e = absurd typed
-  plain_filters v (present f fs) (z ∷ old) (j ∷ new) p b typed h e =
-      then_filter (mean v f (argument b p ∷ [])) _ (λ x. FiltersPlain v fs (p + 1) (slice_set b p x)) (plain_result v f _ (argument b p ∷ []) typed.0 (omega arith) (texts_at p b h, tt) e.0) e.1
-      (λ x q inner. plain_filters v fs old new (p + 1) (slice_set b p x) typed.1 (texts_set p b x q h) inner)
-  plain_filters v (present f fs) [] new p b typed h e = absurd typed
-  plain_filters v (present f fs) (z ∷ old) [] p b typed h e = absurd typed
+  pub filters_plain : (v : Setting) → Safe v → (fs : Filters) (old new : List Kind) (p : ℕ) (b : List Value) → ReachAll v fs → AreTyped fs old new → NoTexts b → FiltersPlain v fs p b → WithArguments (filtered (env v) fs p b) NoTexts
+  filters_plain v safe no_more old new p b r typed h e = h
+  filters_plain v safe (absent fs) (z ∷ old) (j ∷ new) p b r typed h e = filters_plain v safe fs old new (p + 1) b r typed.1 h e
+  filters_plain v safe (absent fs) [] new p b r typed h e = absurd typed
+  filters_plain v safe (absent fs) (z ∷ old) [] p b r typed h e = absurd typed
+  filters_plain v safe (present f fs) (z ∷ old) (j ∷ new) p b r typed h e =
+      then_filter (mean (env v) f (argument b p ∷ [])) _ (λ x. FiltersPlain v fs (p + 1) (slice_set b p x)) (result_plain v safe f _ (argument b p ∷ []) r.0 typed.0 (omega arith) (texts_at p b h, tt) e.0) e.1
+      (λ x q inner. filters_plain v safe fs old new (p + 1) (slice_set b p x) r.1 typed.1 (texts_set p b x q h) inner)
+  filters_plain v safe (present f fs) [] new p b r typed h e = absurd typed
+  filters_plain v safe (present f fs) (z ∷ old) [] p b r typed h e = absurd typed
+
+-- no site does
+all_safe : (d : ℕ) (valid : List Bool) (targets : List TypedTree) → Safe (setting d valid targets)
+all_safe zero valid targets s n may a wide none plain = absurd may
+all_safe (suc d) valid targets s n may a wide none plain =
+    let same = ap (λ (k : Signature). length k.parameters) may.1 in
+    result_plain (setting d valid targets) (all_safe d valid targets) (target_at targets s).tree (target_at targets s).signature a may.4 may.2 (omega (arith, same, wide)) none plain
+
+module _ (v : Setting) where
+  pub plain_result : (t : Tree) (m : Signature) (b : List Value) → Reaches v t → IsTyped t m → length m.parameters ≤ length b → NoTexts b → EntersPlain v t b → NoText (mean (env v) t b)
+  plain_result = result_plain v (all_safe v.level v.valid v.targets)
+
+  pub plain_filters : (fs : Filters) (old new : List Kind) (p : ℕ) (b : List Value) → ReachAll v fs → AreTyped fs old new → NoTexts b → FiltersPlain v fs p b → WithArguments (filtered (env v) fs p b) NoTexts
+  plain_filters = filters_plain v (all_safe v.level v.valid v.targets)
 
 -- both facts of the arguments after a filter
 both_with : (o : Outcome) (g : Value → Result (List Value) Throw) (F : Value → Type 0) (E : List Value → Type 0) → WithValue o F → WithArguments (with_value o g) E → WithValue o (λ x. F x × WithArguments (g x) E)
@@ -272,77 +305,81 @@ both_with (Thrown t) g F E p q = tt
 
 -- and its code takes no memory
 mutual
-  pub quiet : (v : Environment) (t : Tree) (m : Signature) (env : List Operand) (d s : ℕ) (a l b : List Value) → IsTyped t m → length m.parameters ≤ length b → d ≡ length l → Reads a l env b → NoTexts b → EntersPlain v t b → IsQuiet v (prepared t env d s) a l
-  quiet v (constant x) m env d s a l b typed wide deep h n e = not_text (kind_of x) e.0.0
-  quiet v (identity k) m env d s a l b typed wide deep h n e =
+  pub quiet : (v : Setting) (t : Tree) (m : Signature) (env : List Operand) (d s : ℕ) (a l b : List Value) → Reaches v t → IsTyped t m → length m.parameters ≤ length b → d ≡ length l → Reads a l env b → NoTexts b → EntersPlain v t b → IsQuiet v (prepared t env d s) a l
+  quiet v (constant x) m env d s a l b reach typed wide deep h n e = not_text (kind_of x) e.0.0
+  quiet v (identity k) m env d s a l b reach typed wide deep h n e =
       let same = reads_at a l env b 0 (reads_now a l env b h) in
       λ is. not_text (kind_of (argument b 0)) (texts_at 0 b n) (ap kind_of (sym same) ∙ is)
-  quiet v (operation o) m env d s a l b typed wide deep h n e =
+  quiet v (operation o) m env d s a l b reach typed wide deep h n e =
       λ is. let P : Op → Type 0 = λ q. IsPlainKind (op_signature q).ret in subst P is e.0.0
-  quiet v (insert t p xs) m env d s a l b (n, typed, inserts) wide deep h none e =
+  quiet v (insert t p xs) m env d s a l b reach (n, typed, inserts) wide deep h none e =
       let made = ap (λ (k : Signature). length k.parameters) inserts.made in
       let inside = inserts.inside in
       let count = simp (length-append, length-take, length-drop) at made in
-      quiet v t n _ d (s + 1) a l (put_in b p xs) typed (simp (length-append, length-take, length-drop) (omega arith)) deep (reads_inserted a l env b p xs h) (inserted_plain v t n p xs b typed inserts.kinds none e.1) e.1
-  quiet v (discard t p ks) m env d s a l b (n, typed, discards) wide deep h none e =
+      quiet v t n _ d (s + 1) a l (put_in b p xs) reach typed (simp (length-append, length-take, length-drop) (omega arith)) deep (reads_inserted a l env b p xs h) (inserted_plain v t n p xs b typed inserts.kinds none e.1) e.1
+  quiet v (discard t p ks) m env d s a l b reach (n, typed, discards) wide deep h none e =
       let made = ap (λ (k : Signature). length k.parameters) discards.made in
       let inside = discards.inside in
       let count = simp (length-append, length-take, length-drop) at made in
-      quiet v t n _ d (s + 1) a l (taken_out b p (length ks)) typed (simp (length-append, length-take, length-drop) (omega arith)) deep (reads_discarded a l env b p (length ks) h) (texts_append (take p b) _ (texts_take p b none) (texts_drop (p + length ks) b none)) e.1
-  quiet v (permute t new_type r) m env d s a l b (n, typed, reorders, made) wide deep h none e =
-      quiet v t n _ d (s + 1) a l (map (argument b) r) typed (permuted_wide n m r b reorders) deep (reads_permuted a l env b r h) (texts_reordered b r none) e.1
-  quiet v (filter t p fs) m env d s a l b (n, typed, inside, returns, firsts, filters) wide deep h none e =
-      quiet_filters v fs (drop p n.parameters) (drop p m.parameters) p env d (s + 1) a l b (prepared t) t (length n.parameters) filters
+      quiet v t n _ d (s + 1) a l (taken_out b p (length ks)) reach typed (simp (length-append, length-take, length-drop) (omega arith)) deep (reads_discarded a l env b p (length ks) h) (texts_append (take p b) _ (texts_take p b none) (texts_drop (p + length ks) b none)) e.1
+  quiet v (permute t new_type r) m env d s a l b reach (n, typed, reorders, made) wide deep h none e =
+      quiet v t n _ d (s + 1) a l (map (argument b) r) reach typed (permuted_wide n m r b reorders) deep (reads_permuted a l env b r h) (texts_reordered b r none) e.1
+  quiet v (filter t p fs) m env d s a l b reach (n, typed, inside, returns, firsts, filters) wide deep h none e =
+      quiet_filters v fs (drop p n.parameters) (drop p m.parameters) p env d (s + 1) a l b (prepared t) t (length n.parameters) reach.1 filters
       (filter_wide p fs n.parameters m.parameters b inside firsts filters wide) deep h none e.1 e.2
-      (λ env' d' s' l' b' wide' deep' h' none' e'. quiet v t n env' d' s' a l' b' typed wide' deep' h' none' e')
-  quiet v (filter_return t f) m env d s a l b (k, typed, last) wide deep h n e =
+      (λ env' d' s' l' b' wide' deep' h' none' e'. quiet v t n env' d' s' a l' b' reach.0 typed wide' deep' h' none' e')
+  quiet v (filter_return t f) m env d s a l b reach (k, typed, last) wide deep h n e =
       let P : Outcome → Type 0 = λ o. WithValue o (λ x. IsQuiet v (prepared f (Local d ∷ []) (d + 1) 0) a (l ++ x ∷ [])) in (
-        quiet v t _ env d 0 a l b typed wide deep h n e.1,
-        subst P (sym (means v t _ env d 0 a l b typed wide deep h))
-            (along (mean v t b) (λ x. EntersPlain v f (x ∷ [])) _ (plain_result v t _ b typed wide n e.1) e.2
-            (λ x p inner. quiet v f _ (Local d ∷ []) (d + 1) 0 a (l ++ x ∷ []) (x ∷ []) last (omega arith) (one_more l x d deep) (reads_newest a l x d [] [] deep (reads_nothing a l)) (p, tt) inner)),
+        quiet v t _ env d 0 a l b reach.0 typed wide deep h n e.1,
+        subst P (sym (means (world v) t _ env d 0 a l b typed wide deep h))
+            (along (mean (world v) t b) (λ x. EntersPlain v f (x ∷ [])) _ (plain_result v t _ b reach.0 typed wide n e.1) e.2
+            (λ x p inner. quiet v f _ (Local d ∷ []) (d + 1) 0 a (l ++ x ∷ []) (x ∷ []) reach.1 last (omega arith) (one_more l x d deep) (reads_newest a l x d [] [] deep (reads_nothing a l)) (p, tt) inner)),
       )
-  quiet v (fold t c) m env d s a l b (k, ks, typed, combiner, begins) wide deep h n e =
+  quiet v (fold t c) m env d s a l b reach (k, ks, typed, combiner, begins) wide deep h n e =
       let few = shorter ks m.parameters begins in
-      let lead = mean_leading v c _ b combiner (omega arith) in
+      let lead = mean_leading (world v) c _ b combiner (omega arith) in
       let entered = enters_leading v c _ b combiner (omega arith) e.1 in
       let W : Outcome → Type 0 = λ o. WithValue o (λ x. EntersPlain v t (x ∷ b)) in
       let P : Outcome → Type 0 = λ o. WithValue o (λ x. IsQuiet v (prepared t (Local d ∷ env) (d + 1) 0) a (l ++ x ∷ [])) in (
-        quiet v c _ env d 0 a l b combiner (omega arith) deep h n entered,
-        subst P (sym (means v c _ env d 0 a l b combiner (omega arith) deep h))
-            (along (mean v c b) (λ x. EntersPlain v t (x ∷ b)) _ (plain_result v c _ b combiner (omega arith) n entered) (subst W lead e.2)
-            (λ x p inner. quiet v t _ (Local d ∷ env) (d + 1) 0 a (l ++ x ∷ []) (x ∷ b) typed (omega arith) (one_more l x d deep) (reads_newest a l x d env b deep h) (p, n) inner)),
+        quiet v c _ env d 0 a l b reach.1 combiner (omega arith) deep h n entered,
+        subst P (sym (means (world v) c _ env d 0 a l b combiner (omega arith) deep h))
+            (along (mean (world v) c b) (λ x. EntersPlain v t (x ∷ b)) _ (plain_result v c _ b reach.1 combiner (omega arith) n entered) (subst W lead e.2)
+            (λ x p inner. quiet v t _ (Local d ∷ env) (d + 1) 0 a (l ++ x ∷ []) (x ∷ b) reach.0 typed (omega arith) (one_more l x d deep) (reads_newest a l x d env b deep h) (p, n) inner)),
       )
-  quiet v (guard c x y) m env d s a l b (ks, test, begins, one, two) wide deep h n e =
+  quiet v (guard c x y) m env d s a l b reach (ks, test, begins, one, two) wide deep h n e =
       let few = shorter ks m.parameters begins in
-      let lead = mean_leading v c _ b test (omega arith) in
+      let lead = mean_leading (world v) c _ b test (omega arith) in
       let entered = enters_leading v c _ b test (omega arith) e.1 in
       let W : Outcome → Type 0 = λ o. WithValue o (λ z. Chosen z (EntersPlain v x b) (EntersPlain v y b)) in
       let P : Outcome → Type 0 = λ o. WithValue o (λ z. Chosen z (IsQuiet v (prepared x env d 0) a l) (IsQuiet v (prepared y env d 0) a l)) in (
-        quiet v c _ env d 0 a l b test (omega arith) deep h n entered,
-        subst P (sym (means v c _ env d 0 a l b test (omega arith) deep h))
-            (along (mean v c b) (λ z. Chosen z (EntersPlain v x b) (EntersPlain v y b)) _ (plain_result v c _ b test (omega arith) n entered) (subst W lead e.2)
-            (λ z p inner. chosen_along z _ _ _ _ (quiet v x m env d 0 a l b one wide deep h n) (quiet v y m env d 0 a l b two wide deep h n) inner)),
+        quiet v c _ env d 0 a l b reach.0 test (omega arith) deep h n entered,
+        subst P (sym (means (world v) c _ env d 0 a l b test (omega arith) deep h))
+            (along (mean (world v) c b) (λ z. Chosen z (EntersPlain v x b) (EntersPlain v y b)) _ (plain_result v c _ b reach.0 test (omega arith) n entered) (subst W lead e.2)
+            (λ z p inner. chosen_along z _ _ _ _ (quiet v x m env d 0 a l b reach.1 one wide deep h n) (quiet v y m env d 0 a l b reach.2 two wide deep h n) inner)),
       )
-  quiet v (point p x y) m env d s a l b (one, two) wide deep h n e =
-      one_along (is_valid v p) _ _ _ _ (quiet v x m env d 0 a l b one wide deep h n) (quiet v y m env d 0 a l b two wide deep h n) e.1
+  quiet v (point p x y) m env d s a l b reach (one, two) wide deep h n e =
+      one_along (is_valid (world v) p) _ _ _ _ (quiet v x m env d 0 a l b reach.0 one wide deep h n) (quiet v y m env d 0 a l b reach.1 two wide deep h n) e.1
+  quiet v (invoke k q) m env d s a l b reach typed wide deep h n e =
+      let w = length q.parameters in
+      let same : map (value_of a l) (take w env) ≡ take w b = sym (take-map (value_of a l) w env) ∙ ap (λ c. take w c) (reads_now a l env b h) in
+      (subst NoTexts (sym same) (texts_take w b n), subst (plain_below v.level v.valid v.targets k) (sym same) e.1)
 
-  quiet_filters : (v : Environment) (fs : Filters) (old new : List Kind) (p : ℕ) (env : List Operand) (d s : ℕ) (a l b : List Value) (go : List Operand → ℕ → ℕ → Code) (t : Tree) (w : ℕ) → AreTyped fs old new → w ≤ length b → d ≡ length l → Reads a l env b → NoTexts b → FiltersPlain v fs p b → WithArguments (filtered v fs p b) (EntersPlain v t) → ((env' : List Operand) (d' s' : ℕ) (l' b' : List Value) → w ≤ length b' → d' ≡ length l' → Reads a l' env' b' → NoTexts b' → EntersPlain v t b' → IsQuiet v (go env' d' s') a l') → IsQuiet v (prepared_filters fs p env d s go) a l
-  quiet_filters v no_more old new p env d s a l b go t w typed wide deep h n e inner k = k env d s l b wide deep h n inner
-  quiet_filters v (absent fs) (z ∷ old) (j ∷ new) p env d s a l b go t w typed wide deep h n e inner k =
-      quiet_filters v fs old new (p + 1) env d s a l b go t w typed.1 wide deep h n e inner k
-  quiet_filters v (absent fs) [] new p env d s a l b go t w typed wide deep h n e inner k = absurd typed
-  quiet_filters v (absent fs) (z ∷ old) [] p env d s a l b go t w typed wide deep h n e inner k = absurd typed
-  quiet_filters v (present f fs) (z ∷ old) (j ∷ new) p env d s a l b go t w typed wide deep h n e inner k =
+  quiet_filters : (v : Setting) (fs : Filters) (old new : List Kind) (p : ℕ) (env : List Operand) (d s : ℕ) (a l b : List Value) (go : List Operand → ℕ → ℕ → Code) (t : Tree) (w : ℕ) → ReachAll v fs → AreTyped fs old new → w ≤ length b → d ≡ length l → Reads a l env b → NoTexts b → FiltersPlain v fs p b → WithArguments (filtered (world v) fs p b) (EntersPlain v t) → ((env' : List Operand) (d' s' : ℕ) (l' b' : List Value) → w ≤ length b' → d' ≡ length l' → Reads a l' env' b' → NoTexts b' → EntersPlain v t b' → IsQuiet v (go env' d' s') a l') → IsQuiet v (prepared_filters fs p env d s go) a l
+  quiet_filters v no_more old new p env d s a l b go t w reach typed wide deep h n e inner k = k env d s l b wide deep h n inner
+  quiet_filters v (absent fs) (z ∷ old) (j ∷ new) p env d s a l b go t w reach typed wide deep h n e inner k =
+      quiet_filters v fs old new (p + 1) env d s a l b go t w reach typed.1 wide deep h n e inner k
+  quiet_filters v (absent fs) [] new p env d s a l b go t w reach typed wide deep h n e inner k = absurd typed
+  quiet_filters v (absent fs) (z ∷ old) [] p env d s a l b go t w reach typed wide deep h n e inner k = absurd typed
+  quiet_filters v (present f fs) (z ∷ old) (j ∷ new) p env d s a l b go t w reach typed wide deep h n e inner k =
       let P : Outcome → Type 0 = λ o. WithValue o (λ x. IsQuiet v (prepared_filters fs (p + 1) (slice_set env p (Local d)) (d + 1) 0 go) a (l ++ x ∷ [])) in (
-        quiet v f _ (operand_at env p ∷ []) d 0 a l (argument b p ∷ []) typed.0 (omega arith) deep (reads_one a l env b p h) (texts_at p b n, tt) e.0,
-        subst P (sym (means v f _ (operand_at env p ∷ []) d 0 a l (argument b p ∷ []) typed.0 (omega arith) deep (reads_one a l env b p h)))
-            (along (mean v f (argument b p ∷ [])) (λ x. FiltersPlain v fs (p + 1) (slice_set b p x) × WithArguments (filtered v fs (p + 1) (slice_set b p x)) (EntersPlain v t)) _
-            (plain_result v f _ (argument b p ∷ []) typed.0 (omega arith) (texts_at p b n, tt) e.0) (both_with (mean v f (argument b p ∷ [])) _ _ (EntersPlain v t) e.1 inner)
-            (λ x q pair. quiet_filters v fs old new (p + 1) (slice_set env p (Local d)) (d + 1) 0 a (l ++ x ∷ []) (slice_set b p x) go t w typed.1 (omega (arith, length-set b p x)) (one_more l x d deep) (reads_set a l x d p env b deep h) (texts_set p b x q n) pair.0 pair.1 k)),
+        quiet v f _ (operand_at env p ∷ []) d 0 a l (argument b p ∷ []) reach.0 typed.0 (omega arith) deep (reads_one a l env b p h) (texts_at p b n, tt) e.0,
+        subst P (sym (means (world v) f _ (operand_at env p ∷ []) d 0 a l (argument b p ∷ []) typed.0 (omega arith) deep (reads_one a l env b p h)))
+            (along (mean (world v) f (argument b p ∷ [])) (λ x. FiltersPlain v fs (p + 1) (slice_set b p x) × WithArguments (filtered (world v) fs (p + 1) (slice_set b p x)) (EntersPlain v t)) _
+            (plain_result v f _ (argument b p ∷ []) reach.0 typed.0 (omega arith) (texts_at p b n, tt) e.0) (both_with (mean (world v) f (argument b p ∷ [])) _ _ (EntersPlain v t) e.1 inner)
+            (λ x q pair. quiet_filters v fs old new (p + 1) (slice_set env p (Local d)) (d + 1) 0 a (l ++ x ∷ []) (slice_set b p x) go t w reach.1 typed.1 (omega (arith, length-set b p x)) (one_more l x d deep) (reads_set a l x d p env b deep h) (texts_set p b x q n) pair.0 pair.1 k)),
       )
-  quiet_filters v (present f fs) [] new p env d s a l b go t w typed wide deep h n e inner k = absurd typed
-  quiet_filters v (present f fs) (z ∷ old) [] p env d s a l b go t w typed wide deep h n e inner k = absurd typed
+  quiet_filters v (present f fs) [] new p env d s a l b go t w reach typed wide deep h n e inner k = absurd typed
+  quiet_filters v (present f fs) (z ∷ old) [] p env d s a l b go t w reach typed wide deep h n e inner k = absurd typed
 
 -- the locals of a tree's code
 mutual
@@ -362,6 +399,7 @@ mutual
   shallow (fold t c) m env d s (k, ks, typed, combiner, begins) = omega (arith, shallow c _ env d 0 combiner, shallow t _ (Local d ∷ env) (d + 1) 0 typed)
   shallow (guard c x y) m env d s (ks, test, begins, one, two) = omega (arith, shallow c _ env d 0 test, shallow x m env d 0 one, shallow y m env d 0 two)
   shallow (point p x y) m env d s (one, two) = omega (arith, shallow x m env d 0 one, shallow y m env d 0 two)
+  shallow (invoke k q) m env d s typed = omega arith
 
   shallow_filters : (fs : Filters) (old new : List Kind) (p : ℕ) (env : List Operand) (d s : ℕ) (go : List Operand → ℕ → ℕ → Code) (most : ℕ) → AreTyped fs old new → ((env' : List Operand) (d' s' : ℕ) → deep (go env' d' s') ≤ most) → 16 * deepest fs ≤ most → deep (prepared_filters fs p env d s go) ≤ length old + most
   shallow_filters no_more old new p env d s go most typed k h = omega (arith, k env d s)
@@ -374,3 +412,48 @@ mutual
       omega arith
   shallow_filters (present f fs) [] new p env d s go most typed k h = absurd typed
   shallow_filters (present f fs) (z ∷ old) [] p env d s go most typed k h = absurd typed
+
+-- each tree has a node, and each code a piece
+some_size : (t : Tree) → 1 ≤ size t
+some_size (constant x) = omega arith
+some_size (identity k) = omega arith
+some_size (operation o) = omega arith
+some_size (insert t p xs) = omega arith
+some_size (discard t p ks) = omega arith
+some_size (permute t m r) = omega arith
+some_size (filter t p fs) = omega arith
+some_size (filter_return t f) = omega arith
+some_size (fold t c) = omega arith
+some_size (guard c x y) = omega arith
+some_size (point p x y) = omega arith
+some_size (invoke s n) = omega arith
+
+some_height : (c : Code) → 1 ≤ height c
+some_height (leaf s o) = omega arith
+some_height (apply s op x y) = omega arith
+some_height (bind s f g) = omega arith
+some_height (branch s c x y) = omega arith
+some_height (switch s p x y) = omega arith
+some_height (call s k os) = omega arith
+
+-- the height of a tree's code
+mutual
+  pub low : (t : Tree) (env : List Operand) (d s : ℕ) → height (prepared t env d s) ≤ size t
+  low (constant x) env d s = omega arith
+  low (identity k) env d s = omega arith
+  low (operation o) env d s = omega arith
+  low (insert t p xs) env d s = omega (arith, low t (take p env ++ (map Constant xs ++ drop p env)) d (s + 1))
+  low (discard t p ks) env d s = omega (arith, low t (take p env ++ drop (p + length ks) env) d (s + 1))
+  low (permute t m r) env d s = omega (arith, low t (map (operand_at env) r) d (s + 1))
+  low (filter t p fs) env d s = omega (arith, low_filters fs p env d (s + 1) (prepared t) (size t) (λ env' d' s'. low t env' d' s'))
+  low (filter_return t f) env d s = omega (arith, low t env d 0, low f (Local d ∷ []) (d + 1) 0, some_size t, some_size f)
+  low (fold t c) env d s = omega (arith, low c env d 0, low t (Local d ∷ env) (d + 1) 0, some_size t, some_size c)
+  low (guard c x y) env d s = omega (arith, low c env d 0, low x env d 0, low y env d 0)
+  low (point p x y) env d s = omega (arith, low x env d 0, low y env d 0)
+  low (invoke k n) env d s = omega arith
+
+  low_filters : (fs : Filters) (p : ℕ) (env : List Operand) (d s : ℕ) (go : List Operand → ℕ → ℕ → Code) (n : ℕ) → ((env' : List Operand) (d' s' : ℕ) → height (go env' d' s') ≤ n) → height (prepared_filters fs p env d s go) ≤ total_size fs + n
+  low_filters no_more p env d s go n k = omega (arith, k env d s)
+  low_filters (absent fs) p env d s go n k = low_filters fs (p + 1) env d s go n k
+  low_filters (present f fs) p env d s go n k =
+      omega (arith, low f (operand_at env p ∷ []) d 0, low_filters fs (p + 1) (slice_set env p (Local d)) (d + 1) 0 go n k, some_size f, k env d s, some_height (go env d s))

@@ -10,27 +10,27 @@ use Rattle.mh_eval.specs.Answers.{Ran}
 use Rattle.mh_eval.specs.Height.{height}
 use Rattle.mh_eval.specs.Quiet.{IsAnswered, IsQuiet, deep}
 use Rattle.mh_eval.specs.declared.answer.Answer.{Answer}
-use Rattle.mh_tree.specs.Environment.{Environment}
+use Rattle.mh_tree.specs.Sites.{Setting, env, MayCall, most_at}
 
 -- Code d, below the locals new and after n steps, does what is left of c.
-pub record Leaves (v : Environment) (a : List Value) (c : Code) (old : List Value) (m : ℕ) (d : Code) (new : List Value) (n : ℕ) : Type 0 where
-  pub outcome : run_code v d a new ≡ run_code v c a old
-  pub steps : n + code_steps v d a new ≡ m + code_steps v c a old
-  pub few : n + weight d ≤ m + weight c
-  pub scoped : IsScoped (length v.valid) (length a) (length new) d
+pub record Leaves (v : Setting) (a : List Value) (c : Code) (old : List Value) (m : ℕ) (d : Code) (new : List Value) (n : ℕ) : Type 0 where
+  pub outcome : run_code (env v) d a new ≡ run_code (env v) c a old
+  pub steps : n + code_steps (env v) d a new ≡ m + code_steps (env v) c a old
+  pub few : n + weight (most_at v.level) d ≤ m + weight (most_at v.level) c
+  pub scoped : IsScoped (MayCall v.level v.targets (length v.valid)) (length v.valid) (length a) (length new) d
   pub lower : height d < height c
   pub quiet : IsQuiet v c a old → IsQuiet v d a new
   pub shallow : length new + deep d ≤ length old + deep c
 
 -- The answer r is c's, after n steps. With the capacity it is not refused where c is quiet.
-pub record EndsWith (v : Environment) (a : List Value) (c : Code) (old : List Value) (m capacity : ℕ) (r : Answer) (n : ℕ) : Type 0 where
-  pub ran : Ran r n (run_code v c a old) (m + code_steps v c a old)
-  pub few : n ≤ m + weight c
+pub record EndsWith (v : Setting) (a : List Value) (c : Code) (old : List Value) (m capacity : ℕ) (r : Answer) (n : ℕ) : Type 0 where
+  pub ran : Ran r n (run_code (env v) c a old) (m + code_steps (env v) c a old)
+  pub few : n ≤ m + weight (most_at v.level) c
   pub quiet : IsQuiet v c a old → length old + deep c ≤ capacity → IsAnswered r
 
 -- The result r is c's outcome with all steps, or memory was refused. With the capacity it is not refused where c is quiet.
-pub record Tells {E : Type 0} (r : Result (Outcome × ℕ) E) (v : Environment) (a : List Value) (c : Code) (old : List Value) (m capacity : ℕ) : Type 0 where
-  pub outcome : IfOk r (λ p. p.0 ≡ run_code v c a old)
-  pub steps : IfOk r (λ p. p.1 ≡ m + code_steps v c a old)
-  pub few : IfOk r (λ p. p.1 ≤ m + weight c)
+pub record Tells {E : Type 0} (r : Result (Outcome × ℕ) E) (v : Setting) (a : List Value) (c : Code) (old : List Value) (m capacity : ℕ) : Type 0 where
+  pub outcome : IfOk r (λ p. p.0 ≡ run_code (env v) c a old)
+  pub steps : IfOk r (λ p. p.1 ≡ m + code_steps (env v) c a old)
+  pub few : IfOk r (λ p. p.1 ≤ m + weight (most_at v.level) c)
   pub quiet : IsQuiet v c a old → length old + deep c ≤ capacity → IsOk r

@@ -5,7 +5,7 @@ use Rattle.mh_type.specs.declared.value.Value.TheVariants as value
 use Rattle.mh_type.specs.declared.outcome.Throw.{Throw}
 use Rattle.mh_type.specs.declared.outcome.Outcome.{Outcome}
 use Rattle.mh_type.specs.declared.outcome.Outcome.TheVariants as outcome
-use Rattle.mh_tree.specs.Limits.{depth, size, deepest, total_size}
+use Rattle.mh_tree.specs.Limits.{depth, deepest, most_steps, all_steps, greatest_depth}
 use Rattle.mh_tree.specs.Meaning.{mean, steps, argument, filtered, filter_steps}
 use Rattle.mh_tree.specs.Tree.{Tree, Filters}
 use Rattle.mh_eval.specs.Answers.{Ran}
@@ -15,14 +15,14 @@ use Rattle.mh_eval.specs.declared.answer.Answer.{Answer}
 use Rattle.mh_eval.specs.declared.answer.Answer.TheVariants.{Int, Long, Boolean, Text, Thrown, NoMemory}
 use Rattle.mh_type.specs.Limits.{most_parameters}
 use Rattle.mh_eval.specs.Limits.{level_room}
-use Rattle.mh_tree.specs.Environment.{Environment}
+use Rattle.mh_tree.specs.Sites.{Setting, env, most_at}
 
 -- The outcome and the steps, or memory was refused. With n values on the stack and a capacity of c it is not refused where no node
--- that is entered has String in its type and each level of the tree has room for 32 more, whatever further arguments e there are.
-pub record Walked (r : Answer) (k : ℕ) (v : Environment) (t : Tree) (a : List Value) (n c : ℕ) : Type 0 where
-  pub ran : Ran r k (mean v t a) (steps v t a)
-  pub few : k ≤ size t
-  pub quiet : (e : List Value) → EntersPlain v t (a ++ e) → NoTexts (a ++ e) → n + level_room * depth t ≤ c → IsAnswered r
+-- that is entered has String in its type and each level of the tree, and of 96 of each tree that is invoked below it, has room for 32 more, whatever further arguments e there are.
+pub record Walked (r : Answer) (k : ℕ) (v : Setting) (t : Tree) (a : List Value) (n c : ℕ) : Type 0 where
+  pub ran : Ran r k (mean (env v) t a) (steps (env v) t a)
+  pub few : k ≤ most_steps (most_at v.level) t
+  pub quiet : (e : List Value) → EntersPlain v t (a ++ e) → NoTexts (a ++ e) → n + level_room * (depth t + greatest_depth * v.level) ≤ c → IsAnswered r
 
 -- the truth of a value
 abbrev pub is_true : Value → Bool
@@ -50,11 +50,11 @@ Ends NoMemory k o m = Unit {0}
 Ends _ k o m = ⊥
 
 -- A filter's value stands in the place of its argument, or the walk ends and the stack is as before.
-pub record Placed {A : Type 0} (r : Result A Answer) (k : ℕ) (v : Environment) (f : Tree) (p : ℕ) (old new : List Value) (c : ℕ) : Type 0 where
-  pub value : Settles r (λ s. Ends s k (mean v f (argument old p ∷ [])) (steps v f (argument old p ∷ [])) × (new ≡ old))
-      ((mean v f (argument old p ∷ []) ≡ outcome.Value (argument new p)) × (k ≡ steps v f (argument old p ∷ [])) × (new ≡ slice_set old p (argument new p)))
-  pub few : k ≤ size f
-  pub quiet : EntersPlain v f (argument old p ∷ []) → NoTexts (argument old p ∷ []) → length old + most_parameters + level_room * depth f ≤ c → Settles r IsAnswered (Unit {0})
+pub record Placed {A : Type 0} (r : Result A Answer) (k : ℕ) (v : Setting) (f : Tree) (p : ℕ) (old new : List Value) (c : ℕ) : Type 0 where
+  pub value : Settles r (λ s. Ends s k (mean (env v) f (argument old p ∷ [])) (steps (env v) f (argument old p ∷ [])) × (new ≡ old))
+      ((mean (env v) f (argument old p ∷ []) ≡ outcome.Value (argument new p)) × (k ≡ steps (env v) f (argument old p ∷ [])) × (new ≡ slice_set old p (argument new p)))
+  pub few : k ≤ most_steps (most_at v.level) f
+  pub quiet : EntersPlain v f (argument old p ∷ []) → NoTexts (argument old p ∷ []) → length old + most_parameters + level_room * (depth f + greatest_depth * v.level) ≤ c → Settles r IsAnswered (Unit {0})
 
 -- an answer that ends a walk of filters
 abbrev pub Stops : Answer → ℕ → Result (List Value) Throw → ℕ → Type 0
@@ -63,7 +63,7 @@ Stops NoMemory k r m = Unit {0}
 Stops _ k r m = ⊥
 
 -- The arguments after filters stand in their places, or the walk ends.
-pub record Passed {A : Type 0} (r : Result A Answer) (k : ℕ) (v : Environment) (fs : Filters) (p : ℕ) (old new : List Value) (n c : ℕ) : Type 0 where
-  pub value : Settles r (λ s. Stops s k (filtered v fs p old) (filter_steps v fs p old)) ((filtered v fs p old ≡ Ok new) × (k ≡ filter_steps v fs p old))
-  pub few : k ≤ total_size fs
-  pub quiet : (e : List Value) → FiltersPlain v fs p (old ++ e) → NoTexts (old ++ e) → n + most_parameters + level_room * deepest fs ≤ c → Settles r IsAnswered (Unit {0})
+pub record Passed {A : Type 0} (r : Result A Answer) (k : ℕ) (v : Setting) (fs : Filters) (p : ℕ) (old new : List Value) (n c : ℕ) : Type 0 where
+  pub value : Settles r (λ s. Stops s k (filtered (env v) fs p old) (filter_steps (env v) fs p old)) ((filtered (env v) fs p old ≡ Ok new) × (k ≡ filter_steps (env v) fs p old))
+  pub few : k ≤ all_steps (most_at v.level) fs
+  pub quiet : (e : List Value) → FiltersPlain v fs p (old ++ e) → NoTexts (old ++ e) → n + most_parameters + level_room * (deepest fs + greatest_depth * v.level) ≤ c → Settles r IsAnswered (Unit {0})

@@ -28,14 +28,18 @@ pub enum Pushed {
     NoMemory,
 }
 
-// An answer as the outcome that it is, with the steps.
+// An answer as the outcome that it is, with the steps. A text returns first, so that its outcome is
+// written by one store in place of several.
 #[inline]
-pub(crate) fn outcome_of(answer: Answer, steps: u64) -> Result<(Outcome, u64), NoMemory>
+pub(crate) fn outcome_of(answer: Answer, steps: u128) -> Result<(Outcome, u128), NoMemory>
     ensures outcome { (o : Outcome) → (m : ℕ) → Ran answer steps o m → IfOk result (λ r. r.0 ≡ o) }
     ensures steps { (o : Outcome) → (m : ℕ) → Ran answer steps o m → IfOk result (λ r. r.1 ≡ m) }
     ensures few { (m : ℕ) → steps ≤ m → IfOk result (λ r. r.1 ≤ m) }
     ensures memory { IsAnswered answer → IsOk result }
 {
+    if let Answer::Text(text) = answer {
+        return Ok((Outcome::Value(Value::Text(text)), steps));
+    }
     let outcome = match answer {
         Answer::Int(number) => Outcome::Value(Value::Int(number)),
         Answer::Long(number) => Outcome::Value(Value::Long(number)),

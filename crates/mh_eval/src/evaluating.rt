@@ -1,53 +1,84 @@
 //! Evaluation on any arguments: what `eval` requires is tested first.
 
-ghost use Rattle.std.specs.Prelude.{◌≡◌, ◌<◌, ◌≤◌, ◌↔◌, length, IfOk, OnOk, IsErrOf};
+ghost use Rattle.std.specs.Prelude.{◌≡◌, ◌<◌, ◌≤◌, ◌↔◌, All, IsTrue, length, IfOk, OnOk, IsErrOf};
+ghost use Rattle.mh_tree.specs.Handle.{TypedTree};
 ghost use Rattle.mh_tree.specs.Limits.{point_bound};
 ghost use Rattle.mh_tree.specs.Meaning.{mean, steps};
 ghost use Rattle.mh_type.specs.Fits.{Fits};
-ghost use Rattle.mh_tree.specs.Environment.{with_points};
+ghost use Rattle.mh_tree.specs.Sites.{IsLawful, HavePoints, with_sites};
 
 use crate::evaluator::eval;
 use crate::fault::Unevaluated;
 use crate::fitting::fits;
+use crate::invoking::lawful;
 use crate::stack::Stack;
 use mh_tree::Handle;
 use mh_type::{Outcome, Value};
 use std::alloc::Global;
 
 /// The outcome of a handle's tree on arguments, and the number of nodes entered, where `valid` says
-/// which points are valid.
+/// which points are valid, and each site has a level and a tree.
 ///
 /// Refused with `DoesNotFit` where the arguments do not fit the handle's type, then with `NoPoint`
-/// where the handle names a point past `valid`, and with `NoMemory` only where both tests passed.
+/// where the handle or a site's tree names a point past `valid`, then with `Unlawful` where the
+/// trees do not invoke sites as they may (`lawful`), and with `NoMemory` only where all tests
+/// passed.
 pub fn evaluate(
     alloc: Global,
     valid: &[bool],
+    levels: &[u8],
+    targets: &[Handle],
     handle: &Handle,
     arguments: &[Value],
-) -> Result<(Outcome, u64), Unevaluated>
+) -> Result<(Outcome, u128), Unevaluated>
     ensures outcome { IfOk result (λ r. r.0
-        ≡ mean (with_points valid.now) handle.now.tree arguments.now) }
+        ≡ mean (with_sites valid.now targets.now) handle.now.tree arguments.now) }
     ensures steps { IfOk result (λ r. r.1
-        ≡ steps (with_points valid.now) handle.now.tree arguments.now) }
+        ≡ steps (with_sites valid.now targets.now) handle.now.tree arguments.now) }
     ensures tested { OnOk result (Fits handle.now.signature arguments.now
-        × (point_bound handle.now.tree ≤ length valid.now)) }
+        × (point_bound handle.now.tree ≤ length valid.now) × HavePoints
+        (length valid.now) targets.now × IsLawful levels.now targets.now handle.now.tree) }
     ensures unfit { IsErrOf result Unevaluated.DoesNotFit
         ↔ ¬ Fits handle.now.signature arguments.now }
     ensures no_point { IsErrOf result Unevaluated.NoPoint
         ↔ (Fits handle.now.signature arguments.now
-        × (length valid.now < point_bound handle.now.tree)) }
+        × ¬ ((point_bound handle.now.tree ≤ length valid.now) × HavePoints
+        (length valid.now) targets.now)) }
+    ensures unlawful { IsErrOf result Unevaluated.Unlawful
+        ↔ (Fits handle.now.signature arguments.now
+        × ((point_bound handle.now.tree ≤ length valid.now) × HavePoints
+        (length valid.now) targets.now) × ¬ IsLawful levels.now targets.now handle.now.tree) }
     ensures no_memory { IsErrOf result Unevaluated.NoMemory
         → Fits handle.now.signature arguments.now
-        × (point_bound handle.now.tree ≤ length valid.now) }
+        × ((point_bound handle.now.tree ≤ length valid.now) × HavePoints
+        (length valid.now) targets.now) × IsLawful levels.now targets.now handle.now.tree }
 {
     if !fits(handle.method_type(), arguments) {
         return Err(Unevaluated::DoesNotFit);
     }
-    if handle.point_bound() > valid.len() {
+    if !points_are_there(targets, handle, valid.len()) {
         return Err(Unevaluated::NoPoint);
+    }
+    if !lawful(levels, targets, handle) {
+        return Err(Unevaluated::Unlawful);
     }
     let Ok(mut stack) = Stack::new(alloc) else {
         return Err(Unevaluated::NoMemory);
     };
-    eval(&mut stack, valid, handle, arguments).map_err(|_| Unevaluated::NoMemory)
+    eval(&mut stack, valid, levels, targets, handle, arguments).map_err(|_| Unevaluated::NoMemory)
+}
+
+// Whether a handle, and the tree of each site, name some of so many points.
+fn points_are_there(targets: &[Handle], handle: &Handle, points: usize) -> bool
+    ensures decides { IsTrue result ↔ ((point_bound handle.now.tree ≤ points)
+        × HavePoints points targets.now) }
+{
+    handle.point_bound() <= points && have_points(targets, points)
+}
+
+// Whether the tree of each site names some of so many points.
+fn have_points(targets: &[Handle], points: usize) -> bool
+    ensures all { IsTrue result ↔ All (λ (h : TypedTree). point_bound h.tree ≤ points) targets.now }
+{
+    targets.iter().all(|target| target.point_bound() <= points)
 }

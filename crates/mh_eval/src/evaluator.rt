@@ -6,15 +6,15 @@ ghost use Rattle.mh_eval.specs.Entered.{EntersPlain};
 ghost use Rattle.mh_eval.specs.Answers.{Gives};
 ghost use Rattle.mh_eval.specs.Quiet.{IsAnswered};
 ghost use Rattle.mh_eval.specs.Walked.{Walked, Placed, Passed, settled, is_true};
-ghost use Rattle.mh_tree.specs.Limits.{size, total_size, point_bound, most_nodes};
+ghost use Rattle.mh_tree.specs.Limits.{all_steps, point_bound};
 ghost use Rattle.mh_tree.specs.Meaning.{mean, steps};
-ghost use Rattle.mh_tree.specs.Tree.{insert, discard, permute, filter, filter_return, fold, guard, point as point_tree, filters_of, present};
+ghost use Rattle.mh_tree.specs.Tree.{insert, discard, permute, filter, filter_return, fold, guard, point as point_tree, invoke, filters_of, present};
 ghost use Rattle.mh_tree.specs.TreeOf.{tree_of, filter_trees};
 ghost use Rattle.mh_tree.specs.Widths.{CanRun, CanFilter};
 ghost use Rattle.mh_type.specs.Fits.{Fits};
 ghost use Rattle.mh_type.specs.Operations.{operate as outcome_of_operation, op_signature};
 ghost use Rattle.mh_type.specs.Limits.{most_parameters};
-ghost use Rattle.mh_tree.specs.Environment.{with_points};
+ghost use Rattle.mh_tree.specs.Sites.{IsLawful, HavePoints, with_sites, sites, setting, most_at, greatest_steps};
 
 use crate::answer::{Answer, outcome_of};
 use crate::frames::{
@@ -31,36 +31,51 @@ use std::sync::Arc;
 // The arguments that any tree reads.
 const WIDEST: usize = 16;
 
+// How many trees deep the invocations of a lawful tree are.
+pub(crate) const DEEPEST_LEVEL: u8 = 4;
+
+// Which points are valid, and the tree of each site.
+#[derive(Clone, Copy)]
+struct Trees<'a> {
+    valid: &'a [bool],
+    targets: &'a [Handle],
+}
+
 /// The outcome of a handle's tree on arguments, and the number of nodes entered, where `valid` says
-/// which points are valid.
+/// which points are valid, and each site has a level and a tree.
 ///
-/// A guard's test and a fold's combiner get as many of the leading arguments as they have
+/// A guard's test, a fold's combiner and a site get as many of the leading arguments as they have
 /// parameters. A throw of any part that runs is the outcome, and nothing after it runs. The
-/// arguments of each node and its result stand on the stack, and no list is made. Refused with
-/// `NoMemory` alone, and not where no node that is entered has String in its type; the stack is as
-/// before.
+/// arguments of each node and its result stand on the stack, and no list is made. Refused only with
+/// `NoMemory`, and not where no node that is entered, in the trees of sites too, has String in its
+/// type; the stack is as before.
 pub fn eval(
     stack: &mut Stack,
     valid: &[bool],
+    levels: &[u8],
+    targets: &[Handle],
     handle: &Handle,
     arguments: &[Value],
-) -> Result<(Outcome, u64), NoMemory>
+) -> Result<(Outcome, u128), NoMemory>
     requires fits { Fits handle.now.signature arguments.now }
     requires known { point_bound handle.now.tree ≤ length valid.now }
+    requires points { HavePoints (length valid.now) targets.now }
+    requires lawful { IsLawful levels.now targets.now handle.now.tree }
     ensures outcome { IfOk result (λ r. r.0
-        ≡ mean (with_points valid.now) handle.now.tree arguments.now) }
+        ≡ mean (with_sites valid.now targets.now) handle.now.tree arguments.now) }
     ensures steps { IfOk result (λ r. r.1
-        ≡ steps (with_points valid.now) handle.now.tree arguments.now) }
-    ensures few { IfOk result (λ r. r.1 ≤ most_nodes) }
+        ≡ steps (with_sites valid.now targets.now) handle.now.tree arguments.now) }
+    ensures few { IfOk result (λ r. r.1 ≤ greatest_steps) }
     ensures stack { stack.new ≡ stack.old }
-    ensures memory { EntersPlain (with_points valid.now) handle.now.tree arguments.now
+    ensures memory { EntersPlain (sites valid.now targets.now) handle.now.tree arguments.now
         → IsOk result }
 {
     let alloc = stack.alloc();
     let (answer, steps) = run_on_arguments(
         alloc,
         &mut stack.values,
-        valid,
+        &Trees { valid, targets },
+        DEEPEST_LEVEL,
         handle.root(),
         arguments,
     );
@@ -71,13 +86,16 @@ pub fn eval(
 fn run_on_arguments(
     alloc: Global,
     stack: &mut Vec<Value>,
-    valid: &[bool],
+    here: &Trees<'_>,
+    level: u8,
     node: &Node,
     arguments: &[Value],
-) -> (Answer, u64)
+) -> (Answer, u128)
     requires narrow { length arguments.now ≤ most_parameters }
-    requires can_run { CanRun (tree_of node.now) (length arguments.now) (length valid.now) }
-    ensures walked { Walked result.0 result.1 (with_points valid.now)
+    requires can_run { CanRun (tree_of node.now) (length arguments.now) (setting level
+        here.now.valid.now here.now.targets.now) }
+    ensures walked { Walked result.0 result.1 (setting level here.now.valid.now
+        here.now.targets.now)
         (tree_of node.now) arguments.now (length stack.old.items + most_parameters)
         (vec_capacity stack.old) }
     ensures stack { stack.new.items ≡ stack.old.items }
@@ -88,7 +106,7 @@ fn run_on_arguments(
         stack.truncate(base);
         return (Answer::NoMemory, 0);
     };
-    run_above(alloc, stack, valid, node, base)
+    run_above(alloc, stack, here, level, node, base)
 }
 
 // The answer of a tree on the arguments that stand from `from` on, and the number of nodes entered.
@@ -96,15 +114,17 @@ fn run_on_arguments(
 fn run(
     alloc: Global,
     stack: &mut Vec<Value>,
-    valid: &[bool],
+    here: &Trees<'_>,
+    level: u8,
     node: &Node,
     from: usize,
-) -> (Answer, u64)
+) -> (Answer, u128)
     requires inside { from ≤ length stack.old.items }
     requires narrow { length stack.old.items ≤ from + most_parameters }
     requires can_run { CanRun (tree_of node.now) (length (drop from stack.old.items))
-        (length valid.now) }
-    ensures walked { Walked result.0 result.1 (with_points valid.now) (tree_of node.now)
+        (setting level here.now.valid.now here.now.targets.now) }
+    ensures walked { Walked result.0 result.1 (setting level here.now.valid.now
+        here.now.targets.now) (tree_of node.now)
         (drop from stack.old.items) (length stack.old.items) (vec_capacity stack.old) }
     ensures stack { stack.new.items ≡ stack.old.items }
     ensures room { vec_capacity stack.old ≤ vec_capacity stack.new }
@@ -117,36 +137,41 @@ fn run(
             target,
             position,
             values,
-        } => run_insert(alloc, stack, valid, target, *position, values, from),
+        } => run_insert(alloc, stack, here, level, target, *position, values, from),
         Node::Drop {
             target,
             position,
             kinds,
-        } => run_drop(alloc, stack, valid, target, *position, kinds, from),
+        } => run_drop(alloc, stack, here, level, target, *position, kinds, from),
         Node::Permute {
             target,
             new_type,
             reorder,
-        } => run_permute(alloc, stack, valid, target, new_type, reorder, from),
+        } => run_permute(alloc, stack, here, level, target, new_type, reorder, from),
         Node::Filter {
             target,
             position,
             filters,
-        } => run_filter(alloc, stack, valid, target, *position, filters, from),
+        } => run_filter(alloc, stack, here, level, target, *position, filters, from),
         Node::FilterReturn { target, filter } => {
-            run_filter_return(alloc, stack, valid, target, filter, from)
+            run_filter_return(alloc, stack, here, level, target, filter, from)
         }
-        Node::Fold { target, combiner } => run_fold(alloc, stack, valid, target, combiner, from),
+        Node::Fold { target, combiner } => run_fold(
+            alloc, stack, here, level, target, combiner, from,
+        ),
         Node::Guard {
             test,
             target,
             fallback,
-        } => run_guard(alloc, stack, valid, test, target, fallback, from),
+        } => run_guard(alloc, stack, here, level, test, target, fallback, from),
         Node::Point {
             point,
             target,
             fallback,
-        } => run_point(alloc, stack, valid, *point, target, fallback, from),
+        } => run_point(alloc, stack, here, level, *point, target, fallback, from),
+        Node::Invoke { site, method_type } => {
+            run_invoke(alloc, stack, here, level, *site, method_type, from)
+        }
     }
 }
 
@@ -156,20 +181,22 @@ fn run(
 fn run_above(
     alloc: Global,
     stack: &mut Vec<Value>,
-    valid: &[bool],
+    here: &Trees<'_>,
+    level: u8,
     node: &Node,
     from: usize,
-) -> (Answer, u64)
+) -> (Answer, u128)
     requires inside { from ≤ length stack.old.items }
     requires can_run { CanRun (tree_of node.now) (length (drop from stack.old.items))
-        (length valid.now) }
-    ensures walked { Walked result.0 result.1 (with_points valid.now) (tree_of node.now)
+        (setting level here.now.valid.now here.now.targets.now) }
+    ensures walked { Walked result.0 result.1 (setting level here.now.valid.now
+        here.now.targets.now) (tree_of node.now)
         (drop from stack.old.items) (from + most_parameters) (vec_capacity stack.old) }
     ensures stack { stack.new.items ≡ take from stack.old.items }
     ensures room { vec_capacity stack.old ≤ vec_capacity stack.new }
 {
     stack.truncate(from + WIDEST);
-    let (answer, steps) = run(alloc, stack, valid, node, from);
+    let (answer, steps) = run(alloc, stack, here, level, node, from);
     stack.truncate(from);
     (answer, steps)
 }
@@ -210,17 +237,20 @@ fn argument_or<'a>(arguments: &'a [Value], place: usize, absent: &'a Value) -> &
 fn run_insert(
     alloc: Global,
     stack: &mut Vec<Value>,
-    valid: &[bool],
+    here: &Trees<'_>,
+    level: u8,
     target: &Node,
     position: usize,
     values: &[Value],
     from: usize,
-) -> (Answer, u64)
+) -> (Answer, u128)
     requires inside { from ≤ length stack.old.items }
     requires narrow { length stack.old.items ≤ from + most_parameters }
     requires can_run { CanRun (insert (tree_of target.now) position values.now)
-        (length (drop from stack.old.items)) (length valid.now) }
-    ensures walked { Walked result.0 result.1 (with_points valid.now)
+        (length (drop from stack.old.items)) (setting level here.now.valid.now
+        here.now.targets.now) }
+    ensures walked { Walked result.0 result.1 (setting level here.now.valid.now
+        here.now.targets.now)
         (insert (tree_of target.now) position values.now) (drop from stack.old.items)
         (length stack.old.items) (vec_capacity stack.old) }
     ensures stack { stack.new.items ≡ stack.old.items }
@@ -231,7 +261,7 @@ fn run_insert(
         stack.truncate(base);
         return (Answer::NoMemory, 0);
     };
-    let (answer, steps) = run_above(alloc, stack, valid, target, base);
+    let (answer, steps) = run_above(alloc, stack, here, level, target, base);
     (answer, 1 + steps)
 }
 
@@ -240,17 +270,20 @@ fn run_insert(
 fn run_drop(
     alloc: Global,
     stack: &mut Vec<Value>,
-    valid: &[bool],
+    here: &Trees<'_>,
+    level: u8,
     target: &Node,
     position: usize,
     kinds: &[Kind],
     from: usize,
-) -> (Answer, u64)
+) -> (Answer, u128)
     requires inside { from ≤ length stack.old.items }
     requires narrow { length stack.old.items ≤ from + most_parameters }
     requires can_run { CanRun (discard (tree_of target.now) position kinds.now)
-        (length (drop from stack.old.items)) (length valid.now) }
-    ensures walked { Walked result.0 result.1 (with_points valid.now)
+        (length (drop from stack.old.items)) (setting level here.now.valid.now
+        here.now.targets.now) }
+    ensures walked { Walked result.0 result.1 (setting level here.now.valid.now
+        here.now.targets.now)
         (discard (tree_of target.now) position kinds.now) (drop from stack.old.items)
         (length stack.old.items) (vec_capacity stack.old) }
     ensures stack { stack.new.items ≡ stack.old.items }
@@ -261,7 +294,7 @@ fn run_drop(
         stack.truncate(base);
         return (Answer::NoMemory, 0);
     };
-    let (answer, steps) = run_above(alloc, stack, valid, target, base);
+    let (answer, steps) = run_above(alloc, stack, here, level, target, base);
     (answer, 1 + steps)
 }
 
@@ -270,17 +303,20 @@ fn run_drop(
 fn run_permute(
     alloc: Global,
     stack: &mut Vec<Value>,
-    valid: &[bool],
+    here: &Trees<'_>,
+    level: u8,
     target: &Node,
     new_type: &MethodType,
     reorder: &[usize],
     from: usize,
-) -> (Answer, u64)
+) -> (Answer, u128)
     requires inside { from ≤ length stack.old.items }
     requires narrow { length stack.old.items ≤ from + most_parameters }
     requires can_run { CanRun (permute (tree_of target.now) new_type.now reorder.now)
-        (length (drop from stack.old.items)) (length valid.now) }
-    ensures walked { Walked result.0 result.1 (with_points valid.now)
+        (length (drop from stack.old.items)) (setting level here.now.valid.now
+        here.now.targets.now) }
+    ensures walked { Walked result.0 result.1 (setting level here.now.valid.now
+        here.now.targets.now)
         (permute (tree_of target.now) new_type.now reorder.now) (drop from stack.old.items)
         (length stack.old.items) (vec_capacity stack.old) }
     ensures stack { stack.new.items ≡ stack.old.items }
@@ -291,7 +327,7 @@ fn run_permute(
         stack.truncate(base);
         return (Answer::NoMemory, 0);
     };
-    let (answer, steps) = run_above(alloc, stack, valid, target, base);
+    let (answer, steps) = run_above(alloc, stack, here, level, target, base);
     (answer, 1 + steps)
 }
 
@@ -314,22 +350,25 @@ fn settle(answer: Answer) -> Result<Value, Answer>
 fn run_filter_return(
     alloc: Global,
     stack: &mut Vec<Value>,
-    valid: &[bool],
+    here: &Trees<'_>,
+    level: u8,
     target: &Node,
     last: &Node,
     from: usize,
-) -> (Answer, u64)
+) -> (Answer, u128)
     requires inside { from ≤ length stack.old.items }
     requires narrow { length stack.old.items ≤ from + most_parameters }
     requires can_run { CanRun (filter_return (tree_of target.now) (tree_of last.now))
-        (length (drop from stack.old.items)) (length valid.now) }
-    ensures walked { Walked result.0 result.1 (with_points valid.now)
+        (length (drop from stack.old.items)) (setting level here.now.valid.now
+        here.now.targets.now) }
+    ensures walked { Walked result.0 result.1 (setting level here.now.valid.now
+        here.now.targets.now)
         (filter_return (tree_of target.now) (tree_of last.now)) (drop from stack.old.items)
         (length stack.old.items) (vec_capacity stack.old) }
     ensures stack { stack.new.items ≡ stack.old.items }
     ensures room { vec_capacity stack.old ≤ vec_capacity stack.new }
 {
-    let (first, before) = run(alloc, stack, valid, target, from);
+    let (first, before) = run(alloc, stack, here, level, target, from);
     let value = match settle(first) {
         Ok(value) => value,
         Err(answer) => return (answer, 1 + before),
@@ -339,7 +378,7 @@ fn run_filter_return(
         stack.truncate(base);
         return (Answer::NoMemory, 0);
     };
-    let (answer, steps) = run_above(alloc, stack, valid, last, base);
+    let (answer, steps) = run_above(alloc, stack, here, level, last, base);
     (answer, 1 + (before + steps))
 }
 
@@ -348,22 +387,25 @@ fn run_filter_return(
 fn run_fold(
     alloc: Global,
     stack: &mut Vec<Value>,
-    valid: &[bool],
+    here: &Trees<'_>,
+    level: u8,
     target: &Node,
     combiner: &Node,
     from: usize,
-) -> (Answer, u64)
+) -> (Answer, u128)
     requires inside { from ≤ length stack.old.items }
     requires narrow { length stack.old.items ≤ from + most_parameters }
     requires can_run { CanRun (fold (tree_of target.now) (tree_of combiner.now))
-        (length (drop from stack.old.items)) (length valid.now) }
-    ensures walked { Walked result.0 result.1 (with_points valid.now)
+        (length (drop from stack.old.items)) (setting level here.now.valid.now
+        here.now.targets.now) }
+    ensures walked { Walked result.0 result.1 (setting level here.now.valid.now
+        here.now.targets.now)
         (fold (tree_of target.now) (tree_of combiner.now)) (drop from stack.old.items)
         (length stack.old.items) (vec_capacity stack.old) }
     ensures stack { stack.new.items ≡ stack.old.items }
     ensures room { vec_capacity stack.old ≤ vec_capacity stack.new }
 {
-    let (first, before) = run(alloc, stack, valid, combiner, from);
+    let (first, before) = run(alloc, stack, here, level, combiner, from);
     let value = match settle(first) {
         Ok(value) => value,
         Err(answer) => return (answer, 1 + before),
@@ -373,7 +415,7 @@ fn run_fold(
         stack.truncate(base);
         return (Answer::NoMemory, 0);
     };
-    let (answer, steps) = run_above(alloc, stack, valid, target, base);
+    let (answer, steps) = run_above(alloc, stack, here, level, target, base);
     (answer, 1 + (before + steps))
 }
 
@@ -400,29 +442,32 @@ fn branch_by<'a>(truth: bool, target: &'a Node, fallback: &'a Node) -> &'a Node
 fn run_guard(
     alloc: Global,
     stack: &mut Vec<Value>,
-    valid: &[bool],
+    here: &Trees<'_>,
+    level: u8,
     test: &Node,
     target: &Node,
     fallback: &Node,
     from: usize,
-) -> (Answer, u64)
+) -> (Answer, u128)
     requires inside { from ≤ length stack.old.items }
     requires narrow { length stack.old.items ≤ from + most_parameters }
     requires can_run { CanRun (guard (tree_of test.now) (tree_of target.now) (tree_of fallback.now))
-        (length (drop from stack.old.items)) (length valid.now) }
-    ensures walked { Walked result.0 result.1 (with_points valid.now)
+        (length (drop from stack.old.items)) (setting level here.now.valid.now
+        here.now.targets.now) }
+    ensures walked { Walked result.0 result.1 (setting level here.now.valid.now
+        here.now.targets.now)
         (guard (tree_of test.now) (tree_of target.now) (tree_of fallback.now))
         (drop from stack.old.items) (length stack.old.items) (vec_capacity stack.old) }
     ensures stack { stack.new.items ≡ stack.old.items }
     ensures room { vec_capacity stack.old ≤ vec_capacity stack.new }
 {
-    let (choice, before) = run(alloc, stack, valid, test, from);
+    let (choice, before) = run(alloc, stack, here, level, test, from);
     let value = match settle(choice) {
         Ok(value) => value,
         Err(answer) => return (answer, 1 + before),
     };
     let branch = branch_by(holds(&value), target, fallback);
-    let (answer, steps) = run(alloc, stack, valid, branch, from);
+    let (answer, steps) = run(alloc, stack, here, level, branch, from);
     (answer, 1 + (before + steps))
 }
 
@@ -431,24 +476,27 @@ fn run_guard(
 fn run_point(
     alloc: Global,
     stack: &mut Vec<Value>,
-    valid: &[bool],
+    here: &Trees<'_>,
+    level: u8,
     point: u32,
     target: &Node,
     fallback: &Node,
     from: usize,
-) -> (Answer, u64)
+) -> (Answer, u128)
     requires inside { from ≤ length stack.old.items }
     requires narrow { length stack.old.items ≤ from + most_parameters }
     requires can_run { CanRun (point_tree point (tree_of target.now) (tree_of fallback.now))
-        (length (drop from stack.old.items)) (length valid.now) }
-    ensures walked { Walked result.0 result.1 (with_points valid.now)
+        (length (drop from stack.old.items)) (setting level here.now.valid.now
+        here.now.targets.now) }
+    ensures walked { Walked result.0 result.1 (setting level here.now.valid.now
+        here.now.targets.now)
         (point_tree point (tree_of target.now) (tree_of fallback.now)) (drop from stack.old.items)
         (length stack.old.items) (vec_capacity stack.old) }
     ensures stack { stack.new.items ≡ stack.old.items }
     ensures room { vec_capacity stack.old ≤ vec_capacity stack.new }
 {
-    let branch = branch_by(valid[point as usize], target, fallback);
-    let (answer, steps) = run(alloc, stack, valid, branch, from);
+    let branch = branch_by(here.valid[point as usize], target, fallback);
+    let (answer, steps) = run(alloc, stack, here, level, branch, from);
     (answer, 1 + steps)
 }
 
@@ -457,18 +505,20 @@ fn run_point(
 fn run_filter(
     alloc: Global,
     stack: &mut Vec<Value>,
-    valid: &[bool],
+    here: &Trees<'_>,
+    level: u8,
     target: &Node,
     position: usize,
     filters: &[Option<Arc<Node>>],
     from: usize,
-) -> (Answer, u64)
+) -> (Answer, u128)
     requires inside { from ≤ length stack.old.items }
     requires narrow { length stack.old.items ≤ from + most_parameters }
     requires can_run { CanRun (filter (tree_of target.now) position
         (filters_of (filter_trees filters.now))) (length (drop from stack.old.items))
-        (length valid.now) }
-    ensures walked { Walked result.0 result.1 (with_points valid.now)
+        (setting level here.now.valid.now here.now.targets.now) }
+    ensures walked { Walked result.0 result.1 (setting level here.now.valid.now
+        here.now.targets.now)
         (filter (tree_of target.now) position (filters_of (filter_trees filters.now)))
         (drop from stack.old.items) (length stack.old.items) (vec_capacity stack.old) }
     ensures stack { stack.new.items ≡ stack.old.items }
@@ -479,12 +529,12 @@ fn run_filter(
         stack.truncate(base);
         return (Answer::NoMemory, 0);
     };
-    let (passed, before) = run_filters(alloc, stack, valid, filters, base, position);
+    let (passed, before) = run_filters(alloc, stack, here, level, filters, base, position);
     if let Err(answer) = passed {
         stack.truncate(base);
         return (answer, 1 + before);
     }
-    let (answer, steps) = run_above(alloc, stack, valid, target, base);
+    let (answer, steps) = run_above(alloc, stack, here, level, target, base);
     (answer, 1 + (before + steps))
 }
 
@@ -494,16 +544,20 @@ fn run_filter(
 fn run_filters(
     alloc: Global,
     stack: &mut Vec<Value>,
-    valid: &[bool],
+    here: &Trees<'_>,
+    level: u8,
     filters: &[Option<Arc<Node>>],
     base: usize,
     position: usize,
-) -> (Result<(), Answer>, u64)
+) -> (Result<(), Answer>, u128)
     requires inside { base ≤ length stack.old.items }
     requires fits { CanFilter (filters_of (filter_trees filters.now)) position
-        (length (drop base stack.old.items)) (length valid.now) }
-    requires small { total_size (filters_of (filter_trees filters.now)) ≤ most_nodes }
-    ensures passed { Passed result.0 result.1 (with_points valid.now)
+        (length (drop base stack.old.items)) (setting level here.now.valid.now
+        here.now.targets.now) }
+    requires small { all_steps (most_at level) (filters_of (filter_trees filters.now)) ≤
+        greatest_steps }
+    ensures passed { Passed result.0 result.1 (setting level here.now.valid.now
+        here.now.targets.now)
         (filters_of (filter_trees filters.now)) position (drop base stack.old.items)
         (drop base stack.new.items) (length stack.old.items) (vec_capacity stack.old) }
     ensures stack { take base stack.new.items ≡ take base stack.old.items }
@@ -513,8 +567,8 @@ fn run_filters(
         return (Ok(()), 0);
     };
     match first {
-        Some(node) => run_present(alloc, stack, valid, node, rest, base, position),
-        None => run_filters(alloc, stack, valid, rest, base, position + 1),
+        Some(node) => run_present(alloc, stack, here, level, node, rest, base, position),
+        None => run_filters(alloc, stack, here, level, rest, base, position + 1),
     }
 }
 
@@ -523,29 +577,33 @@ fn run_filters(
 fn run_present(
     alloc: Global,
     stack: &mut Vec<Value>,
-    valid: &[bool],
+    here: &Trees<'_>,
+    level: u8,
     node: &Node,
     rest: &[Option<Arc<Node>>],
     base: usize,
     position: usize,
-) -> (Result<(), Answer>, u64)
+) -> (Result<(), Answer>, u128)
     requires inside { base ≤ length stack.old.items }
     requires fits { CanFilter (present (tree_of node.now) (filters_of (filter_trees rest.now)))
-        position (length (drop base stack.old.items)) (length valid.now) }
-    requires small { total_size (present (tree_of node.now) (filters_of (filter_trees rest.now)))
-        ≤ most_nodes }
-    ensures passed { Passed result.0 result.1 (with_points valid.now)
+        position (length (drop base stack.old.items)) (setting level here.now.valid.now
+        here.now.targets.now) }
+    requires small { all_steps (most_at level) (present (tree_of node.now) (filters_of
+        (filter_trees rest.now)))
+        ≤ greatest_steps }
+    ensures passed { Passed result.0 result.1 (setting level here.now.valid.now
+        here.now.targets.now)
         (present (tree_of node.now) (filters_of (filter_trees rest.now))) position
         (drop base stack.old.items) (drop base stack.new.items) (length stack.old.items)
         (vec_capacity stack.old) }
     ensures stack { take base stack.new.items ≡ take base stack.old.items }
     ensures room { vec_capacity stack.old ≤ vec_capacity stack.new }
 {
-    let (placed, before) = run_place(alloc, stack, valid, node, base + position);
+    let (placed, before) = run_place(alloc, stack, here, level, node, base + position);
     if let Err(answer) = placed {
         return (Err(answer), before);
     }
-    let (passed, steps) = run_filters(alloc, stack, valid, rest, base, position + 1);
+    let (passed, steps) = run_filters(alloc, stack, here, level, rest, base, position + 1);
     (passed, before + steps)
 }
 
@@ -554,13 +612,16 @@ fn run_present(
 fn run_place(
     alloc: Global,
     stack: &mut Vec<Value>,
-    valid: &[bool],
+    here: &Trees<'_>,
+    level: u8,
     node: &Node,
     place: usize,
-) -> (Result<(), Answer>, u64)
+) -> (Result<(), Answer>, u128)
     requires inside { place < length stack.old.items }
-    requires can_run { CanRun (tree_of node.now) 1 (length valid.now) }
-    ensures placed { Placed result.0 result.1 (with_points valid.now)
+    requires can_run { CanRun (tree_of node.now) 1 (setting level here.now.valid.now
+        here.now.targets.now) }
+    ensures placed { Placed result.0 result.1 (setting level here.now.valid.now
+        here.now.targets.now)
         (tree_of node.now) place stack.old.items stack.new.items (vec_capacity stack.old) }
     ensures room { vec_capacity stack.old ≤ vec_capacity stack.new }
 {
@@ -569,7 +630,7 @@ fn run_place(
         stack.truncate(top);
         return (Err(Answer::NoMemory), 0);
     };
-    let (answer, steps) = run_above(alloc, stack, valid, node, top);
+    let (answer, steps) = run_above(alloc, stack, here, level, node, top);
     match settle(answer) {
         Ok(value) => {
             stack[place] = value;
@@ -577,4 +638,31 @@ fn run_place(
         }
         Err(answer) => (Err(answer), steps),
     }
+}
+
+// The tree of a site, on the same arguments.
+#[cycle(run)]
+fn run_invoke(
+    alloc: Global,
+    stack: &mut Vec<Value>,
+    here: &Trees<'_>,
+    level: u8,
+    site: u32,
+    method_type: &MethodType,
+    from: usize,
+) -> (Answer, u128)
+    requires inside { from ≤ length stack.old.items }
+    requires narrow { length stack.old.items ≤ from + most_parameters }
+    requires can_run { CanRun (invoke site method_type.now) (length (drop from stack.old.items))
+        (setting level here.now.valid.now here.now.targets.now) }
+    ensures walked { Walked result.0 result.1 (setting level here.now.valid.now
+        here.now.targets.now)
+        (invoke site method_type.now) (drop from stack.old.items) (length stack.old.items)
+        (vec_capacity stack.old) }
+    ensures stack { stack.new.items ≡ stack.old.items }
+    ensures room { vec_capacity stack.old ≤ vec_capacity stack.new }
+{
+    let target = &here.targets[site as usize];
+    let (answer, steps) = run(alloc, stack, here, level - 1, target.root(), from);
+    (answer, 1 + steps)
 }

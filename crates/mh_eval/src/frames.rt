@@ -48,7 +48,7 @@ fn put_copy(stack: &mut Vec<Value>, place: usize) -> Result<(), NoMemory>
 }
 
 // Another owner of a value, on the stack.
-fn put_owner(stack: &mut Vec<Value>, value: &Value) -> Result<(), NoMemory>
+pub(crate) fn put_owner(stack: &mut Vec<Value>, value: &Value) -> Result<(), NoMemory>
     ensures extends { Extends result stack.old.items stack.new.items (value.now ∷ [])
         (vec_capacity stack.old) (vec_capacity stack.new) }
 {

@@ -3,8 +3,11 @@
 //! ```
 //! let mut stack = Stack::new(alloc)?;
 //! let arguments = [Value::Int(1)];
-//! if fits(prepared.handle().method_type(), &arguments) && prepared.handle().point_bound() == 0 {
-//!     let (outcome, steps) = run(&mut stack, &[], &prepared, &arguments)?;
+//! let handle = prepared.handle();
+//! let is_alone = handle.point_bound() == 0 && handle.site_bound() == 0;
+//! if is_alone && fits(handle.method_type(), &arguments) {
+//!     let here = Here { valid: &[], targets: &[] };
+//!     let (outcome, steps) = run(&mut stack, &here, &prepared, &arguments)?;
 //!     println!(rt; "{outcome} in {steps} steps")?;
 //! }
 //! ```
@@ -16,6 +19,8 @@ mod evaluator;
 mod fault;
 mod fitting;
 mod frames;
+mod here;
+mod invoking;
 mod operations;
 mod prepared;
 mod reading;
@@ -28,6 +33,8 @@ pub use evaluating::evaluate;
 pub use evaluator::eval;
 pub use fault::Unevaluated;
 pub use fitting::fits;
+pub use here::Here;
+pub use invoking::lawful;
 pub use mh_base::NoMemory;
 pub use prepared::run;
 pub use stack::{ROOM, Stack};

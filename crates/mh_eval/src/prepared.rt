@@ -1,12 +1,14 @@
 //! Calls of prepared handles.
 
-ghost use Rattle.std.specs.Prelude.{◌≡◌, ◌≤◌, length, IfOk, IsOk};
-ghost use Rattle.mh_tree.specs.Limits.{point_bound, most_nodes};
+ghost use Rattle.std.specs.Prelude.{◌≡◌, ◌≤◌, ℕ, List, length, IfOk, IsOk};
+ghost use Rattle.mh_tree.specs.Limits.{point_bound};
 ghost use Rattle.mh_tree.specs.Meaning.{mean, steps};
 ghost use Rattle.mh_type.specs.Fits.{Fits};
 ghost use Rattle.mh_eval.specs.Entered.{EntersPlain};
-ghost use Rattle.mh_tree.specs.Environment.{with_points};
+ghost use Rattle.mh_tree.specs.Sites.{IsLawful, HavePoints, with_sites, sites, greatest_steps};
 
+use crate::evaluator::DEEPEST_LEVEL;
+use crate::here::Here;
 use crate::running::run_code;
 use crate::stack::Stack;
 use mh_base::NoMemory;
@@ -14,31 +16,44 @@ use mh_tree::Prepared;
 use mh_type::{Outcome, Value};
 
 /// The outcome of a prepared handle's tree on arguments, and the number of its nodes entered, where
-/// `valid` says which points are valid: what `eval` gives for its handle, by the code that was
-/// prepared.
+/// `valid` says which points are valid, and each site has a tree: what `eval` gives for its handle
+/// and theirs, by the code that was prepared.
 ///
-/// A guard's test and a fold's combiner get as many of the leading arguments as they have
+/// A guard's test, a fold's combiner and a site get as many of the leading arguments as they have
 /// parameters. A throw of any part that runs is the outcome, and nothing after it runs. Refused
-/// with `NoMemory` alone, and not where no node that is entered has String in its type; the stack
-/// is as before.
+/// only with `NoMemory`, and not where no node that is entered, in the trees of sites too, has
+/// String in its type; the stack is as before.
 #[inline(always)]
 pub fn run(
     stack: &mut Stack,
-    valid: &[bool],
+    here: &Here<'_>,
     handle: &Prepared,
     arguments: &[Value],
-) -> Result<(Outcome, u64), NoMemory>
+) -> Result<(Outcome, u128), NoMemory>
     requires fits { Fits handle.now.signature arguments.now }
-    requires known { point_bound handle.now.tree ≤ length valid.now }
+    requires known { point_bound handle.now.tree ≤ length here.now.valid.now }
+    requires points { HavePoints (length here.now.valid.now) here.now.targets.now }
+    requires lawful { (levels : List ℕ) × IsLawful levels here.now.targets.now handle.now.tree }
     ensures outcome { IfOk result (λ r. r.0
-        ≡ mean (with_points valid.now) handle.now.tree arguments.now) }
+        ≡ mean (with_sites here.now.valid.now here.now.targets.now) handle.now.tree arguments.now) }
     ensures steps { IfOk result (λ r. r.1
-        ≡ steps (with_points valid.now) handle.now.tree arguments.now) }
-    ensures few { IfOk result (λ r. r.1 ≤ most_nodes) }
+        ≡ steps (with_sites here.now.valid.now here.now.targets.now) handle.now.tree
+        arguments.now) }
+    ensures few { IfOk result (λ r. r.1 ≤ greatest_steps) }
     ensures stack { stack.new ≡ stack.old }
-    ensures memory { EntersPlain (with_points valid.now) handle.now.tree arguments.now
+    ensures memory { EntersPlain (sites here.now.valid.now here.now.targets.now) handle.now.tree
+        arguments.now
         → IsOk result }
 {
     let alloc = stack.alloc();
-    run_code(alloc, &mut stack.values, valid, handle.code(), arguments, 0)
+    run_code(
+        alloc,
+        &mut stack.values,
+        stack.lower.as_mut_slice(),
+        here,
+        DEEPEST_LEVEL,
+        handle.code(),
+        arguments,
+        0,
+    )
 }

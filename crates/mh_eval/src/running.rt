@@ -1,18 +1,21 @@
 //! Running prepared code on the stack.
 
-ghost use Rattle.std.specs.Prelude.{◌≡◌, ◌+◌, ◌≤◌, ◌∷◌, [], length, take, vec_capacity, IfOk, IfErr};
+ghost use Rattle.std.specs.Prelude.{◌≡◌, ◌+◌, ◌-◌, ◌≤◌, ◌∷◌, [], length, take, map, vec_capacity, IfOk, IfErr};
 ghost use Rattle.mh_eval.specs.Answers.{Gives, Ran, PushedBy, IsPushed};
-ghost use Rattle.mh_tree.specs.Code.{bind, branch};
+ghost use Rattle.mh_tree.specs.Code.{bind, branch, call};
 ghost use Rattle.mh_tree.specs.CodeOf.{code_of};
 ghost use Rattle.mh_eval.specs.Entering.{Leaves, EndsWith, Tells};
 ghost use Rattle.mh_eval.specs.Quiet.{IsAnswered, IsQuiet, deep};
 ghost use Rattle.mh_tree.specs.Running.{run_code as code_outcome, code_steps, value_of, weight};
-ghost use Rattle.mh_tree.specs.Scoped.{IsIn, IsScoped};
+ghost use Rattle.mh_tree.specs.Scoped.{IsIn, AllIn, IsScoped};
 ghost use Rattle.mh_type.specs.Operations.{operate as operated};
-ghost use Rattle.mh_tree.specs.Limits.{most_nodes};
-ghost use Rattle.mh_tree.specs.Environment.{with_points};
+ghost use Rattle.mh_tree.specs.Sites.{setting, env, MayCall, most_at, greatest_steps};
+ghost use Rattle.mh_eval.specs.Lower.{IsReady, AreReady};
+ghost use Rattle.mh_eval.specs.Frames.{Extends};
 
 use crate::answer::{Answer, Pushed, outcome_of};
+use crate::frames::put_owner;
+use crate::here::Here;
 use crate::operations::{operate, outcome_of_number, share};
 use crate::reading::{is_key, read};
 use crate::walking::walk;
@@ -43,161 +46,199 @@ fn apply(
     operate(alloc, *op, first, second)
 }
 
-// The outcome of prepared code on arguments, below the locals on the stack, with the steps, those
-// before included. Where only points, branches on one comparison of numbers and a leaf that is a
-// number run, nothing is called and no local is put.
+// Runs prepared code on arguments, on a stack without locals: its outcome, and the total steps,
+// including `before`. Where only points, branches on one comparison of numbers and a leaf that is a
+// number run, it calls nothing and puts no local.
 #[inline(always)]
 pub(crate) fn run_code(
     alloc: Global,
     stack: &mut Vec<Value>,
-    valid: &[bool],
+    lower: &mut [Vec<Value>],
+    here: &Here<'_>,
+    level: u8,
     code: &Piece,
     arguments: &[Value],
-    before: u64,
-) -> Result<(Outcome, u64), NoMemory>
-    requires scoped { IsScoped (length valid.now) (length arguments.now) (length stack.old.items)
+    before: u128,
+) -> Result<(Outcome, u128), NoMemory>
+    requires empty { stack.old.items ≡ [] }
+    requires scoped { IsScoped (MayCall level here.now.targets.now (length here.now.valid.now))
+        (length here.now.valid.now) (length arguments.now) (length stack.old.items)
         (code_of code.now) }
-    requires few { before + weight (code_of code.now) ≤ most_nodes }
-    ensures told { Tells result (with_points valid.now) arguments.now
+    requires ready { AreReady level lower.old }
+    requires few { before + weight (most_at level) (code_of code.now) ≤ greatest_steps }
+    ensures told { Tells result (setting level here.now.valid.now here.now.targets.now)
+        arguments.now
         (code_of code.now) stack.old.items before (vec_capacity stack.old) }
     ensures stack { stack.new.items ≡ stack.old.items }
+    ensures ready { AreReady level lower.new }
     ensures room { vec_capacity stack.old ≤ vec_capacity stack.new }
 {
-    let (node, total) = walk(stack.as_slice(), valid, code, arguments, before);
-    run_piece(alloc, stack, valid, node, arguments, total)
+    let (node, total) = walk(&[], here, level, code, arguments, before);
+    run_piece(alloc, stack, lower, here, level, node, arguments, total)
 }
 
-// The same of the piece that the way down ends with. Whether it is inlined is left to the compiler,
-// which then simplifies it first, so that the result is written by few stores.
+// Runs the piece where `walk` stopped. Whether this is inlined is left to the compiler, which then
+// simplifies it first, so that the result is written by few stores.
 #[inline]
 fn run_piece(
     alloc: Global,
     stack: &mut Vec<Value>,
-    valid: &[bool],
+    lower: &mut [Vec<Value>],
+    here: &Here<'_>,
+    level: u8,
     code: &Piece,
     arguments: &[Value],
-    before: u64,
-) -> Result<(Outcome, u64), NoMemory>
-    requires scoped { IsScoped (length valid.now) (length arguments.now) (length stack.old.items)
+    before: u128,
+) -> Result<(Outcome, u128), NoMemory>
+    requires scoped { IsScoped (MayCall level here.now.targets.now (length here.now.valid.now))
+        (length here.now.valid.now) (length arguments.now) (length stack.old.items)
         (code_of code.now) }
-    requires few { before + weight (code_of code.now) ≤ most_nodes }
-    ensures told { Tells result (with_points valid.now) arguments.now
+    requires ready { AreReady level lower.old }
+    requires few { before + weight (most_at level) (code_of code.now) ≤ greatest_steps }
+    ensures told { Tells result (setting level here.now.valid.now here.now.targets.now)
+        arguments.now
         (code_of code.now) stack.old.items before (vec_capacity stack.old) }
     ensures stack { stack.new.items ≡ stack.old.items }
+    ensures ready { AreReady level lower.new }
     ensures room { vec_capacity stack.old ≤ vec_capacity stack.new }
 {
     if let Piece::Leaf { operand, steps } = code {
         let value = read(arguments, stack.as_slice(), operand);
         if let Some(outcome) = outcome_of_number(value) {
-            return Ok((outcome, before + u64::from(*steps)));
+            return Ok((outcome, before + u128::from(*steps)));
         }
     }
-    run_by_call(alloc, stack, valid, code, arguments, before)
+    run_by_call(alloc, stack, lower, here, level, code, arguments, before)
 }
 
-// The same by a call. It is a function of its own so that the room for what the call gives is
-// cleared only where there is a call.
+// Runs a piece by a call. Kept apart so that its result slot is zeroed only when it is called.
 #[inline(always)]
 fn run_by_call(
     alloc: Global,
     stack: &mut Vec<Value>,
-    valid: &[bool],
+    lower: &mut [Vec<Value>],
+    here: &Here<'_>,
+    level: u8,
     code: &Piece,
     arguments: &[Value],
-    before: u64,
-) -> Result<(Outcome, u64), NoMemory>
-    requires scoped { IsScoped (length valid.now) (length arguments.now) (length stack.old.items)
+    before: u128,
+) -> Result<(Outcome, u128), NoMemory>
+    requires scoped { IsScoped (MayCall level here.now.targets.now (length here.now.valid.now))
+        (length here.now.valid.now) (length arguments.now) (length stack.old.items)
         (code_of code.now) }
-    requires few { before + weight (code_of code.now) ≤ most_nodes }
-    ensures told { Tells result (with_points valid.now) arguments.now
+    requires ready { AreReady level lower.old }
+    requires few { before + weight (most_at level) (code_of code.now) ≤ greatest_steps }
+    ensures told { Tells result (setting level here.now.valid.now here.now.targets.now)
+        arguments.now
         (code_of code.now) stack.old.items before (vec_capacity stack.old) }
     ensures stack { stack.new.items ≡ stack.old.items }
+    ensures ready { AreReady level lower.new }
     ensures room { vec_capacity stack.old ≤ vec_capacity stack.new }
 {
-    run_any(alloc, stack, valid, code, arguments, before)
+    run_any(alloc, stack, lower, here, level, code, arguments, before)
 }
 
-// The same of any piece. Of an operation an int is told first, with no room cleared for other
-// answers.
+// Runs any piece. An operation's int returns first, with no result slot zeroed for other answers.
 #[inline(never)]
 fn run_any(
     alloc: Global,
     stack: &mut Vec<Value>,
-    valid: &[bool],
+    lower: &mut [Vec<Value>],
+    here: &Here<'_>,
+    level: u8,
     code: &Piece,
     arguments: &[Value],
-    before: u64,
-) -> Result<(Outcome, u64), NoMemory>
-    requires scoped { IsScoped (length valid.now) (length arguments.now) (length stack.old.items)
+    before: u128,
+) -> Result<(Outcome, u128), NoMemory>
+    requires scoped { IsScoped (MayCall level here.now.targets.now (length here.now.valid.now))
+        (length here.now.valid.now) (length arguments.now) (length stack.old.items)
         (code_of code.now) }
-    requires few { before + weight (code_of code.now) ≤ most_nodes }
-    ensures told { Tells result (with_points valid.now) arguments.now
+    requires ready { AreReady level lower.old }
+    requires few { before + weight (most_at level) (code_of code.now) ≤ greatest_steps }
+    ensures told { Tells result (setting level here.now.valid.now here.now.targets.now)
+        arguments.now
         (code_of code.now) stack.old.items before (vec_capacity stack.old) }
     ensures stack { stack.new.items ≡ stack.old.items }
+    ensures ready { AreReady level lower.new }
     ensures room { vec_capacity stack.old ≤ vec_capacity stack.new }
 {
     if let Piece::Apply { .. } = code {
-        let (answer, total) = answer_piece(alloc, stack, valid, code, arguments, before);
+        let (answer, total) = answer_piece(
+            alloc, stack, lower, here, level, code, arguments, before,
+        );
         if let Answer::Int(number) = answer {
             return Ok((Outcome::Value(Value::Int(number)), total));
         }
         return outcome_of(answer, total);
     }
-    run_other(alloc, stack, valid, code, arguments, before)
+    run_other(alloc, stack, lower, here, level, code, arguments, before)
 }
 
-// The same of a piece that is no operation.
+// Runs a piece that is no operation.
 #[inline(always)]
 fn run_other(
     alloc: Global,
     stack: &mut Vec<Value>,
-    valid: &[bool],
+    lower: &mut [Vec<Value>],
+    here: &Here<'_>,
+    level: u8,
     code: &Piece,
     arguments: &[Value],
-    before: u64,
-) -> Result<(Outcome, u64), NoMemory>
-    requires scoped { IsScoped (length valid.now) (length arguments.now) (length stack.old.items)
+    before: u128,
+) -> Result<(Outcome, u128), NoMemory>
+    requires scoped { IsScoped (MayCall level here.now.targets.now (length here.now.valid.now))
+        (length here.now.valid.now) (length arguments.now) (length stack.old.items)
         (code_of code.now) }
-    requires few { before + weight (code_of code.now) ≤ most_nodes }
-    ensures told { Tells result (with_points valid.now) arguments.now
+    requires ready { AreReady level lower.old }
+    requires few { before + weight (most_at level) (code_of code.now) ≤ greatest_steps }
+    ensures told { Tells result (setting level here.now.valid.now here.now.targets.now)
+        arguments.now
         (code_of code.now) stack.old.items before (vec_capacity stack.old) }
     ensures stack { stack.new.items ≡ stack.old.items }
+    ensures ready { AreReady level lower.new }
     ensures room { vec_capacity stack.old ≤ vec_capacity stack.new }
 {
-    let (answer, total) = answer_piece(alloc, stack, valid, code, arguments, before);
+    let (answer, total) = answer_piece(alloc, stack, lower, here, level, code, arguments, before);
     outcome_of(answer, total)
 }
 
-// The answer of prepared code, with the steps, those before included. A leaf and an operation are
+// The answer of prepared code, and the total steps, including `before`. A leaf and an operation are
 // answered here, with no local.
 #[inline(always)]
 #[cycle(run_on)]
 fn answer_piece(
     alloc: Global,
     stack: &mut Vec<Value>,
-    valid: &[bool],
+    lower: &mut [Vec<Value>],
+    here: &Here<'_>,
+    level: u8,
     code: &Piece,
     arguments: &[Value],
-    before: u64,
-) -> (Answer, u64)
-    requires scoped { IsScoped (length valid.now) (length arguments.now) (length stack.old.items)
+    before: u128,
+) -> (Answer, u128)
+    requires scoped { IsScoped (MayCall level here.now.targets.now (length here.now.valid.now))
+        (length here.now.valid.now) (length arguments.now) (length stack.old.items)
         (code_of code.now) }
-    requires few { before + weight (code_of code.now) ≤ most_nodes }
+    requires ready { AreReady level lower.old }
+    requires few { before + weight (most_at level) (code_of code.now) ≤ greatest_steps }
     ensures ran { Ran result.0 result.1
-        (code_outcome (with_points valid.now) (code_of code.now) arguments.now stack.old.items)
-        (before + code_steps (with_points valid.now)
+        (code_outcome (env (setting level here.now.valid.now here.now.targets.now)) (code_of
+        code.now) arguments.now stack.old.items)
+        (before + code_steps (env (setting level here.now.valid.now here.now.targets.now))
         (code_of code.now) arguments.now stack.old.items) }
-    ensures few { result.1 ≤ before + weight (code_of code.now) }
+    ensures few { result.1 ≤ before + weight (most_at level) (code_of code.now) }
     ensures stack { stack.new.items ≡ stack.old.items }
+    ensures ready { AreReady level lower.new }
     ensures room { vec_capacity stack.old ≤ vec_capacity stack.new }
-    ensures quiet { IsQuiet (with_points valid.now) (code_of code.now) arguments.now stack.old.items
+    ensures quiet { IsQuiet (setting level here.now.valid.now here.now.targets.now) (code_of
+        code.now) arguments.now stack.old.items
         → length stack.old.items + deep (code_of code.now) ≤ vec_capacity stack.old
         → IsAnswered result.0 }
 {
     match code {
         Piece::Leaf { operand, steps } => {
             let answer = share(read(arguments, stack.as_slice(), operand));
-            (answer, before + u64::from(*steps))
+            (answer, before + u128::from(*steps))
         }
         Piece::Apply {
             op,
@@ -206,35 +247,42 @@ fn answer_piece(
             steps,
         } => {
             let answer = apply(alloc, arguments, stack, op, first, second);
-            (answer, before + u64::from(*steps))
+            (answer, before + u128::from(*steps))
         }
-        _ => run_on(alloc, stack, valid, code, arguments, before),
+        _ => run_on(alloc, stack, lower, here, level, code, arguments, before),
     }
 }
 
-// The same, with locals. Its last parts run in the loop, so that their answers pass through no
-// further call.
+// The answer of prepared code with locals, and the total steps. Its last parts run in the loop, so
+// that their answers pass through no further call.
 #[inline(never)]
 #[cycle(run_on)]
 fn run_on(
     alloc: Global,
     stack: &mut Vec<Value>,
-    valid: &[bool],
+    lower: &mut [Vec<Value>],
+    here: &Here<'_>,
+    level: u8,
     code: &Piece,
     arguments: &[Value],
-    before: u64,
-) -> (Answer, u64)
-    requires scoped { IsScoped (length valid.now) (length arguments.now) (length stack.old.items)
+    before: u128,
+) -> (Answer, u128)
+    requires scoped { IsScoped (MayCall level here.now.targets.now (length here.now.valid.now))
+        (length here.now.valid.now) (length arguments.now) (length stack.old.items)
         (code_of code.now) }
-    requires few { before + weight (code_of code.now) ≤ most_nodes }
+    requires ready { AreReady level lower.old }
+    requires few { before + weight (most_at level) (code_of code.now) ≤ greatest_steps }
     ensures ran { Ran result.0 result.1
-        (code_outcome (with_points valid.now) (code_of code.now) arguments.now stack.old.items)
-        (before + code_steps (with_points valid.now)
+        (code_outcome (env (setting level here.now.valid.now here.now.targets.now)) (code_of
+        code.now) arguments.now stack.old.items)
+        (before + code_steps (env (setting level here.now.valid.now here.now.targets.now))
         (code_of code.now) arguments.now stack.old.items) }
-    ensures few { result.1 ≤ before + weight (code_of code.now) }
+    ensures few { result.1 ≤ before + weight (most_at level) (code_of code.now) }
     ensures stack { stack.new.items ≡ stack.old.items }
+    ensures ready { AreReady level lower.new }
     ensures room { vec_capacity stack.old ≤ vec_capacity stack.new }
-    ensures quiet { IsQuiet (with_points valid.now) (code_of code.now) arguments.now stack.old.items
+    ensures quiet { IsQuiet (setting level here.now.valid.now here.now.targets.now) (code_of
+        code.now) arguments.now stack.old.items
         → length stack.old.items + deep (code_of code.now) ≤ vec_capacity stack.old
         → IsAnswered result.0 }
 {
@@ -242,8 +290,8 @@ fn run_on(
     let mut node = code;
     let mut total = before;
     loop {
-        let (piece, so_far) = walk(stack.as_slice(), valid, node, arguments, total);
-        let (next, after) = enter(alloc, stack, valid, piece, arguments, so_far);
+        let (piece, so_far) = walk(stack.as_slice(), here, level, node, arguments, total);
+        let (next, after) = enter(alloc, stack, lower, here, level, piece, arguments, so_far);
         match next {
             Ok(next) => node = next,
             Err(answer) => {
@@ -262,25 +310,32 @@ fn run_on(
 fn enter<'a>(
     alloc: Global,
     stack: &mut Vec<Value>,
-    valid: &[bool],
+    lower: &mut [Vec<Value>],
+    here: &Here<'_>,
+    level: u8,
     piece: &'a Piece,
     arguments: &[Value],
-    before: u64,
-) -> (Result<&'a Piece, Answer>, u64)
-    requires scoped { IsScoped (length valid.now) (length arguments.now) (length stack.old.items)
+    before: u128,
+) -> (Result<&'a Piece, Answer>, u128)
+    requires scoped { IsScoped (MayCall level here.now.targets.now (length here.now.valid.now))
+        (length here.now.valid.now) (length arguments.now) (length stack.old.items)
         (code_of piece.now) }
-    requires few { before + weight (code_of piece.now) ≤ most_nodes }
-    ensures left { IfOk result.0 (λ p. Leaves (with_points valid.now) arguments.now
+    requires ready { AreReady level lower.old }
+    requires few { before + weight (most_at level) (code_of piece.now) ≤ greatest_steps }
+    ensures left { IfOk result.0 (λ p. Leaves (setting level here.now.valid.now
+        here.now.targets.now) arguments.now
         (code_of piece.now) stack.old.items before (code_of p.now) stack.new.items result.1) }
-    ensures ends { IfErr result.0 (λ r. EndsWith (with_points valid.now) arguments.now
+    ensures ends { IfErr result.0 (λ r. EndsWith (setting level here.now.valid.now
+        here.now.targets.now) arguments.now
         (code_of piece.now) stack.old.items before (vec_capacity stack.old) r result.1) }
     ensures kept { take (length stack.old.items) stack.new.items ≡ stack.old.items }
+    ensures ready { AreReady level lower.new }
     ensures room { vec_capacity stack.old ≤ vec_capacity stack.new }
 {
     match piece {
         Piece::Leaf { operand, steps } => {
             let answer = share(read(arguments, stack.as_slice(), operand));
-            (Err(answer), before + u64::from(*steps))
+            (Err(answer), before + u128::from(*steps))
         }
         Piece::Apply {
             op,
@@ -289,11 +344,13 @@ fn enter<'a>(
             steps,
         } => {
             let answer = apply(alloc, arguments, stack, op, first, second);
-            (Err(answer), before + u64::from(*steps))
+            (Err(answer), before + u128::from(*steps))
         }
         Piece::Bind { first, then, steps } => {
-            let used = before + u64::from(*steps);
-            enter_bind(alloc, stack, valid, first, then, arguments, used)
+            let used = before + u128::from(*steps);
+            enter_bind(
+                alloc, stack, lower, here, level, first, then, arguments, used,
+            )
         }
         Piece::Branch {
             test,
@@ -301,8 +358,10 @@ fn enter<'a>(
             fallback,
             steps,
         } => {
-            let used = before + u64::from(*steps);
-            enter_branch(alloc, stack, valid, test, target, fallback, arguments, used)
+            let used = before + u128::from(*steps);
+            enter_branch(
+                alloc, stack, lower, here, level, test, target, fallback, arguments, used,
+            )
         }
         Piece::Case {
             test,
@@ -315,7 +374,10 @@ fn enter<'a>(
             } else {
                 fallback
             };
-            (Ok(next), before + u64::from(*steps) + u64::from(test.steps))
+            (
+                Ok(next),
+                before + u128::from(*steps) + u128::from(test.steps),
+            )
         }
         Piece::Point {
             point,
@@ -323,38 +385,58 @@ fn enter<'a>(
             fallback,
             steps,
         } => {
-            let is_valid = valid[*point as usize];
+            let is_valid = here.valid[*point as usize];
             let next = if is_valid { target } else { fallback };
-            (Ok(next), before + u64::from(*steps))
+            (Ok(next), before + u128::from(*steps))
+        }
+        Piece::Invoke {
+            site,
+            operands,
+            steps,
+        } => {
+            let used = before + u128::from(*steps);
+            let locals = stack.as_slice();
+            let (answer, after) = run_site(
+                alloc, lower, here, level, *site, operands, arguments, locals, used,
+            );
+            (Err(answer), after)
         }
     }
 }
 
-// The same of a first piece and then a second, whose own steps are among those so far.
+// Enters a first piece whose value the second reads. Its own steps are counted in `before`.
 #[inline(always)]
 #[cycle(run_on)]
 fn enter_bind<'a>(
     alloc: Global,
     stack: &mut Vec<Value>,
-    valid: &[bool],
+    lower: &mut [Vec<Value>],
+    here: &Here<'_>,
+    level: u8,
     first: &Piece,
     then: &'a Piece,
     arguments: &[Value],
-    before: u64,
-) -> (Result<&'a Piece, Answer>, u64)
-    requires scoped { IsScoped (length valid.now) (length arguments.now) (length stack.old.items)
+    before: u128,
+) -> (Result<&'a Piece, Answer>, u128)
+    requires scoped { IsScoped (MayCall level here.now.targets.now (length here.now.valid.now))
+        (length here.now.valid.now) (length arguments.now) (length stack.old.items)
         (bind 0 (code_of first.now) (code_of then.now)) }
-    requires few { before + weight (bind 0 (code_of first.now) (code_of then.now)) ≤ most_nodes }
-    ensures left { IfOk result.0 (λ p. Leaves (with_points valid.now) arguments.now
+    requires ready { AreReady level lower.old }
+    requires few { before + weight (most_at level) (bind 0 (code_of first.now) (code_of then.now))
+        ≤ greatest_steps }
+    ensures left { IfOk result.0 (λ p. Leaves (setting level here.now.valid.now
+        here.now.targets.now) arguments.now
         (bind 0 (code_of first.now) (code_of then.now)) stack.old.items before
         (code_of p.now) stack.new.items result.1) }
-    ensures ends { IfErr result.0 (λ r. EndsWith (with_points valid.now) arguments.now
+    ensures ends { IfErr result.0 (λ r. EndsWith (setting level here.now.valid.now
+        here.now.targets.now) arguments.now
         (bind 0 (code_of first.now) (code_of then.now)) stack.old.items before
         (vec_capacity stack.old) r result.1) }
     ensures kept { take (length stack.old.items) stack.new.items ≡ stack.old.items }
+    ensures ready { AreReady level lower.new }
     ensures room { vec_capacity stack.old ≤ vec_capacity stack.new }
 {
-    let (pushed, after) = push_first(alloc, stack, valid, first, arguments, before);
+    let (pushed, after) = push_first(alloc, stack, lower, here, level, first, arguments, before);
     match pushed {
         Pushed::Value => (Ok(then), after),
         Pushed::Thrown(throw) => (Err(Answer::Thrown(throw)), after),
@@ -362,33 +444,40 @@ fn enter_bind<'a>(
     }
 }
 
-// The same of one of two pieces, by a test; the own steps are among those so far.
+// Enters one of two pieces, by a test. Its own steps are counted in `before`.
 #[inline(always)]
 #[cycle(run_on)]
 fn enter_branch<'a>(
     alloc: Global,
     stack: &mut Vec<Value>,
-    valid: &[bool],
+    lower: &mut [Vec<Value>],
+    here: &Here<'_>,
+    level: u8,
     test: &Piece,
     target: &'a Piece,
     fallback: &'a Piece,
     arguments: &[Value],
-    before: u64,
-) -> (Result<&'a Piece, Answer>, u64)
-    requires scoped { IsScoped (length valid.now) (length arguments.now) (length stack.old.items)
+    before: u128,
+) -> (Result<&'a Piece, Answer>, u128)
+    requires scoped { IsScoped (MayCall level here.now.targets.now (length here.now.valid.now))
+        (length here.now.valid.now) (length arguments.now) (length stack.old.items)
         (branch 0 (code_of test.now) (code_of target.now) (code_of fallback.now)) }
-    requires few { before + weight
-        (branch 0 (code_of test.now) (code_of target.now) (code_of fallback.now)) ≤ most_nodes }
-    ensures left { IfOk result.0 (λ p. Leaves (with_points valid.now) arguments.now
+    requires ready { AreReady level lower.old }
+    requires few { before + weight (most_at level)
+        (branch 0 (code_of test.now) (code_of target.now) (code_of fallback.now)) ≤ greatest_steps }
+    ensures left { IfOk result.0 (λ p. Leaves (setting level here.now.valid.now
+        here.now.targets.now) arguments.now
         (branch 0 (code_of test.now) (code_of target.now) (code_of fallback.now)) stack.old.items
         before (code_of p.now) stack.new.items result.1) }
-    ensures ends { IfErr result.0 (λ r. EndsWith (with_points valid.now) arguments.now
+    ensures ends { IfErr result.0 (λ r. EndsWith (setting level here.now.valid.now
+        here.now.targets.now) arguments.now
         (branch 0 (code_of test.now) (code_of target.now) (code_of fallback.now)) stack.old.items
         before (vec_capacity stack.old) r result.1) }
     ensures kept { stack.new.items ≡ stack.old.items }
+    ensures ready { AreReady level lower.new }
     ensures room { vec_capacity stack.old ≤ vec_capacity stack.new }
 {
-    let (answer, after) = answer_piece(alloc, stack, valid, test, arguments, before);
+    let (answer, after) = answer_piece(alloc, stack, lower, here, level, test, arguments, before);
     match answer {
         Answer::Boolean(true) => (Ok(target), after),
         Answer::Thrown(throw) => (Err(Answer::Thrown(throw)), after),
@@ -397,32 +486,38 @@ fn enter_branch<'a>(
     }
 }
 
-// The first piece's value, as one more local.
+// Puts the first piece's value on the stack, as one more local.
 #[inline(never)]
 #[cycle(run_on)]
 fn push_first(
     alloc: Global,
     stack: &mut Vec<Value>,
-    valid: &[bool],
+    lower: &mut [Vec<Value>],
+    here: &Here<'_>,
+    level: u8,
     first: &Piece,
     arguments: &[Value],
-    before: u64,
-) -> (Pushed, u64)
-    requires scoped { IsScoped (length valid.now) (length arguments.now) (length stack.old.items)
+    before: u128,
+) -> (Pushed, u128)
+    requires scoped { IsScoped (MayCall level here.now.targets.now (length here.now.valid.now))
+        (length here.now.valid.now) (length arguments.now) (length stack.old.items)
         (code_of first.now) }
-    requires few { before + weight (code_of first.now) ≤ most_nodes }
+    requires ready { AreReady level lower.old }
+    requires few { before + weight (most_at level) (code_of first.now) ≤ greatest_steps }
     ensures pushed { PushedBy result.0 result.1
-        (code_outcome (with_points valid.now) (code_of first.now) arguments.now stack.old.items)
-        (before + code_steps (with_points valid.now)
+        (code_outcome (env (setting level here.now.valid.now here.now.targets.now)) (code_of
+        first.now) arguments.now stack.old.items)
+        (before + code_steps (env (setting level here.now.valid.now here.now.targets.now))
         (code_of first.now) arguments.now stack.old.items) stack.old.items stack.new.items }
-    ensures few { result.1 ≤ before + weight (code_of first.now) }
+    ensures few { result.1 ≤ before + weight (most_at level) (code_of first.now) }
+    ensures ready { AreReady level lower.new }
     ensures room { vec_capacity stack.old ≤ vec_capacity stack.new }
-    ensures quiet { IsQuiet (with_points valid.now)
+    ensures quiet { IsQuiet (setting level here.now.valid.now here.now.targets.now)
         (code_of first.now) arguments.now stack.old.items
         → length stack.old.items + deep (code_of first.now) ≤ vec_capacity stack.old
         → length stack.old.items + 1 ≤ vec_capacity stack.old → IsPushed result.0 }
 {
-    let (answer, total) = run_on(alloc, stack, valid, first, arguments, before);
+    let (answer, total) = run_on(alloc, stack, lower, here, level, first, arguments, before);
     let value = match answer {
         Answer::Int(number) => Value::Int(number),
         Answer::Long(number) => Value::Long(number),
@@ -435,4 +530,118 @@ fn push_first(
         return (Pushed::NoMemory, total);
     };
     (Pushed::Value, total)
+}
+
+// Puts further owners of the values of operands on a stack.
+fn put_operands(
+    stack: &mut Vec<Value>,
+    operands: &[Operand],
+    arguments: &[Value],
+    locals: &[Value],
+) -> Result<(), NoMemory>
+    requires inside { AllIn (length arguments.now) (length locals.now) operands.now }
+    ensures extends { Extends result stack.old.items stack.new.items
+        (map (value_of arguments.now locals.now) operands.now) (vec_capacity stack.old)
+        (vec_capacity stack.new) }
+{
+    for operand in operands {
+        put_owner(stack, read(arguments, locals, operand))?;
+    }
+    Ok(())
+}
+
+// Runs a site's tree on the values of operands: its answer, and the total steps, including
+// `before`.
+#[inline(never)]
+#[cycle(run_on)]
+fn run_site(
+    alloc: Global,
+    lower: &mut [Vec<Value>],
+    here: &Here<'_>,
+    level: u8,
+    site: u32,
+    operands: &[Operand],
+    arguments: &[Value],
+    locals: &[Value],
+    before: u128,
+) -> (Answer, u128)
+    requires scoped { IsScoped (MayCall level here.now.targets.now (length here.now.valid.now))
+        (length here.now.valid.now)
+        (length arguments.now) (length locals.now) (call 0 site operands.now) }
+    requires ready { AreReady level lower.old }
+    requires few { before + weight (most_at level) (call 0 site operands.now) ≤ greatest_steps }
+    ensures ran { Ran result.0 result.1 (code_outcome (env (setting level here.now.valid.now
+        here.now.targets.now))
+        (call 0 site operands.now) arguments.now locals.now)
+        (before + code_steps (env (setting level here.now.valid.now here.now.targets.now))
+        (call 0 site operands.now) arguments.now locals.now) }
+    ensures few { result.1 ≤ before + weight (most_at level) (call 0 site operands.now) }
+    ensures ready { AreReady level lower.new }
+    ensures quiet { IsQuiet (setting level here.now.valid.now here.now.targets.now)
+        (call 0 site operands.now) arguments.now locals.now → IsAnswered result.0 }
+{
+    let Some((frame, others)) = lower.split_first_mut() else {
+        return (Answer::NoMemory, before);
+    };
+    let Some((stack, rest)) = others.split_first_mut() else {
+        return (Answer::NoMemory, before);
+    };
+    run_framed(
+        alloc, frame, stack, rest, here, level, site, operands, arguments, locals, before,
+    )
+}
+
+// Runs a site's tree with two stacks of its own, for its arguments and for its locals.
+#[inline(always)]
+#[cycle(run_on)]
+fn run_framed(
+    alloc: Global,
+    frame: &mut Vec<Value>,
+    stack: &mut Vec<Value>,
+    lower: &mut [Vec<Value>],
+    here: &Here<'_>,
+    level: u8,
+    site: u32,
+    operands: &[Operand],
+    arguments: &[Value],
+    locals: &[Value],
+    before: u128,
+) -> (Answer, u128)
+    requires scoped { IsScoped (MayCall level here.now.targets.now (length here.now.valid.now))
+        (length here.now.valid.now)
+        (length arguments.now) (length locals.now) (call 0 site operands.now) }
+    requires frame { IsReady frame.old }
+    requires stack { IsReady stack.old }
+    requires ready { AreReady (level - 1) lower.old }
+    requires few { before + weight (most_at level) (call 0 site operands.now) ≤ greatest_steps }
+    ensures ran { Ran result.0 result.1 (code_outcome (env (setting level here.now.valid.now
+        here.now.targets.now))
+        (call 0 site operands.now) arguments.now locals.now)
+        (before + code_steps (env (setting level here.now.valid.now here.now.targets.now))
+        (call 0 site operands.now) arguments.now locals.now) }
+    ensures few { result.1 ≤ before + weight (most_at level) (call 0 site operands.now) }
+    ensures frame { IsReady frame.new }
+    ensures stack { IsReady stack.new }
+    ensures ready { AreReady (level - 1) lower.new }
+    ensures quiet { IsQuiet (setting level here.now.valid.now here.now.targets.now)
+        (call 0 site operands.now) arguments.now locals.now → IsAnswered result.0 }
+{
+    let target = &here.targets[site as usize];
+    let piece = target.code();
+    let Ok(()) = put_operands(frame, operands, arguments, locals) else {
+        frame.truncate(0);
+        return (Answer::NoMemory, before);
+    };
+    let (answer, total) = run_on(
+        alloc,
+        stack,
+        lower,
+        here,
+        level - 1,
+        piece,
+        frame.as_slice(),
+        before,
+    );
+    frame.truncate(0);
+    (answer, total)
 }

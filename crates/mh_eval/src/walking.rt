@@ -8,9 +8,9 @@ ghost use Rattle.mh_tree.specs.Running.{run_code, code_steps, value_of, weight};
 ghost use Rattle.mh_tree.specs.Scoped.{IsIn, IsScoped};
 ghost use Rattle.mh_type.specs.Operations.{operate as outcome_of};
 ghost use Rattle.mh_type.specs.declared.outcome.Outcome.{Outcome};
-ghost use Rattle.mh_tree.specs.Limits.{most_nodes};
-ghost use Rattle.mh_tree.specs.Environment.{with_points};
+ghost use Rattle.mh_tree.specs.Sites.{setting, env, MayCall, most_at, greatest_steps};
 
+use crate::here::Here;
 use crate::operations::truth;
 use crate::reading::{is_key, read};
 use mh_tree::{Operand, Piece};
@@ -41,25 +41,34 @@ fn compare(
 #[inline(always)]
 pub(crate) fn walk<'a>(
     locals: &[Value],
-    valid: &[bool],
+    here: &Here<'_>,
+    level: u8,
     code: &'a Piece,
     arguments: &[Value],
-    before: u64,
-) -> (&'a Piece, u64)
-    requires scoped { IsScoped (length valid.now) (length arguments.now) (length locals.now)
+    before: u128,
+) -> (&'a Piece, u128)
+    requires scoped { IsScoped (MayCall level here.now.targets.now (length here.now.valid.now))
+        (length here.now.valid.now) (length arguments.now) (length locals.now)
         (code_of code.now) }
-    requires few { before + weight (code_of code.now) ≤ most_nodes }
-    ensures outcome { run_code (with_points valid.now)
+    requires few { before + weight (most_at level) (code_of code.now) ≤ greatest_steps }
+    ensures outcome { run_code (env (setting level here.now.valid.now here.now.targets.now))
         (code_of result.0.now) arguments.now locals.now
-        ≡ run_code (with_points valid.now) (code_of code.now) arguments.now locals.now }
-    ensures steps { result.1 + code_steps (with_points valid.now)
+        ≡ run_code (env (setting level here.now.valid.now here.now.targets.now)) (code_of code.now)
+        arguments.now locals.now }
+    ensures steps { result.1 + code_steps (env (setting level here.now.valid.now
+        here.now.targets.now))
         (code_of result.0.now) arguments.now locals.now
-        ≡ before + code_steps (with_points valid.now) (code_of code.now) arguments.now locals.now }
-    ensures few { result.1 + weight (code_of result.0.now) ≤ before + weight (code_of code.now) }
-    ensures scoped { IsScoped (length valid.now) (length arguments.now) (length locals.now)
+        ≡ before + code_steps (env (setting level here.now.valid.now here.now.targets.now))
+        (code_of code.now) arguments.now locals.now }
+    ensures few { result.1 + weight (most_at level) (code_of result.0.now) ≤ before + weight
+        (most_at level) (code_of code.now) }
+    ensures scoped { IsScoped (MayCall level here.now.targets.now (length here.now.valid.now))
+        (length here.now.valid.now) (length arguments.now) (length locals.now)
         (code_of result.0.now) }
-    ensures quiet { IsQuiet (with_points valid.now) (code_of code.now) arguments.now locals.now
-        → IsQuiet (with_points valid.now) (code_of result.0.now) arguments.now locals.now }
+    ensures quiet { IsQuiet (setting level here.now.valid.now here.now.targets.now) (code_of
+        code.now) arguments.now locals.now
+        → IsQuiet (setting level here.now.valid.now here.now.targets.now) (code_of result.0.now)
+        arguments.now locals.now }
     ensures shallow { deep (code_of result.0.now) ≤ deep (code_of code.now) }
     ensures lower { height (code_of result.0.now) ≤ height (code_of code.now) }
 {
@@ -73,8 +82,8 @@ pub(crate) fn walk<'a>(
                 fallback,
                 steps,
             } => {
-                let is_valid = valid[*point as usize];
-                total += u64::from(*steps);
+                let is_valid = here.valid[*point as usize];
+                total += u128::from(*steps);
                 node = if is_valid { target } else { fallback };
             }
             Piece::Branch {
@@ -95,7 +104,7 @@ pub(crate) fn walk<'a>(
                 let Some(holds) = compare(arguments, locals, op, first, second) else {
                     return (node, total);
                 };
-                total += u64::from(*steps) + u64::from(*more);
+                total += u128::from(*steps) + u128::from(*more);
                 node = if holds { target } else { fallback };
             }
             Piece::Case {
@@ -104,7 +113,7 @@ pub(crate) fn walk<'a>(
                 fallback,
                 steps,
             } => {
-                total += u64::from(*steps) + u64::from(test.steps);
+                total += u128::from(*steps) + u128::from(test.steps);
                 node = if is_key(arguments, test) {
                     target
                 } else {

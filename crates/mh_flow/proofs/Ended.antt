@@ -24,17 +24,17 @@ reach_inside : (P : ProblemData) (rows : List NeedRow) (left cost_left links poi
 reach_inside P rows left cost_left links points A B run layered closed zero = (λ j l m f. absurd (omega arith), λ p l m f. absurd (omega arith))
 reach_inside P rows left cost_left links points A B run layered closed (suc n) =
     let below = reach_inside P rows left cost_left links points A B run layered closed n in (
-      λ j l m f. elim (layered.supported.link_rows j l f) [
+      λ j l m f. elim (layered.levels.supported.link_rows j l f) [
         | inl source ↦ closed.spare j (omega (arith, l, layered.link_count, run.link_count)) (omega (arith, source.1, run.gains j, positive_out rows j, paid_at P j))
         | inr row ↦
             let inside : B (row_at rows row.0).point ≡ true =
-            below.1 (row_at rows row.0).point (layered.range.point_range row.0 no_row row.1) (omega (arith, row.4)) (omega (arith, row.4)) in
+            below.1 (row_at rows row.0).point (layered.levels.range.point_range row.0 no_row row.1) (omega (arith, row.4)) (omega (arith, row.4)) in
             subst (λ (i : ℕ). A i ≡ true) row.2 (positive_at (λ r. 0 < r.2 → B r.1 ≡ true → A r.0 ≡ true) rows closed.backward row.0 row.1 row.3 row.3 inside)
       ],
       λ p l m f.
-          let row = layered.supported.point_rows p l f in
+          let row = layered.levels.supported.point_rows p l f in
           let inside : A (row_at rows row.0).link ≡ true =
-          below.0 (row_at rows row.0).link (layered.range.link_range row.0 no_row row.1) (omega (arith, row.3)) (omega (arith, row.3)) in
+          below.0 (row_at rows row.0).link (layered.levels.range.link_range row.0 no_row row.1) (omega (arith, row.3)) (omega (arith, row.3)) in
           subst (λ (i : ℕ). B i ≡ true) row.2 (closed.forward _ _ (run.needed row.0 no_row row.1) inside),
     )
 
@@ -59,12 +59,12 @@ run_end P rows left cost_left links points needs cuts problem run layered count 
     omega (arith, count_by-le-length (λ v. nat_lt v far) links, count_by-le-length (λ v. nat_lt v far) points, problem.links, problem.points, link_total, count) in
     let forth : (k : ℕ) → k < length rows → R (row_at rows k).link ≡ true → Q (row_at rows k).point ≡ true = λ k l h.
     let reached = reached-gives links (row_at rows k).link h in
-    reached-from points (row_at rows k).point (layered.range.point_range k no_row l)
-    (omega (arith, (layered.settled k l).forth reached.1, layered.bounded.link_levels (row_at rows k).link reached.1, small)) in
+    reached-from points (row_at rows k).point (layered.levels.range.point_range k no_row l)
+    (omega (arith, (layered.settled k l).forth reached.1, layered.levels.bounded.link_levels (row_at rows k).link reached.1, small)) in
     let back : (k : ℕ) → k < length rows → 0 < (row_at rows k).amount → Q (row_at rows k).point ≡ true → R (row_at rows k).link ≡ true = λ k l some h.
     let reached = reached-gives points (row_at rows k).point h in
-    reached-from links (row_at rows k).link (layered.range.link_range k no_row l)
-    (omega (arith, (layered.settled k l).back some reached.1, layered.bounded.point_levels (row_at rows k).point reached.1, small)) in
+    reached-from links (row_at rows k).link (layered.levels.range.link_range k no_row l)
+    (omega (arith, (layered.settled k l).back some reached.1, layered.levels.bounded.point_levels (row_at rows k).point reached.1, small)) in
     let gainful : (j : ℕ) → R j ≡ true → paid_of P j < gain_of P j = λ j h.
     let reached = reached-gives links j h in
     reached_gains P rows left cost_left links points run layered j reached.0 reached.1 in

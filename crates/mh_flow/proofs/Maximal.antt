@@ -25,7 +25,7 @@ use Rattle.mh_flow.proofs.Ended.{run_end}
 -- a level of a link is at least 1
 link_low : (rows : List NeedRow) (left links points : List ℕ) → IsLayered rows left links points → (j : ℕ) → j < length links → number_at links j < far → 1 ≤ number_at links j
 link_low rows left links points h j l f =
-    elim (h.supported.link_rows j l f) [
+    elim (h.levels.supported.link_rows j l f) [
       | inl source ↦ omega (arith, source.0)
       | inr row ↦ omega (arith, row.4)
     ]
@@ -46,7 +46,7 @@ opened b layered level = record { phase = layered_phase b.rows b.gain_left b.lin
 
 low_levels : (b : LayerData) → IsLayerRun b → IsLayered b.rows b.gain_left b.links b.points → (p : ℕ) → number_at b.points p < far → number_at b.points p ≤ length b.problem.links + length b.problem.costs
 low_levels b kept layered p f =
-    omega (arith, layered.bounded.point_levels p f, count_by-le-length (λ v. nat_lt v far) b.links, count_by-le-length (λ v. nat_lt v far) b.points, kept.link_levels, kept.point_levels)
+    omega (arith, layered.levels.bounded.point_levels p f, count_by-le-length (λ v. nat_lt v far) b.links, count_by-le-length (λ v. nat_lt v far) b.points, kept.link_levels, kept.point_levels)
 
 -- each phase raises the level of the sink
 pub raised_on : (a b : LayerData) → IsLayerRun a → IsLayerRun b → IsBetween a → IsSameFlow b a → b.phases ≡ a.phases + 1 → IsLayered b.rows b.gain_left b.links b.points → IsSinkLevel b.cost_left b.points b.sink →
@@ -57,8 +57,8 @@ raised_on a b kept_a kept between same count layered level reached =
     let low : number_at b.points p < far = omega (arith, end.3, reached) in (
       elim between [
         | inl first ↦
-            let row = layered.supported.point_rows p end.1 low in
-            let inside = layered.range.link_range row.0 no_row row.1 in
+            let row = layered.levels.supported.point_rows p end.1 low in
+            let inside = layered.levels.range.link_range row.0 no_row row.1 in
             let above = link_low b.rows b.gain_left b.links b.points layered (row_at b.rows row.0).link inside (omega (arith, row.3, low)) in
             omega (arith, count, first, end.3, row.3, above)
         | inr raised ↦

@@ -24,18 +24,18 @@ module _ (a : LayerData) (kept : IsLayerRun a) (layered : IsLayered a.rows a.gai
       let from : number_at a.links (row_at a.rows row.0).link ≡ number_at a.links j = ap (number_at a.links) row.2 in
       let to : number_at a.points (row_at a.rows row.0).point ≡ number_at a.points p = ap (number_at a.points) row.3 in
       let up = (layered.settled row.0 row.1).forth (omega (arith, from, f)) in
-      (omega (arith, up, from, to), omega (arith, up, from, to, layered.bounded.link_levels j f, few))
+      (omega (arith, up, from, to), omega (arith, up, from, to, layered.levels.bounded.link_levels j f, few))
   onward (point p) (link j) row f =
       let from : number_at a.points (row_at a.rows row.0).point ≡ number_at a.points p = ap (number_at a.points) row.3 in
       let to : number_at a.links (row_at a.rows row.0).link ≡ number_at a.links j = ap (number_at a.links) row.2 in
       let up = (layered.settled row.0 row.1).back row.4 (omega (arith, from, f)) in
-      (omega (arith, up, from, to), omega (arith, up, from, to, layered.bounded.point_levels p f, few))
+      (omega (arith, up, from, to), omega (arith, up, from, to, layered.levels.bounded.point_levels p f, few))
   onward (point p) sink room f =
       let inside : p < length a.points = elim (cases_lt p (length a.points)) [
         | inl m ↦ m
         | inr m ↦ absurd (omega (arith, room, get_or_past a.cost_left p 0 (omega (arith, m, kept.point_levels, kept.run.point_count))))
       ] in
-      (level.least p inside room, omega (arith, level.least p inside room, layered.bounded.point_levels p f, few))
+      (level.least p inside room, omega (arith, level.least p inside room, layered.levels.bounded.point_levels p f, few))
   onward (link j) sink room f =
       elim (cases_lt j (length a.links)) [
         | inl m ↦ absurd (omega (arith, room, paid_whole a.problem j (reached_gains a.problem a.rows a.gain_left a.cost_left a.links a.points kept.run layered j m f)))
@@ -62,15 +62,15 @@ module _ (a : LayerData) (kept : IsLayerRun a) (layered : IsLayered a.rows a.gai
 
   walks : (n : ℕ) → ((j : ℕ) → j < length a.links → number_at a.links j ≡ n → n < far → Reaches a n (link j)) × ((p : ℕ) → p < length a.points → number_at a.points p ≡ n → n < far → Reaches a n (point p))
   walks zero = (
-    λ j l e f. elim (layered.supported.link_rows j l (omega (arith, e, f))) [
+    λ j l e f. elim (layered.levels.supported.link_rows j l (omega (arith, e, f))) [
       | inl first ↦ absurd (omega (arith, first.0, e))
       | inr row ↦ absurd (omega (arith, row.4, e))
     ],
-    λ p l e f. let row = layered.supported.point_rows p l (omega (arith, e, f)) in absurd (omega (arith, row.3, e)),
+    λ p l e f. let row = layered.levels.supported.point_rows p l (omega (arith, e, f)) in absurd (omega (arith, row.3, e)),
   )
   walks (suc n) =
       let before = walks n in (
-        λ j l e f. elim (layered.supported.link_rows j l (omega (arith, e, f))) [
+        λ j l e f. elim (layered.levels.supported.link_rows j l (omega (arith, e, f))) [
           | inl first ↦
               let none : n ≡ 0 = omega (arith, first.0, e) in
               let begin : Reaches a n source = subst (λ (i : ℕ). Reaches a i source) (sym none) refl in
@@ -80,16 +80,16 @@ module _ (a : LayerData) (kept : IsLayerRun a) (layered : IsLayered a.rows a.gai
               let same : number_at a.links (row_at a.rows k).link ≡ number_at a.links j = ap (number_at a.links) row.2 in
               let up = (layered.settled k row.1).back row.3 (omega (arith, row.4, e, f)) in
               let below : number_at a.points (row_at a.rows k).point ≡ n = omega (arith, up, same, row.4, e) in
-              (point (row_at a.rows k).point, before.1 (row_at a.rows k).point (layered.range.point_range k no_row row.1) below (omega (arith, f)), (k, row.1, row.2, refl, row.3))
+              (point (row_at a.rows k).point, before.1 (row_at a.rows k).point (layered.levels.range.point_range k no_row row.1) below (omega (arith, f)), (k, row.1, row.2, refl, row.3))
         ],
         λ p l e f.
-            let row = layered.supported.point_rows p l (omega (arith, e, f)) in
+            let row = layered.levels.supported.point_rows p l (omega (arith, e, f)) in
             let k : ℕ = row.0 in
             let same : number_at a.points (row_at a.rows k).point ≡ number_at a.points p = ap (number_at a.points) row.2 in
             let up = (layered.settled k row.1).forth (omega (arith, row.3, e, f)) in
             let below : number_at a.links (row_at a.rows k).link ≡ n = omega (arith, up, same, row.3, e) in
             let needs : needs_point a.problem (row_at a.rows k).link p ≡ true = subst (λ (i : ℕ). needs_point a.problem (row_at a.rows k).link i ≡ true) row.2 (kept.run.needed k no_row row.1) in
-            (link (row_at a.rows k).link, before.0 (row_at a.rows k).link (layered.range.link_range k no_row row.1) below (omega (arith, f)), needs),
+            (link (row_at a.rows k).link, before.0 (row_at a.rows k).link (layered.levels.range.link_range k no_row row.1) below (omega (arith, f)), needs),
       )
 
   found : (v : Node) → IsNode a v → level_of a v < far → Reaches a (level_of a v) v

@@ -129,7 +129,7 @@ paid_ordered P = below_ordered P (length P.links)
 pub reached_gains : (P : ProblemData) (rows : List NeedRow) (left cost_left links points : List ℕ) → IsRun P rows left cost_left → IsLayered rows left links points →
     (j : ℕ) → j < length links → number_at links j < far → paid_of P j < gain_of P j
 reached_gains P rows left cost_left links points run layered j l f =
-    elim (layered.supported.link_rows j l f) [
+    elim (layered.levels.supported.link_rows j l f) [
       | inl source ↦ omega (arith, source.1, run.gains j)
       | inr row ↦ omega (arith, row.3, row-le-amount_at (λ r. r.link) rows row.0 row.1, ap (out_of_link rows) row.2, run.gains j)
     ]

@@ -41,7 +41,7 @@ pub levels_rise : (rows : List NeedRow) (left cost_left links points links' poin
 levels_rise rows left cost_left links points links' points' sink D E old blocked new zero = (λ j l m f. absurd (omega arith), λ p l m f. absurd (omega arith))
 levels_rise rows left cost_left links points links' points' sink D E old blocked new (suc n) =
     let below = levels_rise rows left cost_left links points links' points' sink D E old blocked new n in (
-      λ j l m f. elim (new.supported.link_rows j l f) [
+      λ j l m f. elim (new.levels.supported.link_rows j l f) [
         | inl source ↦
             elim (cases_eq (number_at links j) 1) [
               | inl one ↦ inr (omega (arith, one, source.0), blocked.start j source.1 one)
@@ -50,7 +50,7 @@ levels_rise rows left cost_left links points links' points' sink D E old blocked
         | inr row ↦
             let k : ℕ = row.0 in
             let lower : number_at points' (row_at rows k).point < far = omega (arith, row.4, f) in
-            let before = below.1 (row_at rows k).point (new.range.point_range k _ row.1) (omega (arith, row.4, m)) lower in
+            let before = below.1 (row_at rows k).point (new.levels.range.point_range k _ row.1) (omega (arith, row.4, m)) lower in
             let up = (old.settled k row.1).back row.3 (below_far (number_at points (row_at rows k).point) _ (E (row_at rows k).point) before lower) in
             let moved = step (E (row_at rows k).point) (D (row_at rows k).link) (number_at points (row_at rows k).point) (number_at links (row_at rows k).link) (number_at points' (row_at rows k).point)
             up (λ inside e. blocked.back k row.1 row.3 inside e) before in
@@ -58,10 +58,10 @@ levels_rise rows left cost_left links points links' points' sink D E old blocked
             (raise (number_at links (row_at rows k).link) _ (number_at links' j) (D (row_at rows k).link) row.4 moved)
       ],
       λ p l m f.
-          let row = new.supported.point_rows p l f in
+          let row = new.levels.supported.point_rows p l f in
           let k : ℕ = row.0 in
           let lower : number_at links' (row_at rows k).link < far = omega (arith, row.3, f) in
-          let before = below.0 (row_at rows k).link (new.range.link_range k _ row.1) (omega (arith, row.3, m)) lower in
+          let before = below.0 (row_at rows k).link (new.levels.range.link_range k _ row.1) (omega (arith, row.3, m)) lower in
           let up = (old.settled k row.1).forth (below_far (number_at links (row_at rows k).link) _ (D (row_at rows k).link) before lower) in
           let moved = step (D (row_at rows k).link) (E (row_at rows k).point) (number_at links (row_at rows k).link) (number_at points (row_at rows k).point) (number_at links' (row_at rows k).link)
           up (λ inside e. blocked.forth k row.1 inside e) before in

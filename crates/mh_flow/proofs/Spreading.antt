@@ -8,20 +8,14 @@ use Rattle.std.proofs.lemmas.List.Elements.{All-append, All-cons}
 use Rattle.mh_flow.specs.declared.need_row.NeedRow.{NeedRow}
 use Rattle.mh_flow.specs.Carried.{row_at, number_at}
 use Rattle.mh_flow.specs.Chains.{IsLastBelow}
-use Rattle.mh_flow.specs.Levels.{IsSupported, IsBounded, IsSettledRow, IsSettledForth, IsSettledBack, IsLower, IsInRange}
-use Rattle.mh_flow.specs.Spreads.{link_key, point_key, IsListed, IsSpread, IsPointLevels, IsLinkSettled, IsPointSettled}
+use Rattle.mh_flow.specs.Levels.{ArePathLevels, IsSettledRow, IsSettledForth, IsSettledBack, IsLower}
+use Rattle.mh_flow.specs.Spreads.{link_key, point_key, IsListed, IsSpread, IsLinkSettled, IsPointSettled}
 
 pub lower_refl : (xs : List ℕ) → IsLower xs xs
 lower_refl xs = record { length = refl; lower = λ k. omega arith }
 
 pub lower_trans : (a b c : List ℕ) → IsLower a b → IsLower b c → IsLower a c
 lower_trans a b c f g = record { length = g.length ∙ f.length; lower = λ k. omega (arith, f.lower k, g.lower k) }
-
-pub range_lower : (rows : List NeedRow) (a b c d : List ℕ) → IsInRange rows a b → IsLower a c → IsLower b d → IsInRange rows c d
-range_lower rows a b c d r f g = record {
-  link_range = λ k x l. omega (arith, r.link_range k x l, f.length);
-  point_range = λ k x l. omega (arith, r.point_range k x l, g.length);
-}
 
 listed_more : (xs : List ℕ) (q r : ℕ) → IsListed xs r → IsListed (xs ++ q ∷ []) r
 listed_more xs q r h = record {
@@ -116,24 +110,21 @@ walked_end key Good n p at h none k l e = h.good k l (omega (arith, none)) e
 
 -- the loop over a link's rows
 pub record IsLinkSpread (rows : List NeedRow) (left links p0 p1 l0 l1 : List ℕ) (link at : ℕ) : Type 0 where
-  pub range : IsInRange rows links p1
-  pub levels : IsPointLevels rows left links p1
+  pub levels : ArePathLevels rows left links p1
   pub spread : IsSpread p0 p1 l0 l1
   pub walked : IsWalked (link_key rows) (λ k. IsSettledForth (row_at rows k) links p1) (length rows) link at
 
 pub record IsPointSpread (rows : List NeedRow) (left points p0 p1 l0 l1 : List ℕ) (point at : ℕ) : Type 0 where
-  pub range : IsInRange rows p1 points
-  pub levels : IsPointLevels rows left p1 points
+  pub levels : ArePathLevels rows left p1 points
   pub spread : IsSpread p0 p1 l0 l1
   pub walked : IsWalked (point_key rows) (λ k. IsSettledBack (row_at rows k) p1 points) (length rows) point at
 
 -- a further row of the link is settled
 pub link_spread_on : (rows : List NeedRow) (left links p0 p1 p2 l0 l1 l2 : List ℕ) (link at next : ℕ) → IsLinkSpread rows left links p0 p1 l0 l1 link at → 0 < at →
     IsLastBelow (link_key rows) (link_key rows (at - 1)) (at - 1) next →
-    IsSupported rows left links p2 → IsBounded links p2 → IsLower p1 p2 → IsSettledForth (row_at rows (at - 1)) links p2 → IsSpread p0 p2 l0 l2 → IsLinkSpread rows left links p0 p2 l0 l2 link next
-link_spread_on rows left links p0 p1 p2 l0 l1 l2 link at next h some last supported bounded lower settled spread = record {
-  range = range_lower rows links p1 links p2 h.range (lower_refl links) lower;
-  levels = record { supported = supported; bounded = bounded };
+    ArePathLevels rows left links p2 → IsLower p1 p2 → IsSettledForth (row_at rows (at - 1)) links p2 → IsSpread p0 p2 l0 l2 → IsLinkSpread rows left links p0 p2 l0 l2 link next
+link_spread_on rows left links p0 p1 p2 l0 l1 l2 link at next h some last levels lower settled spread = record {
+  levels = levels;
   spread = spread;
   walked = walked_on (link_key rows) (λ k. IsSettledForth (row_at rows k) links p1) (λ k. IsSettledForth (row_at rows k) links p2) (length rows) link at next h.walked some last
       (λ k before. forth_lower (row_at rows k) links p1 p2 lower before) settled;
@@ -141,10 +132,9 @@ link_spread_on rows left links p0 p1 p2 l0 l1 l2 link at next h some last suppor
 
 pub point_spread_on : (rows : List NeedRow) (left points p0 p1 p2 l0 l1 l2 : List ℕ) (point at next : ℕ) → IsPointSpread rows left points p0 p1 l0 l1 point at → 0 < at →
     IsLastBelow (point_key rows) (point_key rows (at - 1)) (at - 1) next →
-    IsSupported rows left p2 points → IsBounded p2 points → IsLower p1 p2 → IsSettledBack (row_at rows (at - 1)) p2 points → IsSpread p0 p2 l0 l2 → IsPointSpread rows left points p0 p2 l0 l2 point next
-point_spread_on rows left points p0 p1 p2 l0 l1 l2 point at next h some last supported bounded lower settled spread = record {
-  range = range_lower rows p1 points p2 points h.range lower (lower_refl points);
-  levels = record { supported = supported; bounded = bounded };
+    ArePathLevels rows left p2 points → IsLower p1 p2 → IsSettledBack (row_at rows (at - 1)) p2 points → IsSpread p0 p2 l0 l2 → IsPointSpread rows left points p0 p2 l0 l2 point next
+point_spread_on rows left points p0 p1 p2 l0 l1 l2 point at next h some last levels lower settled spread = record {
+  levels = levels;
   spread = spread;
   walked = walked_on (point_key rows) (λ k. IsSettledBack (row_at rows k) p1 points) (λ k. IsSettledBack (row_at rows k) p2 points) (length rows) point at next h.walked some last
       (λ k before. back_lower (row_at rows k) p1 p2 points lower before) settled;
@@ -152,21 +142,18 @@ point_spread_on rows left points p0 p1 p2 l0 l1 l2 point at next h some last sup
 
 -- the loop over the listed links: those passed are settled
 pub record IsLinksSpread (rows : List NeedRow) (left links p0 p1 from lowered : List ℕ) (n : ℕ) : Type 0 where
-  pub range : IsInRange rows links p1
-  pub levels : IsPointLevels rows left links p1
+  pub levels : ArePathLevels rows left links p1
   pub spread : IsSpread p0 p1 [] lowered
   pub passed : (i : ℕ) → i < n → IsLinkSettled rows links p1 (number_at from i)
 
 pub record IsPointsSpread (rows : List NeedRow) (left points p0 p1 from lowered : List ℕ) (n : ℕ) : Type 0 where
-  pub range : IsInRange rows p1 points
-  pub levels : IsPointLevels rows left p1 points
+  pub levels : ArePathLevels rows left p1 points
   pub spread : IsSpread p0 p1 [] lowered
   pub passed : (i : ℕ) → i < n → IsPointSettled rows p1 points (number_at from i)
 
 pub links_spread_on : (rows : List NeedRow) (left links p0 p1 p2 from l1 l2 : List ℕ) (n : ℕ) → IsLinksSpread rows left links p0 p1 from l1 n →
-    IsPointLevels rows left links p2 → IsSpread p1 p2 l1 l2 → IsLinkSettled rows links p2 (number_at from n) → IsLinksSpread rows left links p0 p2 from l2 (n + 1)
+    ArePathLevels rows left links p2 → IsSpread p1 p2 l1 l2 → IsLinkSettled rows links p2 (number_at from n) → IsLinksSpread rows left links p0 p2 from l2 (n + 1)
 links_spread_on rows left links p0 p1 p2 from l1 l2 n h levels spread settled = record {
-  range = range_lower rows links p1 links p2 h.range (lower_refl links) spread.lower;
   levels = levels;
   spread = spread_on p0 p1 p2 [] l1 l2 h.spread spread;
   passed = λ i l. elim (cases_lt i n) [
@@ -176,9 +163,8 @@ links_spread_on rows left links p0 p1 p2 from l1 l2 n h levels spread settled = 
 }
 
 pub points_spread_on : (rows : List NeedRow) (left points p0 p1 p2 from l1 l2 : List ℕ) (n : ℕ) → IsPointsSpread rows left points p0 p1 from l1 n →
-    IsPointLevels rows left p2 points → IsSpread p1 p2 l1 l2 → IsPointSettled rows p2 points (number_at from n) → IsPointsSpread rows left points p0 p2 from l2 (n + 1)
+    ArePathLevels rows left p2 points → IsSpread p1 p2 l1 l2 → IsPointSettled rows p2 points (number_at from n) → IsPointsSpread rows left points p0 p2 from l2 (n + 1)
 points_spread_on rows left points p0 p1 p2 from l1 l2 n h levels spread settled = record {
-  range = range_lower rows p1 points p2 points h.range spread.lower (lower_refl points);
   levels = levels;
   spread = spread_on p0 p1 p2 [] l1 l2 h.spread spread;
   passed = λ i l. elim (cases_lt i n) [
@@ -224,8 +210,7 @@ links_wait rows points p0 p1 listed h settled j =
 
 -- the rounds of the search: rows back are settled, and links whose rows forth may not be stand in the front
 pub record IsRound (rows : List NeedRow) (left l0 p0 links points front : List ℕ) : Type 0 where
-  pub range : IsInRange rows links points
-  pub levels : IsPointLevels rows left links points
+  pub levels : ArePathLevels rows left links points
   pub lower_links : IsLower l0 links
   pub lower_points : IsLower p0 points
   pub inside : All (λ j. j < length links) front
@@ -234,9 +219,8 @@ pub record IsRound (rows : List NeedRow) (left l0 p0 links points front : List �
 
 pub round_on : (rows : List NeedRow) (left l0 p0 l1 p1 l2 p2 front reached next : List ℕ) → IsRound rows left l0 p0 l1 p1 front →
     IsSpread p1 p2 [] reached → ((j : ℕ) → IsLinkSettled rows l1 p2 j) →
-    IsPointLevels rows left l2 p2 → IsSpread l1 l2 [] next → ((p : ℕ) → IsPointSettled rows l2 p2 p) → IsRound rows left l0 p0 l2 p2 next
+    ArePathLevels rows left l2 p2 → IsSpread l1 l2 [] next → ((p : ℕ) → IsPointSettled rows l2 p2 p) → IsRound rows left l0 p0 l2 p2 next
 round_on rows left l0 p0 l1 p1 l2 p2 front reached next h forth links levels back points = record {
-  range = range_lower rows l1 p1 l2 p2 h.range back.lower forth.lower;
   levels = levels;
   lower_links = lower_trans l0 l1 l2 h.lower_links back.lower;
   lower_points = lower_trans p0 p1 p2 h.lower_points forth.lower;

@@ -6,7 +6,7 @@ use Rattle.std.proofs.lemmas.List.Sums.{get_or-le-sum_by}
 use Rattle.std.proofs.lemmas.List.{get_or_past}
 use Rattle.mh_flow.specs.declared.need_row.NeedRow.{NeedRow}
 use Rattle.mh_flow.specs.Carried.{row_at, no_row, number_at}
-use Rattle.mh_flow.specs.Levels.{far, reached_count, IsSupported, IsBounded, IsLower}
+use Rattle.mh_flow.specs.Levels.{far, reached_count, ArePathLevels, IsSupported, IsBounded, IsLower}
 use Rattle.mh_flow.specs.Run.{start_level}
 use Rattle.mh_flow.specs.Spreads.{IsListed, IsLinkSettled}
 
@@ -27,7 +27,7 @@ start-cases : (left : ℕ) → ((start_level left ≡ 1) × (0 < left)) ⊎ ((st
 start-cases zero = inr (refl, refl)
 start-cases (suc n) = inl (rw (lt-ltb 0 (suc n) (omega arith)) refl, omega arith)
 
-pub start_supported : (rows : List NeedRow) (left : List ℕ) (n : ℕ) → IsSupported rows left (map start_level left) (replicate n far)
+start_supported : (rows : List NeedRow) (left : List ℕ) (n : ℕ) → IsSupported rows left (map start_level left) (replicate n far)
 start_supported rows left n = record {
   link_rows = λ j l below.
       let inside : j < length left = omega (arith, l, start_length left) in
@@ -47,7 +47,7 @@ counted_at levels j l below =
     let one : cond {A = ℕ} (nat_lt (number_at levels j) far) 1 0 ≡ 1 = rw (lt-ltb (number_at levels j) far below) refl in
     omega (arith, e, one)
 
-pub start_bounded : (left : List ℕ) (n : ℕ) → IsBounded (map start_level left) (replicate n far)
+start_bounded : (left : List ℕ) (n : ℕ) → IsBounded (map start_level left) (replicate n far)
 start_bounded left n = record {
   link_levels = λ j below.
       elim (cases_lt j (length left)) [
@@ -67,6 +67,17 @@ start_bounded left n = record {
             let past : length (replicate n far) ≤ p = grind (arith, common_steps, outside) in
             omega (arith, get_or_past (replicate n far) p 0 past)
       ];
+}
+
+-- the levels with which a search begins
+pub start_path_levels : (rows : List NeedRow) (left : List ℕ) (n : ℕ) → All (λ r. r.link < length left) rows → All (λ r. r.point < n) rows → ArePathLevels rows left (map start_level left) (replicate n far)
+start_path_levels rows left n links points = record {
+  range = record {
+    link_range = λ k d l. omega (arith, links k d l, start_length left);
+    point_range = λ k d l. grind (arith, common_steps, points k d l);
+  };
+  supported = start_supported rows left n;
+  bounded = start_bounded left n;
 }
 
 pub spare_after : (left links : List ℕ) → IsLower (map start_level left) links → (j : ℕ) → 0 < number_at left j → number_at links j ≤ 1

@@ -1,4 +1,5 @@
 -- A run as contracts see it, and what it keeps.
+use Rattle.std.specs.Prelude.{length}
 use Rattle.mh_flow.specs.declared.layer_run.LayerRun.TheInside.{Inside}
 use Rattle.mh_flow.specs.LayerData.{LayerData, IsLayerRun, IsIndexed}
 
@@ -15,4 +16,4 @@ layer_data a = record {
 }
 
 abbrev pub IsKept : Inside → Type 0
-IsKept a = IsLayerRun (layer_data a) × IsIndexed (layer_data a) a.by_link.last.items a.by_link.before.items a.by_point.last.items a.by_point.before.items
+IsKept a = IsLayerRun (layer_data a) × IsIndexed a.rows.items a.index (length a.problem.now.links) (length a.problem.now.costs)

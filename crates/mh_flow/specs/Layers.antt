@@ -1,5 +1,5 @@
 -- Paths up the levels, and what a push along one changes (Dinitz 1970).
-use Rattle.std.specs.Prelude.{ℕ, ◌+◌, ◌≡◌, ◌≤◌, ◌<◌, ◌^◌, List, [], ◌∷◌, cond, ◌==◌, length, map, min}
+use Rattle.std.specs.Prelude.{ℕ, ◌+◌, ◌≡◌, ◌≤◌, ◌<◌, List, [], ◌∷◌, cond, ◌==◌, length, map, min}
 use Rattle.std.specs.List.{All}
 use Rattle.mh_flow.specs.declared.need_row.NeedRow.{NeedRow}
 use Rattle.mh_flow.specs.declared.path.Turn.{Turn}

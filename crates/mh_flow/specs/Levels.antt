@@ -43,3 +43,9 @@ reached_count levels = count_by (λ v. nat_lt v far) levels
 pub record IsBounded (links points : List ℕ) : Type 0 where
   pub link_levels : (j : ℕ) → number_at links j < far → number_at links j ≤ reached_count links + reached_count points
   pub point_levels : (p : ℕ) → number_at points p < far → number_at points p ≤ reached_count links + reached_count points
+
+-- levels that paths from the source have
+pub record ArePathLevels (rows : List NeedRow) (gain_left links points : List ℕ) : Type 0 where
+  pub range : IsInRange rows links points
+  pub supported : IsSupported rows gain_left links points
+  pub bounded : IsBounded links points

@@ -5,7 +5,7 @@ use Rattle.mh_network.specs.Selection.{Row, IsBefore}
 use Rattle.mh_flow.specs.declared.need_row.NeedRow.{NeedRow}
 use Rattle.mh_flow.specs.Carried.{row_at, number_at, out_of_link, into_point}
 use Rattle.mh_flow.specs.Charged.{paid_of}
-use Rattle.mh_flow.specs.Levels.{far, IsSupported, IsSettledRow, IsInRange, IsBounded}
+use Rattle.mh_flow.specs.Levels.{far, ArePathLevels, IsSettledRow}
 
 -- the needs of the links below n, by link and then point, with nothing carried
 abbrev pub needs_below : ProblemData → ℕ → List NeedRow
@@ -32,9 +32,7 @@ pub record IsRun (P : ProblemData) (rows : List NeedRow) (gain_left cost_left : 
 -- levels of the links and points that the source reaches over edges with room left
 pub record IsLayered (rows : List NeedRow) (gain_left links points : List ℕ) : Type 0 where
   pub link_count : length gain_left ≡ length links
-  pub range : IsInRange rows links points
-  pub supported : IsSupported rows gain_left links points
-  pub bounded : IsBounded links points
+  pub levels : ArePathLevels rows gain_left links points
   pub settled : (k : ℕ) → k < length rows → IsSettledRow (row_at rows k) links points
   pub spare : (j : ℕ) → 0 < number_at gain_left j → number_at links j ≤ 1
 

@@ -12,14 +12,14 @@ ghost use Rattle.mh_flow.specs.Levels.{far, IsLower};
 ghost use Rattle.mh_flow.specs.Run.{IsLayered, is_reached, positive_rows};
 ghost use Rattle.mh_flow.specs.Spent.{IsPhase, IsSpent};
 
-use crate::chain::Chain;
 use crate::levels::{UNREACHED, levels_from, sink_level, unreached};
 use crate::need_row::NeedRow;
 use crate::outcome::{paid_charges, positive, reached_links};
 use crate::path::Path;
 use crate::push::push_along;
+use crate::row_index::RowIndex;
 use crate::search::{Places, find_path};
-use crate::start::{costs, gains, need_rows, rows_by_link, rows_by_point};
+use crate::start::{costs, gains, need_rows};
 use mh_base::NoMemory;
 use mh_network::{Problem, needs_are_of_links};
 use std::alloc::Global;
@@ -32,8 +32,7 @@ pub struct LayerRun<'p> {
     alloc: Global,
     problem: &'p Problem,
     rows: Vec<NeedRow>,
-    by_link: Chain,
-    by_point: Chain,
+    index: RowIndex,
     gain_left: Vec<u64>,
     cost_left: Vec<u64>,
     links: Vec<u32>,
@@ -126,8 +125,7 @@ impl<'p> LayerRun<'p> {
     {
         needs_are_of_links();
         let rows = need_rows(alloc, problem)?;
-        let by_link = rows_by_link(alloc, &rows, problem.links())?;
-        let by_point = rows_by_point(alloc, &rows, problem.points())?;
+        let index = RowIndex::new(alloc, &rows, problem.links(), problem.points())?;
         let gain_left = gains(alloc, problem)?;
         let cost_left = costs(alloc, problem)?;
         let links = unreached(alloc, problem.links())?;
@@ -136,8 +134,7 @@ impl<'p> LayerRun<'p> {
             alloc,
             problem,
             rows,
-            by_link,
-            by_point,
+            index,
             gain_left,
             cost_left,
             links,
@@ -163,8 +160,7 @@ impl<'p> LayerRun<'p> {
         let (links, points) = levels_from(
             self.alloc,
             &self.rows,
-            &self.by_link,
-            &self.by_point,
+            &self.index,
             &self.gain_left,
             self.cost_left.len(),
         )?;
@@ -249,8 +245,8 @@ impl<'p> LayerRun<'p> {
         ensures kept { IsLayerRun self.now }
     {
         Ok(Places {
-            links: self.by_link.last.as_slice().to_vec(self.alloc)?,
-            points: self.by_point.last.as_slice().to_vec(self.alloc)?,
+            links: self.index.by_link.last.as_slice().to_vec(self.alloc)?,
+            points: self.index.by_point.last.as_slice().to_vec(self.alloc)?,
         })
     }
 
@@ -281,8 +277,7 @@ impl<'p> LayerRun<'p> {
     {
         let found = find_path(
             &self.rows,
-            &self.by_link,
-            &self.by_point,
+            &self.index,
             &self.gain_left,
             &self.links,
             &self.points,

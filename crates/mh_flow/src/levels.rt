@@ -3,14 +3,13 @@
 ghost use Rattle.std.specs.Prelude.{◌≡◌, ◌<◌, ◌≤◌, ◌+◌, ◌⊎◌, [], All, length, ℕ, IfOk, OnOk, MatchBool, map, replicate, slice_set, sum};
 ghost use Rattle.std.specs.Bool.{OnTrue, OnFalse};
 ghost use Rattle.mh_flow.specs.Carried.{number_at, row_at};
-ghost use Rattle.mh_flow.specs.Chains.{IsChained};
-ghost use Rattle.mh_flow.specs.LayerData.{IsSinkLevel};
-ghost use Rattle.mh_flow.specs.Levels.{far, IsSupported, IsSettledRow, IsSettledForth, IsSettledBack, IsLower, IsInRange, IsBounded};
+ghost use Rattle.mh_flow.specs.LayerData.{IsIndexed, IsSinkLevel};
+ghost use Rattle.mh_flow.specs.Levels.{far, ArePathLevels, IsSettledRow, IsSettledForth, IsSettledBack, IsLower};
 ghost use Rattle.mh_flow.specs.Run.{IsLayered, start_level};
-ghost use Rattle.mh_flow.specs.Spreads.{link_key, point_key, IsListed, IsSpread, IsPointLevels, IsLinkSettled, IsPointSettled};
+ghost use Rattle.mh_flow.specs.Spreads.{IsListed, IsSpread, IsLinkSettled, IsPointSettled};
 
-use crate::chain::Chain;
 use crate::need_row::NeedRow;
+use crate::row_index::RowIndex;
 use mh_base::NoMemory;
 use std::alloc::Global;
 
@@ -33,7 +32,6 @@ fn lower(levels: &mut [u32], at: usize, from: u32) -> bool
 }
 
 /// Lowers the level of the point of a row.
-#[tactic(auto, using(crate::proofs::Bounds::bounded_points))]
 fn settle_point(
     rows: &[NeedRow],
     at: usize,
@@ -42,11 +40,8 @@ fn settle_point(
     points: &mut [u32],
 ) -> bool
     requires at { at < length rows.now }
-    requires range { IsInRange rows.now links.now points.old }
-    requires supported { IsSupported rows.now gain_left.now links.now points.old }
-    requires bounded { IsBounded links.now points.old }
-    ensures supported { IsSupported rows.now gain_left.now links.now points.new }
-    ensures bounded { IsBounded links.now points.new }
+    requires levels { ArePathLevels rows.now gain_left.now links.now points.old }
+    ensures levels { ArePathLevels rows.now gain_left.now links.now points.new }
     ensures points { IsLower points.old points.new }
     ensures settled { IsSettledForth (row_at rows.now at) links.now points.new }
     ensures same { OnFalse result (points.new ≡ points.old) }
@@ -59,7 +54,6 @@ fn settle_point(
 }
 
 /// Lowers the level of the link of a row.
-#[tactic(auto, using(crate::proofs::Bounds::bounded_links))]
 fn settle_link(
     rows: &[NeedRow],
     at: usize,
@@ -68,11 +62,8 @@ fn settle_link(
     points: &[u32],
 ) -> bool
     requires at { at < length rows.now }
-    requires range { IsInRange rows.now links.old points.now }
-    requires supported { IsSupported rows.now gain_left.now links.old points.now }
-    requires bounded { IsBounded links.old points.now }
-    ensures supported { IsSupported rows.now gain_left.now links.new points.now }
-    ensures bounded { IsBounded links.new points.now }
+    requires levels { ArePathLevels rows.now gain_left.now links.old points.now }
+    ensures levels { ArePathLevels rows.now gain_left.now links.new points.now }
     ensures links { IsLower links.old links.new }
     ensures settled { IsSettledBack (row_at rows.now at) links.new points.now }
     ensures same { OnFalse result (links.new ≡ links.old) }
@@ -87,30 +78,28 @@ fn settle_link(
 /// Lowers the levels of the points of a link's rows, and lists those points.
 fn spread_link(
     rows: &[NeedRow],
-    by_link: &Chain,
+    index: &RowIndex,
     gain_left: &[u64],
     link: usize,
     links: &[u32],
     points: &mut [u32],
     lowered: &mut Vec<usize>,
 ) -> Result<(), NoMemory>
-    requires chained { IsChained (link_key rows.now) (length rows.now)
-        (length links.now) by_link.now.last.items by_link.now.before.items }
+    requires indexed { IsIndexed rows.now index.now (length links.now) (length points.old) }
     requires link { link < length links.now }
-    requires range { IsInRange rows.now links.now points.old }
-    requires levels { IsPointLevels rows.now gain_left.now links.now points.old }
-    ensures levels { OnOk result (IsPointLevels rows.now gain_left.now links.now points.new) }
+    requires levels { ArePathLevels rows.now gain_left.now links.now points.old }
+    ensures levels { OnOk result (ArePathLevels rows.now gain_left.now links.now points.new) }
     ensures spread { OnOk result (IsSpread points.old points.new lowered.old.items
         lowered.new.items) }
     ensures settled { OnOk result (IsLinkSettled rows.now links.now points.new link) }
 {
-    let mut at = by_link.last[link];
+    let mut at = index.by_link.last[link];
     while at > 0 {
         let row = at - 1;
         if settle_point(rows, row, gain_left, links, points) {
             lowered.push(rows[row].point as usize)?;
         }
-        at = by_link.before[row];
+        at = index.by_link.before[row];
     }
     Ok(())
 }
@@ -118,30 +107,28 @@ fn spread_link(
 /// Lowers the levels of the links of a point's rows that carry something, and lists those links.
 fn spread_point(
     rows: &[NeedRow],
-    by_point: &Chain,
+    index: &RowIndex,
     gain_left: &[u64],
     point: usize,
     links: &mut [u32],
     points: &[u32],
     lowered: &mut Vec<usize>,
 ) -> Result<(), NoMemory>
-    requires chained { IsChained (point_key rows.now) (length rows.now)
-        (length points.now) by_point.now.last.items by_point.now.before.items }
+    requires indexed { IsIndexed rows.now index.now (length links.old) (length points.now) }
     requires point { point < length points.now }
-    requires range { IsInRange rows.now links.old points.now }
-    requires levels { IsPointLevels rows.now gain_left.now links.old points.now }
-    ensures levels { OnOk result (IsPointLevels rows.now gain_left.now links.new points.now) }
+    requires levels { ArePathLevels rows.now gain_left.now links.old points.now }
+    ensures levels { OnOk result (ArePathLevels rows.now gain_left.now links.new points.now) }
     ensures spread { OnOk result (IsSpread links.old links.new lowered.old.items
         lowered.new.items) }
     ensures settled { OnOk result (IsPointSettled rows.now links.new points.now point) }
 {
-    let mut at = by_point.last[point];
+    let mut at = index.by_point.last[point];
     while at > 0 {
         let row = at - 1;
         if settle_link(rows, row, gain_left, links, points) {
             lowered.push(rows[row].link as usize)?;
         }
-        at = by_point.before[row];
+        at = index.by_point.before[row];
     }
     Ok(())
 }
@@ -155,9 +142,8 @@ fn sweep_points(
     links: &[u32],
     points: &mut [u32],
 ) -> Result<Vec<usize>, NoMemory>
-    requires range { IsInRange rows.now links.now points.old }
-    requires levels { IsPointLevels rows.now gain_left.now links.now points.old }
-    ensures levels { OnOk result (IsPointLevels rows.now gain_left.now links.now points.new) }
+    requires levels { ArePathLevels rows.now gain_left.now links.now points.old }
+    ensures levels { OnOk result (ArePathLevels rows.now gain_left.now links.now points.new) }
     ensures spread { IfOk result (λ lowered. IsSpread points.old points.new [] lowered.items) }
     ensures settled { OnOk result ((j : ℕ) → IsLinkSettled rows.now links.now points.new j) }
 {
@@ -179,9 +165,8 @@ fn sweep_links(
     links: &mut [u32],
     points: &[u32],
 ) -> Result<Vec<usize>, NoMemory>
-    requires range { IsInRange rows.now links.old points.now }
-    requires levels { IsPointLevels rows.now gain_left.now links.old points.now }
-    ensures levels { OnOk result (IsPointLevels rows.now gain_left.now links.new points.now) }
+    requires levels { ArePathLevels rows.now gain_left.now links.old points.now }
+    ensures levels { OnOk result (ArePathLevels rows.now gain_left.now links.new points.now) }
     ensures spread { IfOk result (λ lowered. IsSpread links.old links.new [] lowered.items) }
     ensures settled { OnOk result ((p : ℕ) → IsPointSettled rows.now links.new points.now p) }
 {
@@ -198,20 +183,18 @@ fn sweep_links(
 fn spread_links(
     alloc: Global,
     rows: &[NeedRow],
-    by_link: &Chain,
+    index: &RowIndex,
     gain_left: &[u64],
     from: &[usize],
     links: &[u32],
     points: &mut [u32],
 ) -> Result<Vec<usize>, NoMemory>
-    requires chained { IsChained (link_key rows.now) (length rows.now)
-        (length links.now) by_link.now.last.items by_link.now.before.items }
+    requires indexed { IsIndexed rows.now index.now (length links.now) (length points.old) }
     requires inside { All (λ j. j < length links.now) from.now }
-    requires range { IsInRange rows.now links.now points.old }
-    requires levels { IsPointLevels rows.now gain_left.now links.now points.old }
+    requires levels { ArePathLevels rows.now gain_left.now links.now points.old }
     requires waiting { (j : ℕ) → IsListed from.now j
         ⊎ IsLinkSettled rows.now links.now points.old j }
-    ensures levels { OnOk result (IsPointLevels rows.now gain_left.now links.now points.new) }
+    ensures levels { OnOk result (ArePathLevels rows.now gain_left.now links.now points.new) }
     ensures spread { IfOk result (λ lowered. IsSpread points.old points.new [] lowered.items) }
     ensures settled { OnOk result ((j : ℕ) → IsLinkSettled rows.now links.now points.new j) }
 {
@@ -221,7 +204,7 @@ fn spread_links(
     }
     let mut lowered = Vec::new(alloc);
     for link in from {
-        spread_link(rows, by_link, gain_left, *link, links, points, &mut lowered)?;
+        spread_link(rows, index, gain_left, *link, links, points, &mut lowered)?;
     }
     Ok(lowered)
 }
@@ -230,20 +213,18 @@ fn spread_links(
 fn spread_points(
     alloc: Global,
     rows: &[NeedRow],
-    by_point: &Chain,
+    index: &RowIndex,
     gain_left: &[u64],
     from: &[usize],
     links: &mut [u32],
     points: &[u32],
 ) -> Result<Vec<usize>, NoMemory>
-    requires chained { IsChained (point_key rows.now) (length rows.now)
-        (length points.now) by_point.now.last.items by_point.now.before.items }
+    requires indexed { IsIndexed rows.now index.now (length links.old) (length points.now) }
     requires inside { All (λ p. p < length points.now) from.now }
-    requires range { IsInRange rows.now links.old points.now }
-    requires levels { IsPointLevels rows.now gain_left.now links.old points.now }
+    requires levels { ArePathLevels rows.now gain_left.now links.old points.now }
     requires waiting { (p : ℕ) → IsListed from.now p
         ⊎ IsPointSettled rows.now links.old points.now p }
-    ensures levels { OnOk result (IsPointLevels rows.now gain_left.now links.new points.now) }
+    ensures levels { OnOk result (ArePathLevels rows.now gain_left.now links.new points.now) }
     ensures spread { IfOk result (λ lowered. IsSpread links.old links.new [] lowered.items) }
     ensures settled { OnOk result ((p : ℕ) → IsPointSettled rows.now links.new points.now p) }
 {
@@ -253,15 +234,7 @@ fn spread_points(
     }
     let mut lowered = Vec::new(alloc);
     for point in from {
-        spread_point(
-            rows,
-            by_point,
-            gain_left,
-            *point,
-            links,
-            points,
-            &mut lowered,
-        )?;
+        spread_point(rows, index, gain_left, *point, links, points, &mut lowered)?;
     }
     Ok(lowered)
 }
@@ -271,24 +244,19 @@ fn spread_points(
 pub(crate) fn settle(
     alloc: Global,
     rows: &[NeedRow],
-    by_link: &Chain,
-    by_point: &Chain,
+    index: &RowIndex,
     gain_left: &[u64],
     front: Vec<usize>,
     links: &mut [u32],
     points: &mut [u32],
 ) -> Result<(), NoMemory>
-    requires by_link { IsChained (link_key rows.now) (length rows.now)
-        (length links.old) by_link.now.last.items by_link.now.before.items }
-    requires by_point { IsChained (point_key rows.now) (length rows.now)
-        (length points.old) by_point.now.last.items by_point.now.before.items }
+    requires indexed { IsIndexed rows.now index.now (length links.old) (length points.old) }
     requires inside { All (λ j. j < length links.old) front.items }
-    requires range { IsInRange rows.now links.old points.old }
-    requires levels { IsPointLevels rows.now gain_left.now links.old points.old }
+    requires levels { ArePathLevels rows.now gain_left.now links.old points.old }
     requires waiting { (j : ℕ) → IsListed front.items j
         ⊎ IsLinkSettled rows.now links.old points.old j }
     requires settled { (p : ℕ) → IsPointSettled rows.now links.old points.old p }
-    ensures levels { OnOk result (IsPointLevels rows.now gain_left.now links.new points.new) }
+    ensures levels { OnOk result (ArePathLevels rows.now gain_left.now links.new points.new) }
     ensures links { OnOk result (IsLower links.old links.new) }
     ensures points { OnOk result (IsLower points.old points.new) }
     ensures settled { OnOk result ((k : ℕ) → k < length rows.now
@@ -296,8 +264,8 @@ pub(crate) fn settle(
 {
     let mut front = front;
     while !front.is_empty() {
-        let reached = spread_links(alloc, rows, by_link, gain_left, &front, links, points)?;
-        front = spread_points(alloc, rows, by_point, gain_left, &reached, links, points)?;
+        let reached = spread_links(alloc, rows, index, gain_left, &front, links, points)?;
+        front = spread_points(alloc, rows, index, gain_left, &reached, links, points)?;
     }
     Ok(())
 }
@@ -333,19 +301,15 @@ fn start_links(alloc: Global, gain_left: &[u64]) -> Result<Vec<usize>, NoMemory>
 }
 
 /// The level of each link and point that the source reaches.
-#[tactic(auto, using(crate::proofs::Starts::start_bounded, crate::proofs::Starts::start_supported, crate::proofs::Starts::spare_after))]
+#[tactic(auto, using(crate::proofs::Starts::spare_after))]
 pub(crate) fn levels_from(
     alloc: Global,
     rows: &[NeedRow],
-    by_link: &Chain,
-    by_point: &Chain,
+    index: &RowIndex,
     gain_left: &[u64],
     count: usize,
 ) -> Result<(Vec<u32>, Vec<u32>), NoMemory>
-    requires by_link { IsChained (link_key rows.now) (length rows.now)
-        (length gain_left.now) by_link.now.last.items by_link.now.before.items }
-    requires by_point { IsChained (point_key rows.now)
-        (length rows.now) count by_point.now.last.items by_point.now.before.items }
+    requires indexed { IsIndexed rows.now index.now (length gain_left.now) count }
     requires links { All (λ r. r.link < length gain_left.now) rows.now }
     requires points { All (λ r. r.point < count) rows.now }
     ensures layered { IfOk result (λ levels. IsLayered rows.now gain_left.now levels.0.items
@@ -359,8 +323,7 @@ pub(crate) fn levels_from(
     settle(
         alloc,
         rows,
-        by_link,
-        by_point,
+        index,
         gain_left,
         front,
         &mut links,

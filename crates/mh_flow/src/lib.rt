@@ -16,6 +16,7 @@ mod need_row;
 mod outcome;
 mod path;
 mod push;
+mod row_index;
 mod search;
 mod start;
 

@@ -2,15 +2,15 @@
 
 ghost use Rattle.std.specs.Prelude.{◌≡◌, ◌<◌, ◌≤◌, length, IfOk, OnOk, MatchOption};
 ghost use Rattle.mh_flow.specs.Carried.{number_at};
-ghost use Rattle.mh_flow.specs.Chains.{IsChained};
+ghost use Rattle.mh_flow.specs.LayerData.{IsIndexed};
 ghost use Rattle.mh_flow.specs.Layers.{IsPath};
 ghost use Rattle.mh_flow.specs.Levels.{far, IsInRange, IsLower};
 ghost use Rattle.mh_flow.specs.Spent.{IsPhase, IsSpent, IsRowBack};
-ghost use Rattle.mh_flow.specs.Spreads.{link_key, point_key};
+ghost use Rattle.mh_flow.specs.Spreads.{point_key};
 
-use crate::chain::Chain;
 use crate::need_row::NeedRow;
 use crate::path::Turn;
+use crate::row_index::RowIndex;
 use mh_base::NoMemory;
 
 /// For each link and each point the place of the row that is to be tried next: one more than its
@@ -33,7 +33,7 @@ fn point_of(rows: &[NeedRow], row: usize) -> usize
 /// something is left to try.
 fn row_back(
     rows: &[NeedRow],
-    by_link: &Chain,
+    index: &RowIndex,
     gain_left: &[u64],
     links: &[u32],
     points: &[u32],
@@ -41,8 +41,7 @@ fn row_back(
     point_rows: &[usize],
     link: usize,
 ) -> Option<usize>
-    requires chained { IsChained (link_key rows.now) (length rows.now)
-        (length links.now) by_link.now.last.items by_link.now.before.items }
+    requires indexed { IsIndexed rows.now index.now (length links.now) (length points.now) }
     requires range { IsInRange rows.now links.now points.now }
     requires spent { IsSpent rows.now gain_left.now links.now points.now link_rows.old
         point_rows.now }
@@ -59,7 +58,7 @@ fn row_back(
         if row.amount > 0 && points[point] < links[link] && point_rows[point] > 0 {
             return Some(back);
         }
-        link_rows[link] = by_link.before[back];
+        link_rows[link] = index.by_link.before[back];
     }
     None
 }
@@ -68,8 +67,7 @@ fn row_back(
 /// which the path begins; or none, and the point is spent.
 pub(crate) fn find_path(
     rows: &[NeedRow],
-    by_link: &Chain,
-    by_point: &Chain,
+    index: &RowIndex,
     gain_left: &[u64],
     links: &[u32],
     points: &[u32],
@@ -78,10 +76,7 @@ pub(crate) fn find_path(
     point: usize,
     turns: &mut Vec<Turn>,
 ) -> Result<Option<usize>, NoMemory>
-    requires by_link { IsChained (link_key rows.now) (length rows.now)
-        (length links.now) by_link.now.last.items by_link.now.before.items }
-    requires by_point { IsChained (point_key rows.now) (length rows.now)
-        (length points.now) by_point.now.last.items by_point.now.before.items }
+    requires indexed { IsIndexed rows.now index.now (length links.now) (length points.now) }
     requires range { IsInRange rows.now links.now points.now }
     requires same { length gain_left.now ≡ length links.now }
     requires phase { IsPhase rows.now gain_left.now links.now points.now }
@@ -113,15 +108,15 @@ pub(crate) fn find_path(
                     return Ok(Some(forth));
                 }
                 if let Some(back) = row_back(
-                    rows, by_link, gain_left, links, points, link_rows, point_rows, link,
+                    rows, index, gain_left, links, points, link_rows, point_rows, link,
                 ) {
                     turns.push(Turn { forth, back })?;
                     at = rows[back].point as usize;
                 } else {
-                    point_rows[at] = by_point.before[forth];
+                    point_rows[at] = index.by_point.before[forth];
                 }
             } else {
-                point_rows[at] = by_point.before[forth];
+                point_rows[at] = index.by_point.before[forth];
             }
         }
     }

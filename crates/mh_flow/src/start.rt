@@ -1,15 +1,11 @@
-//! What a run begins with: rows for all needs, by link and by point, what the charges leave of the
-//! gains, and all costs.
+//! What a run begins with: rows for all needs, what the charges leave of the gains, and all costs.
 
-ghost use Rattle.std.specs.Prelude.{◌≡◌, ◌<◌, ◌+◌, ◌++◌, length, map, ℕ, All, IfOk, OnOk};
+ghost use Rattle.std.specs.Prelude.{◌≡◌, ◌<◌, ◌+◌, ◌++◌, length, map, ℕ, IfOk, OnOk};
 ghost use Rattle.mh_network.specs.Problems.{gain_of, cost_of};
 ghost use Rattle.mh_flow.specs.Carried.{number_at};
 ghost use Rattle.mh_flow.specs.Charged.{paid_of};
-ghost use Rattle.mh_flow.specs.Chains.{IsChained};
 ghost use Rattle.mh_flow.specs.Run.{needs_below};
-ghost use Rattle.mh_flow.specs.Spreads.{link_key, point_key};
 
-use crate::chain::{Chain, chain_of};
 use crate::need_row::NeedRow;
 use crate::outcome::paid;
 use mh_base::NoMemory;
@@ -41,48 +37,6 @@ fn push_needs(rows: &mut Vec<NeedRow>, link: u32, needs: &[u32]) -> Result<(), N
         })?;
     }
     Ok(())
-}
-
-/// The rows of each link.
-pub(crate) fn rows_by_link(alloc: Global, rows: &[NeedRow], count: usize) -> Result<Chain, NoMemory>
-    requires inside { All (λ r. r.link < count) rows.now }
-    ensures value { IfOk result (λ c. IsChained (link_key rows.now)
-        (length rows.now) count c.last.items c.before.items) }
-{
-    let keys = links_of(alloc, rows)?;
-    let chain = chain_of(alloc, &keys, count)?;
-    Ok(chain)
-}
-
-/// The link of each row.
-fn links_of(alloc: Global, rows: &[NeedRow]) -> Result<Vec<u32>, NoMemory>
-    ensures { IfOk result (λ keys. keys.items ≡ map (λ r. r.link) rows.now) }
-{
-    let keys: Vec<u32> = rows.iter().map(|row| row.link).collect(alloc)?;
-    Ok(keys)
-}
-
-/// The rows of each point.
-pub(crate) fn rows_by_point(
-    alloc: Global,
-    rows: &[NeedRow],
-    count: usize,
-) -> Result<Chain, NoMemory>
-    requires inside { All (λ r. r.point < count) rows.now }
-    ensures value { IfOk result (λ c. IsChained (point_key rows.now)
-        (length rows.now) count c.last.items c.before.items) }
-{
-    let keys = points_of(alloc, rows)?;
-    let chain = chain_of(alloc, &keys, count)?;
-    Ok(chain)
-}
-
-/// The point of each row.
-fn points_of(alloc: Global, rows: &[NeedRow]) -> Result<Vec<u32>, NoMemory>
-    ensures { IfOk result (λ keys. keys.items ≡ map (λ r. r.point) rows.now) }
-{
-    let keys: Vec<u32> = rows.iter().map(|row| row.point).collect(alloc)?;
-    Ok(keys)
 }
 
 /// What each link keeps of its gain once it has paid of its charge.

@@ -5,7 +5,7 @@ use Rattle.logbook.specs.Pages.{Book}
 use Rattle.mh_tree.specs.Limits.{point_bound}
 use Rattle.mh_tree.specs.Meaning.{mean}
 use Rattle.mh_site.specs.Defined.{DefinitionData, no_site, site_at}
-use Rattle.mh_site.specs.Lawful.{IsDefinition}
+use Rattle.mh_site.specs.Lawful.{IsDefinition, MayInvokeFrom}
 use Rattle.mh_site.specs.Worlds.{SiteState, no_state, opened, opening, state_at}
 use Rattle.mh_live.specs.Rules.{Stands, world_after}
 use Rattle.mh_core.specs.Standing.{AreStanding}
@@ -20,6 +20,9 @@ opened_stands d is s h =
       linked_type = ap (λ (x : SiteState). x.linked.signature) read ∙ lawful.typed;
       base_points = subst (λ (x : SiteState). point_bound x.base.tree ≤ length d.points) (sym read) lawful.known;
       linked_points = subst (λ (x : SiteState). point_bound x.linked.tree ≤ length d.points) (sym read) lawful.known;
+      low = lawful.low;
+      base_invokes = subst (λ (x : SiteState). MayInvokeFrom d.sites (site_at d s).level x.base.tree) (sym read) (is.invokes s no_site h);
+      linked_invokes = subst (λ (x : SiteState). MayInvokeFrom d.sites (site_at d s).level x.linked.tree) (sym read) (is.invokes s no_site h);
       faithful = λ typed valid a fits. ap (λ (x : SiteState). mean valid x.linked.tree a) read ∙ sym (ap (λ (x : SiteState). mean valid x.base.tree a) read);
     }
 

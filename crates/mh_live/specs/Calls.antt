@@ -6,7 +6,7 @@ use Rattle.mh_tree.specs.Meaning.{mean, steps}
 use Rattle.mh_eval.specs.Entered.{EntersPlain}
 use Rattle.mh_ledger.specs.Ledgers.{LedgerState, at, with_hit}
 use Rattle.mh_site.specs.Defined.{DefinitionData, site_at}
-use Rattle.mh_site.specs.Worlds.{state_at, environment}
+use Rattle.mh_site.specs.Worlds.{environment_of_bases, environment_of_links, linked_sites, state_at}
 use Rattle.mh_site.specs.declared.control.Control.{Control}
 use Rattle.mh_core.specs.Hits.{hits}
 use Rattle.mh_live.specs.Rules.{world_after}
@@ -20,10 +20,11 @@ pub record MayCall (d : DefinitionData) (l : LedgerState) (s : ℕ) (a : List Va
   pub fits : Fits (site_at d s).method_type a
   pub room : (j : ℕ) → hits d s a j ≡ true → at l.unflushed j < l.limit
 
--- by the world after one list of controls: what the base tree gives, the nodes of the linked tree that were entered, and how long the list is
+-- by the world after one list of controls, of which each tree that is invoked is too: what the base tree means over base trees, the nodes
+-- that were entered of the linked tree and of linked trees that it invokes, and how long the list is
 pub record AnswersBy (d : DefinitionData) (controls : List Control) (s : ℕ) (a : List Value) (answer : Answer) : Type 0 where
-  pub value : let w = world_after d controls in answer.outcome ≡ mean (environment w) (state_at w s).base.tree a
-  pub entered : let w = world_after d controls in answer.steps ≡ steps (environment w) (state_at w s).linked.tree a
+  pub value : let w = world_after d controls in answer.outcome ≡ mean (environment_of_bases w) (state_at w s).base.tree a
+  pub entered : let w = world_after d controls in answer.steps ≡ steps (environment_of_links w) (state_at w s).linked.tree a
   pub count : answer.front ≡ length controls
 
 -- the link that is hit has one more hit, and no other
@@ -45,6 +46,6 @@ IsUntried NotEntered = ⊥
 IsUntried NoMemory = ⊥
 IsUntried _ = Unit {0}
 
--- by the world after these controls the linked tree enters no node that has String in its type, so that it takes no memory
+-- by the world after these controls no node is entered, of invoked trees too, that has String in its type, so that no memory is taken
 abbrev pub TakesNoMemory : DefinitionData → List Control → ℕ → List Value → Type 0
-TakesNoMemory d controls s a = let w = world_after d controls in EntersPlain (environment w) (state_at w s).linked.tree a
+TakesNoMemory d controls s a = let w = world_after d controls in EntersPlain (linked_sites w) (state_at w s).linked.tree a

@@ -12,7 +12,7 @@ use Rattle.mh_core.specs.Replayed.{controls}
 use Rattle.mh_core.specs.Rows.{tests}
 use Rattle.mh_base.specs.Tests.{Passes, Refuses}
 use Rattle.mh_core.specs.declared.record.Record.{Record}
-use Rattle.mh_core.specs.declared.record.Record.TheVariants.{Flushed}
+use Rattle.mh_core.specs.declared.record.Record.TheVariants.{Flushed, Installed, Invalidated, Published, Snapped, Targeted}
 use Rattle.mh_core.specs.declared.refusal.Refusal.{Refusal}
 use Rattle.mh_core.specs.declared.refusal.Refusal.TheVariants.{NoMemory, NoSnapshot}
 use Rattle.mh_live.specs.Offices.{AreTotalsOf, OfficeState, ReceiptState, list_of}
@@ -48,7 +48,17 @@ IsLegalFault b l (Refused told) = Holds b.totals l × IsLegalRefusal b (Flushed 
 abbrev pub IsUntouched : OfficeState → OfficeState → Type 0
 IsUntouched o new = SameBook o.book new.book × (new.published ≡ o.published)
 
--- a record that passed its tests, and that the book has memory for, is not published, for want of memory: what was closed stays so
+-- a record that changes the world, by a control
+abbrev pub ChangesWorld : Record → Type 0
+ChangesWorld (Flushed w hits) = ⊥
+ChangesWorld (Targeted s tree) = Unit {0}
+ChangesWorld (Invalidated points) = Unit {0}
+ChangesWorld Snapped = ⊥
+ChangesWorld (Published n plan) = ⊥
+ChangesWorld (Installed m) = Unit {0}
+
+-- A record that passed its tests, and for which there was all memory that the book and the change take, is not published: left_right
+-- refused it, or the office was closed. What was closed stays so
 pub record HasHalted (o : OfficeState) (e : Record) (told : Refusal) (new : OfficeState) : Type 0 where
   pub want : told ≡ NoMemory
   pub passes : Passes (tests o.book.definition o.book.limits (length o.book.records) o.book.records e)

@@ -9,7 +9,7 @@ use thiserror::Error;
 /// `NoMemory` comes last. A refused call counts no hit.
 #[derive(Clone, Copy, Debug, PartialEq, Eq, Error)]
 pub enum CallFault {
-    /// A growth or a further owner of a text was refused.
+    /// Out of memory: an allocation or a reference count was refused.
     #[error("1 NoMemory")]
     NoMemory,
     /// A site that is not there.

@@ -62,8 +62,10 @@ impl<N: Name> Live<N> {
     /// Gives a site another tree (`MutableCallSite.setTarget`). The receipt's list ends with that
     /// control: a pass that learns the receipt sees it.
     ///
-    /// Refused with `NoSite`, with `WrongType` where the tree is of another type than the site,
-    /// with `NoPoint` where it names a point past the last, with `HistoryFull`, and then with
+    /// Refused with `NoSite`, also where the tree invokes a site past the last; with `WrongType`
+    /// where the tree is of another type than the site, or invokes a site with another type than
+    /// that site's; with `NoPoint` where it names a point past the last; with `WrongLevel` where it
+    /// invokes a site whose level is not below the site's; with `HistoryFull`, and then with
     /// `NoMemory`; nothing is recorded and passes read what they read before. Where memory ran out
     /// half way, each later control is refused so.
     pub fn set_target<R: Wait>(

@@ -2,11 +2,11 @@
 
 ghost use Rattle.std.specs.Prelude.{◌≡◌, ◌⊎◌, ◌+◌, ◌<◌, ◌++◌, ◌∷◌, ◌^◌, [], ℕ, List, false, true, drop, fold, length, slice_set, IfErr, IfOk, MatchBool, MatchResult, OnErr, OnOk};
 ghost use Rattle.mh_ledger.specs.Ledgers.{AreHeld, Holds, IsTotals, LedgerState, settled};
-ghost use Rattle.mh_core.specs.Pending.{IsReady};
+ghost use Rattle.mh_core.specs.Pending.{IsReady, control_of};
 ghost use Rattle.mh_core.specs.Records.{hits_in};
 ghost use Rattle.mh_core.specs.declared.record.Record.TheVariants.{Flushed, Installed, Invalidated, Published, Snapped, Targeted};
 ghost use Rattle.mh_live.specs.Offices.{list_of};
-ghost use Rattle.mh_live.specs.Receipts.{Accepts, IsLegalFault, IsLegalRefusal, IsOffice, IsUntouched, MayClose};
+ghost use Rattle.mh_live.specs.Receipts.{Accepts, ChangesWorld, IsLegalFault, IsLegalRefusal, IsOffice, IsUntouched, MayClose};
 ghost use Rattle.mh_live.specs.Rules.{Stands};
 
 use crate::flush_fault::FlushFault;
@@ -207,9 +207,7 @@ impl<N: Name> Office<N> {
         ensures closed { IfErr result (λ told. MayClose self.old (Targeted site tree) told
             self.new) }
     {
-        self.book.kept();
-        let change = self.book.prepare(0, Record::Targeted { site, tree })?;
-        self.accept(rt, change)
+        self.change(rt, Record::Targeted { site, tree })
     }
 
     /// Invalidates points (`SwitchPoint.invalidateAll`), by one publication.
@@ -230,9 +228,7 @@ impl<N: Name> Office<N> {
         ensures closed { IfErr result (λ told. MayClose self.old (Invalidated points) told
             self.new) }
     {
-        self.book.kept();
-        let change = self.book.prepare(0, Record::Invalidated { points })?;
-        self.accept(rt, change)
+        self.change(rt, Record::Invalidated { points })
     }
 
     /// Installs the newest plan, by one publication, and answers what became of the sites.
@@ -249,16 +245,32 @@ impl<N: Name> Office<N> {
         ensures closed { IfErr result (λ told. MayClose self.old (Installed plan) told
             self.new) }
     {
+        self.change(rt, Record::Installed { plan })
+    }
+
+    // Takes in a change of the world, by one publication.
+    fn change<R: Wait>(&mut self, rt: &R, entry: Record) -> Result<Receipt<N>, Refusal>
+        requires world { ChangesWorld entry }
+        ensures office { IsOffice N.definition N.limits N.workers self.old }
+        ensures accepted { IfOk result (λ r. Accepts self.old entry r self.new) }
+        ensures open { OnOk result (self.old.closed ≡ false) }
+        ensures totals { self.new.book.totals ≡ self.old.book.totals }
+        ensures refused { IfErr result (IsLegalRefusal self.old.book entry) }
+        ensures kept { OnErr result (IsUntouched self.old self.new) }
+        ensures closed { IfErr result (λ told. MayClose self.old entry told self.new) }
+    {
         self.book.kept();
-        let change = self.book.prepare(0, Record::Installed { plan })?;
+        let change = self.book.prepare(0, entry)?;
         self.accept(rt, change)
     }
 
-    // Publishes what a prepared change of the world changes, and then commits it. What is refused
-    // after the control is pending closes the office.
-    fn accept<R: Wait>(&mut self, rt: &R, change: PendingChange) -> Result<Receipt<N>, Refusal>
+    // Publishes what a prepared change of the world changes, and then commits it. Where left_right
+    // refuses the publication of a control that it has taken, the office closes.
+    fn accept<R: Wait>(&mut self, rt: &R, mut change: PendingChange) -> Result<Receipt<N>, Refusal>
         requires ready { IsReady self.old.book change }
         requires calls { change.calls ≡ 0 }
+        requires world { ChangesWorld change.entry }
+        requires published { change.published ≡ control_of change.effect }
         ensures accepted { IfOk result (λ r. Accepts self.old change.entry r self.new) }
         ensures open { OnOk result (self.old.closed ≡ false) }
         ensures totals { self.new.book.totals ≡ self.old.book.totals }
@@ -270,8 +282,8 @@ impl<N: Name> Office<N> {
         if self.closed {
             return Err(Refusal::NoMemory);
         }
-        let Ok(Some(control)) = change.control() else {
-            return Err(Refusal::NoMemory);
+        let Some(control) = change.take_control() else {
+            unreachable!()
         };
         match show(rt, &mut self.writer, &self.head, &self.front, control) {
             Ok(front) => {

@@ -10,7 +10,7 @@ use thiserror::Error;
 /// Why an office was not opened.
 #[derive(Clone, Copy, Debug, PartialEq, Eq, Error)]
 pub enum OpenFault {
-    /// A growth was refused, or a further owner of a tree.
+    /// Out of memory: an allocation or a reference count was refused.
     #[error("1 NoMemory")]
     NoMemory,
     /// No more readers of the published world can be made.

@@ -77,7 +77,7 @@ impl fmt::Debug for Opening {
 
 impl Opening {
     /// What the office of a definition and the passes of so many workers, 1 to 64, are made of.
-    /// Refused where a growth was refused, or a further owner of a tree.
+    /// Fails only if an allocation or a reference count is refused.
     pub fn new(
         alloc: Global,
         definition: &Definition,

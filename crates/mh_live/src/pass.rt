@@ -7,7 +7,7 @@ ghost use Rattle.mh_tree.specs.Meaning.{mean, steps};
 ghost use Rattle.mh_ledger.specs.Ledgers.{at, made, with_hit};
 ghost use Rattle.mh_site.specs.Defined.{site_at};
 ghost use Rattle.mh_site.specs.Links.{links};
-ghost use Rattle.mh_site.specs.Worlds.{state_at, environment};
+ghost use Rattle.mh_site.specs.Worlds.{environment_of_bases, environment_of_links, state_at};
 ghost use Rattle.mh_core.specs.Hits.{hits};
 ghost use Rattle.mh_live.specs.Calls.{MayCall, AnswersBy, Counts, RefusesCall, IsUntried, TakesNoMemory};
 ghost use Rattle.mh_live.specs.Rules.{Stands, world_after};
@@ -19,7 +19,7 @@ use crate::receipt::Receipt;
 use crate::rule::{Sees, WorldReader};
 use core::mem::replace_with;
 use mh_core::hit_link;
-use mh_eval::{NoMemory, Stack, fits, run};
+use mh_eval::{Here, NoMemory, Stack, fits, run};
 use mh_ledger::Ledger;
 use mh_site::Definition;
 use mh_type::{Outcome, Value};
@@ -68,7 +68,7 @@ pub struct Answer {
     /// A value, or a throw.
     pub outcome: Outcome,
     /// The number of nodes that were entered.
-    pub steps: u64,
+    pub steps: u128,
     /// The number of controls of the list by whose world it was answered.
     pub front: u64,
 }
@@ -85,19 +85,19 @@ struct Request<'a> {
 #[derive(Drop)]
 struct Visited<N: Name> {
     front: Front<N>,
-    given: Result<(Outcome, u64), NoMemory>,
+    given: Result<(Outcome, u128), NoMemory>,
 }
 
 // What a site gives by a published world, of which its linked tree runs.
-fn evaluate<N: Name>(request: Request<'_>, entered: &Published) -> Result<(Outcome, u64), NoMemory>
+fn evaluate<N: Name>(request: Request<'_>, entered: &Published) -> Result<(Outcome, u128), NoMemory>
     requires stands { Stands N.book N.definition entered.now }
     requires inside { request.site < length N.definition.sites }
     requires fits { Fits (site_at N.definition request.site).method_type request.arguments.now }
     ensures outcome { IfOk result (λ r. let w = world_after N.definition entered.now.past.log in
-        r.0 ≡ mean (environment w) (state_at w request.entry.site).base.tree
+        r.0 ≡ mean (environment_of_bases w) (state_at w request.entry.site).base.tree
         request.entry.arguments.now) }
     ensures steps { IfOk result (λ r. let w = world_after N.definition entered.now.past.log in
-        r.1 ≡ steps (environment w) (state_at w request.entry.site).linked.tree
+        r.1 ≡ steps (environment_of_links w) (state_at w request.entry.site).linked.tree
         request.entry.arguments.now) }
     ensures memory { TakesNoMemory N.definition entered.now.past.log request.entry.site
         request.entry.arguments.now → IsOk result }
@@ -108,9 +108,11 @@ fn evaluate<N: Name>(request: Request<'_>, entered: &Published) -> Result<(Outco
         arguments,
     } = request;
     let world = &entered.world;
-    // Read for what a tree keeps.
-    let _type = world.base(site).handle().method_type();
-    run(stack, world.valid(), world.prepared(site), arguments)
+    let here = Here {
+        valid: world.valid(),
+        targets: world.prepared_all(),
+    };
+    run(stack, &here, world.prepared(site), arguments)
 }
 
 // Enters once, evaluates by the one world that is found there, and leaves. None where the world
@@ -123,11 +125,11 @@ fn visit<N: Name>(
     requires fits { Fits (site_at N.definition request.site).method_type request.arguments.now }
     ensures outcome { IfSome result.1
         (λ v. IfOk v.given (λ r. let w = world_after N.definition v.front in
-        r.0 ≡ mean (environment w) (state_at w request.entry.site).base.tree
+        r.0 ≡ mean (environment_of_bases w) (state_at w request.entry.site).base.tree
         request.entry.arguments.now)) }
     ensures steps { IfSome result.1
         (λ v. IfOk v.given (λ r. let w = world_after N.definition v.front in
-        r.1 ≡ steps (environment w) (state_at w request.entry.site).linked.tree
+        r.1 ≡ steps (environment_of_links w) (state_at w request.entry.site).linked.tree
         request.entry.arguments.now)) }
     ensures memory { IfSome result.1
         (λ v. TakesNoMemory N.definition v.front request.entry.site request.entry.arguments.now
@@ -261,8 +263,9 @@ impl<N: Name> Pass<N> {
     /// Calls a site (`MutableCallSite.dynamicInvoker`), without a lock and with no wait.
     ///
     /// It is answered by one world, the one after a single list of controls that begins with all
-    /// that this pass has seen or learnt: the outcome is that of the site's base tree, and the
-    /// steps are those of its linked tree. Where the argument at the site's key place is the key of
+    /// that this pass has seen or learnt, and so are the sites that its trees invoke: the outcome
+    /// is what the site's base tree means over the base trees, and the steps are those of its
+    /// linked tree over the linked trees. Where the argument at the site's key place is the key of
     /// one of its links, the ledger counts a hit of that link.
     ///
     /// Refused with `NoSite`, with `WrongType` where the arguments do not fit the site's type, with
@@ -294,13 +297,13 @@ impl<N: Name> Pass<N> {
     }
 
     // What the site gives by one world that is not behind what was seen.
-    fn enter(&mut self, site: usize, arguments: &[Value]) -> Result<(Outcome, u64), CallFault>
+    fn enter(&mut self, site: usize, arguments: &[Value]) -> Result<(Outcome, u128), CallFault>
         requires inside { site < length N.definition.sites }
         requires fits { Fits (site_at N.definition site).method_type arguments.now }
         ensures outcome { IfOk result (λ r. let w = world_after N.definition self.new.seen in
-            r.0 ≡ mean (environment w) (state_at w site).base.tree arguments.now) }
+            r.0 ≡ mean (environment_of_bases w) (state_at w site).base.tree arguments.now) }
         ensures steps { IfOk result (λ r. let w = world_after N.definition self.new.seen in
-            r.1 ≡ steps (environment w) (state_at w site).linked.tree arguments.now) }
+            r.1 ≡ steps (environment_of_links w) (state_at w site).linked.tree arguments.now) }
         ensures seen { IsPrefix self.old.seen self.new.seen }
         ensures ledger { self.new.ledger ≡ self.old.ledger }
         ensures told { IfErr result (λ told. (told ≡ CallFault.NotEntered)

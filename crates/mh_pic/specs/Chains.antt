@@ -14,6 +14,8 @@ use Rattle.mh_pic.specs.Keys.{key_test}
 use Rattle.mh_pic.specs.Specialised.{specialised}
 use Rattle.mh_pic.specs.Limits.{most_needs, most_entries}
 use Rattle.mh_tree.specs.Environment.{Environment}
+use Rattle.mh_tree.specs.Handle.{TypedTree}
+use Rattle.mh_tree.specs.Sites.{target_at}
 
 -- a key, and the points that its tree needs, ascending
 pub record PlainEntry : Type 0 where
@@ -31,10 +33,14 @@ chain kinds base [] = base
 chain kinds base (e ∷ rest) =
     guard (key_test kinds e.key) (points e.needs (specialised e.needs kinds e.key base) base) (chain kinds base rest)
 
--- the tree has the other's type, and gives what the other gives, whichever points are valid
+-- the tree has the other's type, and gives what the other gives, whichever points are valid and whatever sites give
 pub record IsFaithful (tree base : Tree) (m : Signature) : Type 0 where
   pub typed : IsTyped tree m
   pub same : (v : Environment) (a : List Value) → Fits m a → mean v tree a ≡ mean v base a
+
+-- each tree stands in the place of a base, and is faithful to it
+abbrev pub AreFaithful : List TypedTree → List TypedTree → Type 0
+AreFaithful trees bases = (s : ℕ) → s < length bases → IsFaithful (target_at trees s).tree (target_at bases s).tree (target_at bases s).signature
 
 -- the keys are of one kind
 abbrev pub HaveKind : Kind → List PlainEntry → Type 0

@@ -1,9 +1,11 @@
 -- Laws of the definitions, for the proofs of crates above. Each is proved: nothing here is to be believed.
 pub mod Bounds
 pub mod Chains
+pub mod Invocations
 pub mod Kept
 pub mod KeyTests
 pub mod SpecialisedTrees
 pub mod StrippedTrees
 pub use Rattle.mh_pic.specs.Laws.Bounds.{chain_bound}
 pub use Rattle.mh_pic.specs.Laws.Chains.{chain_faithful}
+pub use Rattle.mh_pic.specs.Laws.Invocations.{chain_invokes, chain_sites, faithful_means, specialised_invokes}

@@ -12,7 +12,7 @@ use Rattle.mh_type.specs.declared.value.Value.{Value}
 use Rattle.mh_type.specs.Fits.{Fits}
 use Rattle.mh_type.specs.Signature.{Signature}
 use Rattle.mh_tree.specs.Meaning.{argument, is_valid, mean, steps}
-use Rattle.mh_tree.specs.Tree.{Tree, Filters, constant, identity, operation, insert, discard, permute, filter, filter_return, fold, guard, point, no_more, absent, present}
+use Rattle.mh_tree.specs.Tree.{Tree, Filters, constant, identity, operation, insert, discard, permute, filter, filter_return, fold, guard, point, invoke, no_more, absent, present}
 use Rattle.mh_tree.specs.Typing.{IsTyped}
 use Rattle.mh_pic.specs.Keys.{key_in, decided}
 use Rattle.mh_tree.specs.Environment.{Environment}
@@ -39,6 +39,7 @@ abbrev mutual
   stripped needs (fold t c) = fold (stripped needs t) (stripped needs c)
   stripped needs (guard c x y) = guard (stripped needs c) (stripped needs x) (stripped needs y)
   stripped needs (point p x y) = if is_needed needs p then stripped needs x else point p (stripped needs x) (stripped needs y)
+  stripped needs (invoke s n) = invoke s n
 
   pub stripped_filters : List ℕ → Filters → Filters
   stripped_filters needs no_more = no_more
@@ -73,6 +74,7 @@ abbrev mutual
   NamesNone needs (fold t c) = NamesNone needs t × NamesNone needs c
   NamesNone needs (guard c x y) = NamesNone needs c × NamesNone needs x × NamesNone needs y
   NamesNone needs (point p x y) = (is_needed needs p ≡ false) × NamesNone needs x × NamesNone needs y
+  NamesNone needs (invoke s n) = Unit {0}
 
   pub NameNone : List ℕ → Filters → Type 0
   NameNone needs no_more = Unit {0}

@@ -16,10 +16,13 @@ ghost use Rattle.mh_tree.specs.Typing.{IsTyped, kind_at};
 ghost use Rattle.mh_type.specs.Values.{same_value};
 ghost use Rattle.mh_pic.specs.Keys.{key_test, key_in};
 ghost use Rattle.mh_pic.specs.Specialised.{AreValid, NamesNone, specialised};
-ghost use Rattle.mh_pic.specs.Chains.{PlainEntry, IsFaithful, HaveKind, HaveFewNeeds, HaveNeedsBelow, chain};
+ghost use Rattle.mh_pic.specs.Chains.{PlainEntry, IsFaithful, AreFaithful, HaveKind, HaveFewNeeds, HaveNeedsBelow, chain};
 ghost use Rattle.mh_type.specs.Limits.{most_parameters};
 ghost use Rattle.mh_pic.specs.Limits.{most_entries, deepest_chain, most_chain_nodes};
 ghost use Rattle.mh_tree.specs.Environment.{Environment};
+ghost use Rattle.mh_tree.specs.Handle.{TypedTree};
+ghost use Rattle.mh_tree.specs.Sites.{InvokesBelow, IsLawful, with_sites};
+ghost use Rattle.mh_type.specs.Fits.{Fits};
 
 /// A key test answers whether the argument at the key place is its key, where it is of the key's
 /// kind; and `key_in` gives the key of each key test, and none of any other tree.
@@ -60,8 +63,9 @@ pub fn specialised_trees_agree()
 {}
 
 /// A chain has the type of its base, and gives what its base gives, whichever points are valid. It
-/// names points of its base and of its needs alone. With at most 4 entries of at most 8 needs, over
-/// a declared tree, it is at most 76 deep and has at most 151,600 nodes.
+/// names points of its base and of its needs alone, and invokes what its base invokes. With at most
+/// 4 entries of at most 8 needs, over a declared tree, it is at most 76 deep and has at most 151,600
+/// nodes.
 pub fn chains_are_faithful()
     ensures faithful { (m : Signature) → (q : ℕ) → q < length m.parameters
         → length m.parameters ≤ most_parameters → (base : Tree) → IsTyped base m
@@ -76,4 +80,16 @@ pub fn chains_are_faithful()
     ensures bound { (kinds : List Kind) → (base : Tree) → (entries : List PlainEntry) → (n : ℕ)
         → HaveNeedsBelow n entries → point_bound base ≤ n
         → point_bound (chain kinds base entries) ≤ n }
+    ensures invokes { (kinds : List Kind) → (base : Tree) → (entries : List PlainEntry)
+        → (levels : List ℕ) → (targets : List TypedTree) → (l : ℕ)
+        → InvokesBelow levels targets l base
+        → InvokesBelow levels targets l (chain kinds base entries) }
+{}
+
+/// With faithful trees in the place of the sites' bases, every lawful tree keeps its meaning.
+pub fn faithful_trees_keep_meaning()
+    ensures same { (valid : List Bool) → (levels : List ℕ) → (trees : List TypedTree)
+        → (bases : List TypedTree) → AreFaithful trees bases → (t : Tree) → (m : Signature)
+        → IsTyped t m → IsLawful levels bases t → (a : List Value) → Fits m a
+        → mean (with_sites valid trees) t a ≡ mean (with_sites valid bases) t a }
 {}

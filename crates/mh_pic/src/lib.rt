@@ -21,7 +21,10 @@ mod stripping;
 
 pub use chaining::chain;
 pub use entry::{Entry, MOST_ENTRIES, MOST_NEEDS, may_chain};
-pub use laws::{chains_are_faithful, key_tests_ask_for_keys, specialised_trees_agree};
+pub use laws::{
+    chains_are_faithful, faithful_trees_keep_meaning, key_tests_ask_for_keys,
+    specialised_trees_agree,
+};
 pub use mh_base::NoMemory;
 pub use prepared_chaining::prepared_chain;
 pub use specialising::specialise;

@@ -102,7 +102,8 @@ fn specialise_node(
         | Node::Permute { .. }
         | Node::Filter { .. }
         | Node::FilterReturn { .. }
-        | Node::Fold { .. } => strip(alloc, node, needs),
+        | Node::Fold { .. }
+        | Node::Invoke { .. } => strip(alloc, node, needs),
     }
 }
 

@@ -24,7 +24,9 @@ pub fn strip(alloc: Global, node: &Node, needs: &[u32]) -> Result<Option<Arc<Nod
     ensures refused { IfErr result (λ e. e ≡ TreeFault.NoMemory) }
 {
     match node {
-        Node::Constant(_) | Node::Identity(_) | Node::Operation(_) => Ok(None),
+        Node::Constant(_) | Node::Identity(_) | Node::Operation(_) | Node::Invoke { .. } => Ok(
+            None,
+        ),
         Node::Insert {
             target,
             position,

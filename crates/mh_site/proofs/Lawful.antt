@@ -1,10 +1,10 @@
 -- What the rules of a definition leave.
 use Rattle.std.proofs.Common.{◌≡◌, ◌≢◌, ◌≤◌, ◌<◌, ℕ, true, List, [], ◌∷◌, length, map, take, refl, ◌∙◌, subst, sym, ap, arith, slice_index_or}
 use Rattle.std.specs.List.{All, AllPairs, list_any}
-use Rattle.std.proofs.lemmas.List.{length-map, get_or_default}
+use Rattle.std.proofs.lemmas.List.{length-map, get_or-map, get_or_default}
 use Rattle.std.proofs.lemmas.List.Elements.{All-map}
 use Rattle.mh_base.specs.Tests.{Tests, Passes}
-use Rattle.mh_tree.specs.Limits.{point_bound}
+use Rattle.mh_tree.specs.Limits.{greatest_level, point_bound}
 use Rattle.mh_site.specs.declared.point.Point.{Point}
 use Rattle.mh_site.specs.declared.link.Link.{Link}
 use Rattle.mh_site.specs.declared.site.Site.{Site}
@@ -17,7 +17,10 @@ use Rattle.mh_site.specs.Defined.{no_point, no_site}
 use Rattle.mh_site.specs.Limits.{most_points, most_sites, most_links, most_needs, greatest_charge, greatest_cost, greatest_weight}
 use Rattle.mh_site.specs.Definitions.{all_differ, same_key, link_in_order, site_in_order}
 use Rattle.mh_site.specs.Rules.{HasPlace, point_rules, site_rules, rules_at_point, rules_at_site, definition_rules}
-use Rattle.mh_site.specs.Lawful.{HasKey, IsLink, IsSite, IsPoint, AreDistinct, IsDefinition}
+use Rattle.mh_type.specs.Signature.{Signature}
+use Rattle.mh_tree.specs.Laws.{each_map}
+use Rattle.mh_site.specs.Invoking.{InvokesLower, InvokesOfType, IsLower, IsOfType}
+use Rattle.mh_site.specs.Lawful.{HasKey, IsLink, IsSite, IsPoint, AreDistinct, MayInvokeFrom, IsDefinition}
 use Rattle.mh_site.proofs.Listed.{each_fact}
 use Rattle.mh_site.proofs.Naming.{distinct}
 use Rattle.mh_site.proofs.Rules.{known_decide, keys_decide, needs_decide}
@@ -50,7 +53,7 @@ keys_kept [] = refl
 keys_kept (l ∷ ls) = rw (others_keys l ls, keys_kept ls) refl
 
 -- ---- sites
-record SiteTested (n : ℕ) (earlier : List Site) (s : Site) : Type 0 where
+record SiteTested (n : ℕ) (sites earlier : List Site) (s : Site) : Type 0 where
   pub few_links : length s.links ≤ most_links
   pub few_needs : All (λ l. length l.needs ≤ most_needs) s.links
   pub named : is_name s.name ≡ true
@@ -63,11 +66,14 @@ record SiteTested (n : ℕ) (earlier : List Site) (s : Site) : Type 0 where
   pub known_target : point_bound s.target.tree ≤ n
   pub once : All (λ l. AllPairs (λ p q. p ≢ q) l.needs) s.links
   pub typed : s.target.signature ≡ s.method_type
+  pub low : s.level ≤ greatest_level
+  pub of_type : InvokesOfType sites s.target.tree
+  pub lower : InvokesLower sites s.level s.target.tree
   pub cheap : All (λ l. l.charge ≤ greatest_charge) s.links
 
-site_read : (n : ℕ) (earlier : List Site) (s : Site) (later : Tests DefinitionFault) → Passes (site_rules n earlier s later)
-    → SiteTested n earlier s × Passes later
-site_read n earlier s later h = (
+site_read : (n : ℕ) (sites earlier : List Site) (s : Site) (later : Tests DefinitionFault) → Passes (site_rules n sites earlier s later)
+    → SiteTested n sites earlier s × Passes later
+site_read n sites earlier s later h = (
   record {
     few_links = h.0;
     few_needs = h.1.0;
@@ -81,12 +87,15 @@ site_read n earlier s later h = (
     known_target = h.1.1.1.1.1.1.1.1.0.1;
     once = h.1.1.1.1.1.1.1.1.1.0;
     typed = h.1.1.1.1.1.1.1.1.1.1.0;
-    cheap = h.1.1.1.1.1.1.1.1.1.1.1.0;
+    low = h.1.1.1.1.1.1.1.1.1.1.1.0;
+    of_type = h.1.1.1.1.1.1.1.1.1.1.1.1.1.0;
+    lower = h.1.1.1.1.1.1.1.1.1.1.1.1.1.1.0;
+    cheap = h.1.1.1.1.1.1.1.1.1.1.1.1.1.1.1.0;
   },
-  h.1.1.1.1.1.1.1.1.1.1.1.1,
+  h.1.1.1.1.1.1.1.1.1.1.1.1.1.1.1.1,
 )
 
-module _ (n : ℕ) (earlier : List Site) (s : Site) (t : SiteTested n earlier s) where
+module _ (n : ℕ) (sites earlier : List Site) (s : Site) (t : SiteTested n sites earlier s) where
   has_key : (l : Link) → HasKey s l → HasKey (site_in_order s) (link_in_order l)
   has_key l h = record { place = h.place; is = h.is; inside = h.inside; kind = h.kind }
 
@@ -115,6 +124,7 @@ module _ (n : ℕ) (earlier : List Site) (s : Site) (t : SiteTested n earlier s)
         keys = keys_kept s.links ∙ (keys_decide s.links).1 t.keys;
         known = t.known_target;
         typed = t.typed;
+        low = t.low;
       }
 
 abbrev site_names : List Site → List (List ℕ)
@@ -125,10 +135,32 @@ names_kept : (ss : List Site) → site_names (map site_in_order ss) ≡ site_nam
 names_kept [] = refl
 names_kept (s ∷ ss) = ap (λ ns. s.name ∷ ns) (names_kept ss)
 
-module _ (n : ℕ) (ss : List Site) (tested : (i : ℕ) → i < length ss → SiteTested n (take i ss) (slice_index_or ss i no_site)) where
+module _ (n : ℕ) (ss : List Site) (tested : (i : ℕ) → i < length ss → SiteTested n ss (take i ss) (slice_index_or ss i no_site)) where
   lawful_sites : All (IsSite n) (map site_in_order ss)
   lawful_sites = All-map (IsSite n) site_in_order ss (λ i d lt. subst (λ s. IsSite n (site_in_order s)) (get_or_default ss i no_site d lt)
-      (lawful_site n (take i ss) (slice_index_or ss i no_site) (tested i lt)))
+      (lawful_site n ss (take i ss) (slice_index_or ss i no_site) (tested i lt)))
+
+  -- sites in order are of the types and the levels of the given ones
+  in_order : (k : ℕ) → k < length ss → slice_index_or (map site_in_order ss) k no_site ≡ site_in_order (slice_index_or ss k no_site)
+  in_order k lt = get_or-map site_in_order ss k no_site no_site lt
+
+  keeps_types : (k : ℕ) (m : Signature) → IsOfType ss k m → IsOfType (map site_in_order ss) k m
+  keeps_types k m h = record { known = simp length-map (h.known); same = h.same ∙ sym (ap (λ (s : Site). s.method_type) (in_order k h.known)) }
+
+  keeps_levels : (l k : ℕ) (m : Signature) → IsLower ss l k m → IsLower (map site_in_order ss) l k m
+  keeps_levels l k m h = record { known = simp length-map (h.known); lower = subst (λ (s : Site). s.level < l) (sym (in_order k h.known)) h.lower }
+
+  lawful_invokes : All (λ s. MayInvokeFrom (map site_in_order ss) s.level s.target.tree) (map site_in_order ss)
+  lawful_invokes =
+      let Holds : Site → Type 0 = λ s. MayInvokeFrom (map site_in_order ss) s.level s.target.tree in
+      All-map Holds site_in_order ss (λ i d lt.
+      let s = slice_index_or ss i no_site in
+      let t = tested i lt in
+      subst (λ s. Holds (site_in_order s)) (get_or_default ss i no_site d lt)
+      record {
+        types = each_map (IsOfType ss) (IsOfType (map site_in_order ss)) keeps_types s.target.tree t.of_type;
+        levels = each_map (IsLower ss s.level) (IsLower (map site_in_order ss) s.level) (keeps_levels s.level) s.target.tree t.lower;
+      })
 
   distinct_sites : AreDistinct (site_names (map site_in_order ss))
   distinct_sites = subst AreDistinct (sym (names_kept ss)) (distinct (λ s. s.name) ss no_site (λ i lt. (tested i lt).new))
@@ -152,8 +184,8 @@ lawful version ps ss h =
     each_fact (rules_at_point ps) (λ i. PointTested (take i ps) (slice_index_or ps i no_point))
     (λ i. point_read (take i ps) (slice_index_or ps i no_point)) 0 n _ h.1.1 in
     let sites =
-    each_fact (rules_at_site n ss) (λ i. SiteTested n (take i ss) (slice_index_or ss i no_site))
-    (λ i. site_read n (take i ss) (slice_index_or ss i no_site)) 0 (length ss) _ points.1 in
+    each_fact (rules_at_site n ss) (λ i. SiteTested n ss (take i ss) (slice_index_or ss i no_site))
+    (λ i. site_read n ss (take i ss) (slice_index_or ss i no_site)) 0 (length ss) _ points.1 in
     record {
       few_points = omega (arith, few_points, points-newest version);
       few_sites = simp length-map few_sites;
@@ -161,4 +193,5 @@ lawful version ps ss h =
       site_names = distinct_sites n ss (λ i lt. sites.0 i (omega arith) (omega arith));
       points = lawful_points ps (λ i lt. points.0 i (omega arith) (omega arith));
       sites = lawful_sites n ss (λ i lt. sites.0 i (omega arith) (omega arith));
+      invokes = lawful_invokes n ss (λ i lt. sites.0 i (omega arith) (omega arith));
     }

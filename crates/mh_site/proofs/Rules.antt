@@ -11,8 +11,12 @@ use Rattle.mh_type.specs.declared.kind.Kind.{Kind}
 use Rattle.mh_type.specs.declared.value.Value.{Value}
 use Rattle.mh_type.specs.Kinds.{kind_of, kind_eq}
 use Rattle.mh_type.specs.Laws.{signature_eq_decides, kind_eq_decides, values_decide}
+use Rattle.mh_type.specs.Signature.{Signature, signature_eq}
+use Rattle.mh_tree.specs.Laws.{each_decides as invocations_decide}
+use Rattle.mh_tree.specs.Tree.{Tree}
+use Rattle.mh_site.specs.Invoking.{InvokesLower, InvokesOfType, IsLower, IsOfType, invokes_known, invokes_lower, invokes_of_type, is_lower, is_of_type}
 use Rattle.mh_base.specs.Tests.{Tests, Passes, Refuses, no_more, only}
-use Rattle.mh_tree.specs.Limits.{point_bound}
+use Rattle.mh_tree.specs.Limits.{greatest_level, point_bound, site_bound}
 use Rattle.mh_tree.specs.Typing.{kind_at}
 use Rattle.mh_site.specs.declared.point.Point.{Point}
 use Rattle.mh_site.specs.declared.link.Link.{Link}
@@ -131,6 +135,31 @@ new_decides : {X : Type 0} (name : X → List ℕ) (n : List ℕ) (xs : List X)
 new_decides name n xs =
     none_decides (λ x. bytes_eq n (name x)) (λ x. n ≢ name x) (λ x. Decides-not (bytes_eq n (name x)) (bytes_eq-Decides n (name x))) xs
 
+-- the tests of one invocation
+of_type_decides : (sites : List Site) (k : ℕ) (n : Signature) → Decides (is_of_type sites k n) (IsOfType sites k n)
+of_type_decides sites k n =
+    let m = (slice_index_or sites k no_site).method_type in
+    Decides-like (nat_lt k (length sites) && signature_eq n m)
+    (λ (both : (k < length sites) × (n ≡ m)). record { known = both.0; same = both.1 }) (λ h. (h.known, h.same))
+    (Decides-and (nat_lt k (length sites)) (signature_eq n m) (Decides-ltb k (length sites)) (signature_eq_decides n m))
+
+lower_decides : (sites : List Site) (l k : ℕ) (n : Signature) → Decides (is_lower sites l k) (IsLower sites l k n)
+lower_decides sites l k n =
+    let m = (slice_index_or sites k no_site).level in
+    Decides-like (nat_lt k (length sites) && nat_lt m l)
+    (λ (both : (k < length sites) × (m < l)). record { known = both.0; lower = both.1 }) (λ h. (h.known, h.lower))
+    (Decides-and (nat_lt k (length sites)) (nat_lt m l) (Decides-ltb k (length sites)) (Decides-ltb m l))
+
+-- the tests of a tree
+pub known_decides : (sites : List Site) (t : Tree) → Decides (invokes_known sites t) (site_bound t ≤ length sites)
+known_decides sites t = at_most (site_bound t) (length sites)
+
+pub types_decide : (sites : List Site) (t : Tree) → Decides (invokes_of_type sites t) (InvokesOfType sites t)
+types_decide sites t = invocations_decide (is_of_type sites) (IsOfType sites) (of_type_decides sites) t
+
+pub levels_decide : (sites : List Site) (l : ℕ) (t : Tree) → Decides (invokes_lower sites l t) (InvokesLower sites l t)
+levels_decide sites l t = invocations_decide (λ k m. is_lower sites l k) (IsLower sites l) (lower_decides sites l) t
+
 point_agrees : (earlier : List Point) (p : Point) (later : Tests DefinitionFault)
     → Agrees (point_tests earlier p) (point_rules earlier p later) later
 point_agrees earlier p later =
@@ -138,9 +167,9 @@ point_agrees earlier p later =
     (one_agrees _ _ _ (new_decides (λ q. q.name) p.name earlier)
     (one_agrees _ _ _ (at_most p.cost greatest_cost) (none_agree later)))
 
-site_agrees : (n : ℕ) (earlier : List Site) (s : Site) (later : Tests DefinitionFault)
-    → Agrees (site_tests n earlier s) (site_rules n earlier s later) later
-site_agrees n earlier s later =
+site_agrees : (n : ℕ) (sites earlier : List Site) (s : Site) (later : Tests DefinitionFault)
+    → Agrees (site_tests n sites earlier s) (site_rules n sites earlier s later) later
+site_agrees n sites earlier s later =
     let ls = s.links in
     one_agrees _ _ _ (at_most (length ls) most_links)
     (one_agrees _ _ _ (each_decides needs_few (λ l. length l.needs ≤ most_needs) (λ l. at_most (length l.needs) most_needs) ls)
@@ -153,7 +182,11 @@ site_agrees n earlier s later =
     (one_agrees _ _ _ (points_decide n s)
     (one_agrees _ _ _ (each_decides needs_differ (λ l. AllPairs (λ p q. p ≢ q) l.needs) needs_decide ls)
     (one_agrees _ _ _ (signature_eq_decides s.target.signature s.method_type)
-    (one_agrees _ _ _ (each_decides costs_little (λ l. l.charge ≤ greatest_charge) (λ l. at_most l.charge greatest_charge) ls) (none_agree later))))))))))))
+    (one_agrees _ _ _ (at_most s.level greatest_level)
+    (one_agrees _ _ _ (known_decides sites s.target.tree)
+    (one_agrees _ _ _ (types_decide sites s.target.tree)
+    (one_agrees _ _ _ (levels_decide sites s.level s.target.tree)
+    (one_agrees _ _ _ (each_decides costs_little (λ l. l.charge ≤ greatest_charge) (λ l. at_most l.charge greatest_charge) ls) (none_agree later))))))))))))))))
 
 module _ (version : Version) (ps : List Point) (ss : List Site) where
   abbrev memory : Tests DefinitionFault
@@ -166,7 +199,7 @@ module _ (version : Version) (ps : List Point) (ss : List Site) where
       (one_agrees _ _ _ (at_most (length ss) (most_sites version))
       (two_agree (tests_of_points ps) (tests_of_sites n ss)
       (each_agree (tests_at_point ps) (rules_at_point ps) (λ i. point_agrees (take i ps) (slice_index_or ps i no_point)) (range_with_len 0 n) _)
-      (each_agree (tests_at_site n ss) (rules_at_site n ss) (λ i. site_agrees n (take i ss) (slice_index_or ss i no_site))
+      (each_agree (tests_at_site n ss) (rules_at_site n ss) (λ i. site_agrees n ss (take i ss) (slice_index_or ss i no_site))
       (range_with_len 0 (length ss)) _)))
 
   -- no fault: all rules hold

@@ -27,7 +27,7 @@ abbrev pub no_link : Link
 no_link = record { when = Boolean false; weight = 0; charge = 0; needs = [] }
 
 abbrev pub no_site : Site
-no_site = record { name = []; method_type = no_tree.signature; key = None; target = no_tree; links = [] }
+no_site = record { name = []; method_type = no_tree.signature; level = 0; key = None; target = no_tree; links = [] }
 
 abbrev pub point_at : DefinitionData → ℕ → Point
 point_at d p = slice_index_or d.points p no_point

@@ -4,17 +4,18 @@ use Rattle.std.specs.List.{list_any, list_all, flat_map, range_with_len}
 use Rattle.std.specs.Str.{bytes_eq}
 use Rattle.mh_type.specs.Kinds.{kind_of, kind_eq}
 use Rattle.mh_type.specs.Signature.{signature_eq}
-use Rattle.mh_tree.specs.Limits.{point_bound}
+use Rattle.mh_tree.specs.Limits.{greatest_level, point_bound}
 use Rattle.mh_tree.specs.Typing.{kind_at}
 use Rattle.mh_site.specs.declared.point.Point.{Point}
 use Rattle.mh_site.specs.declared.link.Link.{Link}
 use Rattle.mh_site.specs.declared.site.Site.{Site}
 use Rattle.mh_site.specs.declared.version.Version.{Version}
 use Rattle.mh_site.specs.declared.fault.DefinitionFault.{DefinitionFault}
-use Rattle.mh_site.specs.declared.fault.DefinitionFault.TheVariants.{NoMemory, TooManyPoints, TooManySites, TooManyLinks, TooManyNeeds, BadName, NameTwice, CostTooLarge, WeightTooLarge, BadKeyPlace, KeyMismatch, KeyTwice, NoPoint, NeedTwice, TypeMismatch, ChargeTooLarge}
+use Rattle.mh_site.specs.declared.fault.DefinitionFault.TheVariants.{NoMemory, TooManyPoints, TooManySites, TooManyLinks, TooManyNeeds, BadName, NameTwice, CostTooLarge, WeightTooLarge, BadKeyPlace, KeyMismatch, KeyTwice, NoPoint, NeedTwice, TypeMismatch, BadLevel, NoSite, InvokeMismatch, WrongLevel, ChargeTooLarge}
 use Rattle.mh_base.specs.Listed.{Decided, first_failing, made_unless}
 use Rattle.mh_site.specs.Defined.{DefinitionData, no_point, no_site}
 use Rattle.mh_site.specs.Ascending.{ascending}
+use Rattle.mh_site.specs.Invoking.{invokes_known, invokes_lower, invokes_of_type}
 use Rattle.mh_site.specs.Names.{is_name}
 use Rattle.mh_type.specs.Values.{same_value}
 use Rattle.mh_site.specs.Limits.{most_points, most_sites, most_links, most_needs, greatest_charge, greatest_cost, greatest_weight}
@@ -35,6 +36,10 @@ fault_number KeyTwice = 12
 fault_number NoPoint = 13
 fault_number NeedTwice = 14
 fault_number TypeMismatch = 15
+fault_number BadLevel = 16
+fault_number NoSite = 17
+fault_number InvokeMismatch = 18
+fault_number WrongLevel = 19
 fault_number ChargeTooLarge = 20
 
 -- no two are the same
@@ -93,9 +98,9 @@ needs_known points l = list_all (λ p. nat_lt p points) l.needs
 abbrev pub needs_differ : Link → Bool
 needs_differ l = all_differ (λ p q. p == q) l.needs
 
--- of a site behind earlier ones, beside so many points
-abbrev pub site_tests : ℕ → List Site → Site → Decided DefinitionFault
-site_tests points earlier s =
+-- of one of these sites behind earlier ones, beside so many points
+abbrev pub site_tests : ℕ → List Site → List Site → Site → Decided DefinitionFault
+site_tests points sites earlier s =
     (nat_le (length s.links) most_links, TooManyLinks)
     ∷ (list_all needs_few s.links, TooManyNeeds)
     ∷ (is_name s.name, BadName)
@@ -107,12 +112,16 @@ site_tests points earlier s =
     ∷ (list_all (needs_known points) s.links && nat_le (point_bound s.target.tree) points, NoPoint)
     ∷ (list_all needs_differ s.links, NeedTwice)
     ∷ (signature_eq s.target.signature s.method_type, TypeMismatch)
+    ∷ (nat_le s.level greatest_level, BadLevel)
+    ∷ (invokes_known sites s.target.tree, NoSite)
+    ∷ (invokes_of_type sites s.target.tree, InvokeMismatch)
+    ∷ (invokes_lower sites s.level s.target.tree, WrongLevel)
     ∷ (list_all costs_little s.links, ChargeTooLarge)
     ∷ []
 
 -- of the site with this number, behind those before it
 abbrev pub tests_at_site : ℕ → List Site → ℕ → Decided DefinitionFault
-tests_at_site points sites i = site_tests points (take i sites) (slice_index_or sites i no_site)
+tests_at_site points sites i = site_tests points sites (take i sites) (slice_index_or sites i no_site)
 
 -- of all points, and of all sites, by number
 abbrev pub tests_of_points : List Point → Decided DefinitionFault
@@ -136,7 +145,7 @@ abbrev pub link_in_order : Link → Link
 link_in_order l = record { when = l.when; weight = l.weight; charge = l.charge; needs = ascending l.needs }
 
 abbrev pub site_in_order : Site → Site
-site_in_order s = record { name = s.name; method_type = s.method_type; key = s.key; target = s.target; links = map link_in_order s.links }
+site_in_order s = record { name = s.name; method_type = s.method_type; level = s.level; key = s.key; target = s.target; links = map link_in_order s.links }
 
 -- what the parts make
 abbrev pub definition_made : Version → List Point → List Site → Result DefinitionData DefinitionFault

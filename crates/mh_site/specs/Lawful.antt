@@ -3,7 +3,8 @@ use Rattle.std.specs.Prelude.{◌≡◌, ◌≢◌, ◌≤◌, ◌<◌, ℕ, tru
 use Rattle.std.specs.List.{All, AllPairs}
 use Rattle.std.specs.List.Sorted.{IsStrictlyIncreasing}
 use Rattle.mh_type.specs.Kinds.{kind_of}
-use Rattle.mh_tree.specs.Limits.{point_bound}
+use Rattle.mh_tree.specs.Limits.{greatest_level, point_bound}
+use Rattle.mh_tree.specs.Tree.{Tree}
 use Rattle.mh_tree.specs.Typing.{kind_at}
 use Rattle.mh_site.specs.declared.point.Point.{Point}
 use Rattle.mh_site.specs.declared.link.Link.{Link}
@@ -11,6 +12,7 @@ use Rattle.mh_site.specs.declared.site.Site.{Site}
 use Rattle.mh_site.specs.declared.version.Version.TheVariants.{Two}
 use Rattle.mh_site.specs.Defined.{DefinitionData}
 use Rattle.mh_site.specs.Definitions.{all_differ, same_key}
+use Rattle.mh_site.specs.Invoking.{InvokesLower, InvokesOfType}
 use Rattle.mh_site.specs.Names.{is_name}
 use Rattle.mh_site.specs.Limits.{most_points, most_sites, most_links, most_needs, greatest_charge, greatest_cost, greatest_weight}
 
@@ -39,10 +41,16 @@ pub record IsSite (points : ℕ) (s : Site) : Type 0 where
   pub keys : all_differ same_key s.links ≡ true
   pub known : point_bound s.target.tree ≤ points
   pub typed : s.target.signature ≡ s.method_type
+  pub low : s.level ≤ greatest_level
 
 pub record IsPoint (p : Point) : Type 0 where
   pub name : is_name p.name ≡ true
   pub cheap : p.cost ≤ greatest_cost
+
+-- each invocation is of one of these sites, below this level, and has the site's type
+pub record MayInvokeFrom (sites : List Site) (l : ℕ) (t : Tree) : Type 0 where
+  pub types : InvokesOfType sites t
+  pub levels : InvokesLower sites l t
 
 -- no two names are the same
 abbrev pub AreDistinct : List (List ℕ) → Type 0
@@ -55,3 +63,4 @@ pub record IsDefinition (d : DefinitionData) : Type 0 where
   pub site_names : AreDistinct (map (λ s. s.name) d.sites)
   pub points : All IsPoint d.points
   pub sites : All (IsSite (length d.points)) d.sites
+  pub invokes : All (λ s. MayInvokeFrom d.sites s.level s.target.tree) d.sites

@@ -3,14 +3,15 @@ use Rattle.std.specs.Prelude.{◌≡◌, ◌≢◌, ◌≤◌, ◌<◌, ℕ, tru
 use Rattle.std.specs.List.{All, AllPairs, range_with_len}
 use Rattle.mh_base.specs.Tests.{Tests, test, no_more, only}
 use Rattle.mh_base.specs.Listed.{tests_of_each}
-use Rattle.mh_tree.specs.Limits.{point_bound}
+use Rattle.mh_tree.specs.Limits.{greatest_level, point_bound, site_bound}
 use Rattle.mh_site.specs.declared.point.Point.{Point}
 use Rattle.mh_site.specs.declared.site.Site.{Site}
 use Rattle.mh_site.specs.declared.version.Version.{Version}
 use Rattle.mh_site.specs.declared.version.Version.TheVariants.{One}
 use Rattle.mh_site.specs.declared.fault.DefinitionFault.{DefinitionFault}
-use Rattle.mh_site.specs.declared.fault.DefinitionFault.TheVariants.{NoMemory, TooManyPoints, TooManySites, TooManyLinks, TooManyNeeds, BadName, NameTwice, CostTooLarge, WeightTooLarge, BadKeyPlace, KeyMismatch, KeyTwice, NoPoint, NeedTwice, TypeMismatch, ChargeTooLarge}
+use Rattle.mh_site.specs.declared.fault.DefinitionFault.TheVariants.{NoMemory, TooManyPoints, TooManySites, TooManyLinks, TooManyNeeds, BadName, NameTwice, CostTooLarge, WeightTooLarge, BadKeyPlace, KeyMismatch, KeyTwice, NoPoint, NeedTwice, TypeMismatch, BadLevel, NoSite, InvokeMismatch, WrongLevel, ChargeTooLarge}
 use Rattle.mh_site.specs.Defined.{no_point, no_site}
+use Rattle.mh_site.specs.Invoking.{InvokesLower, InvokesOfType}
 use Rattle.mh_site.specs.Names.{is_name}
 use Rattle.mh_site.specs.Lawful.{HasKey}
 use Rattle.mh_site.specs.Limits.{most_points, most_sites, most_links, most_needs, greatest_charge, greatest_cost, greatest_weight}
@@ -27,9 +28,9 @@ point_rules earlier p later =
     (test (All (λ q. p.name ≢ q.name) earlier) (only NameTwice)
     (test (p.cost ≤ greatest_cost) (only CostTooLarge) later))
 
--- of a site behind earlier ones, beside so many points
-abbrev pub site_rules : ℕ → List Site → Site → Tests DefinitionFault → Tests DefinitionFault
-site_rules points earlier s later =
+-- of one of these sites behind earlier ones, beside so many points
+abbrev pub site_rules : ℕ → List Site → List Site → Site → Tests DefinitionFault → Tests DefinitionFault
+site_rules points sites earlier s later =
     test (length s.links ≤ most_links) (only TooManyLinks)
     (test (All (λ l. length l.needs ≤ most_needs) s.links) (only TooManyNeeds)
     (test (is_name s.name ≡ true) (only BadName)
@@ -41,14 +42,18 @@ site_rules points earlier s later =
     (test (All (λ l. All (λ p. p < points) l.needs) s.links × (point_bound s.target.tree ≤ points)) (only NoPoint)
     (test (All (λ l. AllPairs (λ p q. p ≢ q) l.needs) s.links) (only NeedTwice)
     (test (s.target.signature ≡ s.method_type) (only TypeMismatch)
-    (test (All (λ l. l.charge ≤ greatest_charge) s.links) (only ChargeTooLarge) later)))))))))))
+    (test (s.level ≤ greatest_level) (only BadLevel)
+    (test (site_bound s.target.tree ≤ length sites) (only NoSite)
+    (test (InvokesOfType sites s.target.tree) (only InvokeMismatch)
+    (test (InvokesLower sites s.level s.target.tree) (only WrongLevel)
+    (test (All (λ l. l.charge ≤ greatest_charge) s.links) (only ChargeTooLarge) later)))))))))))))))
 
 -- of the point, and of the site, with this number
 abbrev pub rules_at_point : List Point → ℕ → Tests DefinitionFault → Tests DefinitionFault
 rules_at_point points i = point_rules (take i points) (slice_index_or points i no_point)
 
 abbrev pub rules_at_site : ℕ → List Site → ℕ → Tests DefinitionFault → Tests DefinitionFault
-rules_at_site points sites i = site_rules points (take i sites) (slice_index_or sites i no_site)
+rules_at_site points sites i = site_rules points sites (take i sites) (slice_index_or sites i no_site)
 
 -- the two numbers, the points in order, the sites in order; where all hold, memory may be wanting
 abbrev pub definition_rules : Version → List Point → List Site → Tests DefinitionFault

@@ -3,13 +3,15 @@ use Rattle.std.specs.List.{All}
 use Rattle.std.specs.Prelude.{ℕ, ◌≤◌, ◌+◌, List, [], map, fold, length, replicate, slice_set, slice_index_or, Bool, true, false, refl}
 use Rattle.std.specs.Coded.{Coded, code_by, coded×, coded_ℕ, coded_bool, coded_list}
 use Rattle.mh_tree.specs.Handle.{TypedTree}
+use Rattle.mh_tree.specs.Typing.{IsTyped}
 use Rattle.mh_tree.specs.TreeCode.{coded_typed_tree}
 use Rattle.mh_site.specs.declared.site.Site.{Site}
 use Rattle.mh_site.specs.declared.control.Control.{Control}
 use Rattle.mh_site.specs.declared.control.Control.TheVariants.{Target, Invalidate, Install}
 use Rattle.mh_site.specs.Controls.{Relinked}
 use Rattle.mh_site.specs.Defined.{DefinitionData, no_tree}
-use Rattle.mh_tree.specs.Environment.{Environment, with_points}
+use Rattle.mh_tree.specs.Environment.{Environment}
+use Rattle.mh_tree.specs.Sites.{Setting, env, sites, with_sites}
 
 -- a site's base tree and linked tree, the links that the linked tree holds, and how often the site was retargeted
 pub record SiteState : Type 0 where
@@ -24,9 +26,22 @@ pub record WorldState : Type 0 where
   pub sites : List SiteState
   pub front : ℕ
 
--- no site was retargeted more often than there were controls
-abbrev pub IsWorld : WorldState → Type 0
-IsWorld w = All (λ x. x.version ≤ w.front) w.sites
+-- the trees of each site are typed
+abbrev pub AreTyped : List SiteState → Type 0
+AreTyped sites = All (λ x. IsTyped x.base.tree x.base.signature × IsTyped x.linked.tree x.linked.signature) sites
+
+-- no site was retargeted more often than there were controls, and trees are typed
+pub record IsWorld (w : WorldState) : Type 0 where
+  pub early : All (λ x. x.version ≤ w.front) w.sites
+  pub typed : AreTyped w.sites
+
+-- the base tree of each site, by number
+abbrev pub bases : WorldState → List TypedTree
+bases w = map (λ x. x.base) w.sites
+
+-- the linked tree of each site, by number
+abbrev pub linkeds : WorldState → List TypedTree
+linkeds w = map (λ x. x.linked) w.sites
 
 -- what stands past the last site
 abbrev pub no_state : SiteState
@@ -35,9 +50,17 @@ no_state = record { base = no_tree; linked = no_tree; kept = []; version = 0 }
 abbrev pub state_at : WorldState → ℕ → SiteState
 state_at w s = slice_index_or w.sites s no_state
 
--- what trees mean in the world
-abbrev pub environment : WorldState → Environment
-environment w = with_points w.valid
+-- what trees mean in the world: an invocation means the base tree of its site
+abbrev pub environment_of_bases : WorldState → Environment
+environment_of_bases w = with_sites w.valid (bases w)
+
+-- the valid points of the world, and the linked trees, which run in the place of the base trees
+abbrev pub linked_sites : WorldState → Setting
+linked_sites w = sites w.valid (linkeds w)
+
+-- what trees do in the world, and in which steps: an invocation runs the linked tree of its site
+abbrev pub environment_of_links : WorldState → Environment
+environment_of_links w = env (linked_sites w)
 
 -- a site before any control
 abbrev pub opening : Site → SiteState

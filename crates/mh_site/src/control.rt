@@ -22,6 +22,7 @@ pub struct Retargeting {
 
 impl Model for Retargeting {
     ghost use Rattle.std.specs.Prelude.{◌≡◌};
+    ghost use Rattle.mh_tree.specs.Typing.{IsTyped};
     ghost use Rattle.mh_site.specs.Controls.{Retargeted, coded_retargeted};
 
     ghost Value = { Retargeted };
@@ -30,21 +31,23 @@ impl Model for Retargeting {
 
     ghost view = { λ r. record { site = r.site; tree = r.base } };
 
-    ghost invariant = { λ r. r.linked ≡ r.base };
+    ghost invariant = { λ r. (r.linked ≡ r.base) × IsTyped r.base.tree r.base.signature };
 }
 
 impl Retargeting {
     /// The tree for the site, by its number, in time linear in its size: its code is made here.
-    /// Refused where a growth was refused, or a further owner of the tree.
+    /// Fails only if an allocation or a reference count is refused.
     pub fn new(site: usize, base: Declared) -> Result<Retargeting, NoMemory>
         ensures value { IfOk result (λ r. r ≡ record { site = site; tree = base }) }
     {
         let linked = prepare(base.handle())?;
+        // Read for what a tree keeps.
+        let _type = base.handle().method_type();
         Ok(Retargeting { site, base, linked })
     }
 
     // Another owner of the trees.
-    fn share(&self) -> Result<Retargeting, NoMemory>
+    pub(crate) fn share(&self) -> Result<Retargeting, NoMemory>
         ensures value { IfOk result (λ r. r ≡ self.now) }
     {
         Ok(Retargeting {
@@ -78,6 +81,7 @@ pub struct Relinking {
 }
 
 impl Model for Relinking {
+    ghost use Rattle.mh_tree.specs.Typing.{IsTyped};
     ghost use Rattle.mh_site.specs.Controls.{Relinked, coded_relinked};
 
     ghost Value = { Relinked };
@@ -85,6 +89,8 @@ impl Model for Relinking {
     ghost coded = { coded_relinked };
 
     ghost view = { λ r. record { site = r.site; linked = r.linked; kept = r.kept.items } };
+
+    ghost invariant = { λ r. IsTyped r.linked.tree r.linked.signature };
 }
 
 impl Relinking {
@@ -92,6 +98,8 @@ impl Relinking {
     pub fn new(site: usize, linked: Prepared, kept: KeptLinks) -> Relinking
         ensures value { result ≡ record { site = site; linked = linked; kept = kept.items } }
     {
+        // Read for what a tree keeps.
+        let _type = linked.handle().method_type();
         Relinking { site, linked, kept }
     }
 
@@ -117,7 +125,7 @@ impl Relinking {
     }
 
     // Another owner of the tree.
-    fn share(&self) -> Result<Relinking, NoMemory>
+    pub(crate) fn share(&self) -> Result<Relinking, NoMemory>
         ensures value { IfOk result (λ r. r ≡ self.now) }
     {
         let kept = KeptLinks::try_from(self.kept.as_slice()).map_err(|_| NoMemory)?;
@@ -185,8 +193,8 @@ pub enum Control {
 }
 
 impl Control {
-    /// The same change on trees with another owner. Refused where a growth was refused, or a
-    /// further owner of a tree. O(points), or O(sites that are linked).
+    /// The same change on trees with another owner. Fails only if an allocation or a reference
+    /// count is refused. O(points), or O(sites that are linked).
     pub fn share(&self) -> Result<Control, NoMemory>
         ensures value { IfOk result (λ c. c ≡ self.now) }
     {

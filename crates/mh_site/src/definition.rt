@@ -154,6 +154,14 @@ impl Definition {
         &self.sites()[site].method_type
     }
 
+    /// The level of a site, at most 3: its trees invoke sites of lower levels alone.
+    pub fn level(&self, site: usize) -> u64
+        requires inside { site < length self.now.sites }
+        ensures value { result ≡ (site_at self.now site).level }
+    {
+        self.sites()[site].level
+    }
+
     /// The key place of a site, where it has one.
     pub fn key(&self, site: usize) -> Option<usize>
         requires inside { site < length self.now.sites }

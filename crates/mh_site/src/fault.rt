@@ -57,6 +57,18 @@ pub enum DefinitionFault {
     /// A target of another type than its site's.
     #[error("15 TypeMismatch")]
     TypeMismatch,
+    /// A level past 3.
+    #[error("16 BadLevel")]
+    BadLevel,
+    /// A site that the target invokes, past the last site.
+    #[error("17 NoSite")]
+    NoSite,
+    /// An invocation in the target with another type than its site's.
+    #[error("18 InvokeMismatch")]
+    InvokeMismatch,
+    /// An invocation in the target of a site whose level is not below its own.
+    #[error("19 WrongLevel")]
+    WrongLevel,
     /// A charge past 2^40.
     #[error("20 ChargeTooLarge")]
     ChargeTooLarge,
@@ -73,7 +85,7 @@ impl From<NoMemory> for DefinitionFault {
 }
 
 impl DefinitionFault {
-    /// The fault's number: 1 to 15, or 20.
+    /// The fault's number, 1 to 20.
     pub fn number(self) -> u8
         ensures value { result ≡ fault_number self }
     {
@@ -93,6 +105,10 @@ impl DefinitionFault {
             DefinitionFault::NoPoint => 13,
             DefinitionFault::NeedTwice => 14,
             DefinitionFault::TypeMismatch => 15,
+            DefinitionFault::BadLevel => 16,
+            DefinitionFault::NoSite => 17,
+            DefinitionFault::InvokeMismatch => 18,
+            DefinitionFault::WrongLevel => 19,
             DefinitionFault::ChargeTooLarge => 20,
         }
     }

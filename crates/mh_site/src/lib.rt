@@ -2,7 +2,7 @@
 //! controls change: which points are valid, and the trees of each site.
 //!
 //! ```
-//! let site = Site { name, method_type, key: Some(0), target, links };
+//! let site = Site { name, method_type, level: 0, key: Some(0), target, links };
 //! let sites = Listing::from_vec(vec![in alloc; site]?);
 //! let definition = Definition::new(alloc, Version::Two, points, sites)?;
 //! let mut world = World::open(alloc, &definition)?;
@@ -14,6 +14,7 @@ mod control;
 mod crossing;
 mod definition;
 mod fault;
+mod invoking;
 mod laws;
 mod link;
 mod name;
@@ -31,6 +32,7 @@ pub use control::{Control, Installation, KeptLinks, Relinking, Retargeting};
 pub use crossing::worlds_cross_threads;
 pub use definition::Definition;
 pub use fault::DefinitionFault;
+pub use invoking::{invokes_known, invokes_lower, invokes_of_type};
 pub use laws::worlds_look_back;
 pub use link::Link;
 pub use mh_base::{Listing, NoMemory};
@@ -39,6 +41,6 @@ pub use names::Names;
 pub use point::Point;
 pub use point_rules::GREATEST_COST;
 pub use site::Site;
-pub use site_rules::{GREATEST_CHARGE, GREATEST_WEIGHT, MOST_LINKS, MOST_NEEDS};
+pub use site_rules::{GREATEST_CHARGE, GREATEST_LEVEL, GREATEST_WEIGHT, MOST_LINKS, MOST_NEEDS};
 pub use version::Version;
 pub use world::World;

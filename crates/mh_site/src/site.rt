@@ -14,10 +14,13 @@ pub struct Site {
     pub name: Name,
     /// The type, which each tree of the site has.
     pub method_type: MethodType,
+    /// The level, at most 3 in a definition: the site's trees invoke sites of lower levels alone.
+    pub level: u64,
     /// The key place: the parameter that the keys of the links are compared with, from 0. A site
     /// without links may have none.
     pub key: Option<usize>,
-    /// The tree, of the site's type, which names points of the definition alone.
+    /// The tree, of the site's type, which names points of the definition alone and invokes its
+    /// sites of lower levels, with their types.
     pub target: Declared,
     /// At most 4 in a definition.
     pub links: Listing<Link>,

@@ -9,6 +9,7 @@ ghost use Rattle.mh_tree.specs.Limits.{point_bound};
 ghost use Rattle.mh_type.specs.Signature.{signature_eq};
 
 use crate::fault::DefinitionFault;
+use crate::invoking::{invokes_known, invokes_lower, invokes_of_type};
 use crate::link::Link;
 use crate::names::{Names, with_one_more};
 use crate::site::Site;
@@ -25,6 +26,9 @@ pub const MOST_NEEDS: usize = 8;
 /// The greatest weight of a link.
 pub const GREATEST_WEIGHT: u64 = 1 << 20;
 
+/// The greatest level of a site.
+pub const GREATEST_LEVEL: u64 = 3;
+
 /// The greatest charge of a link.
 pub const GREATEST_CHARGE: u64 = 1 << 40;
 
@@ -40,24 +44,25 @@ pub(crate) fn test_sites(
 {
     let mut seen = Some(Names::new(alloc));
     for (index, site) in sites.iter().enumerate() {
-        test_site(points, seen.as_ref(), &sites[..index], site)?;
+        test_site(points, sites, seen.as_ref(), &sites[..index], site)?;
         seen = with_one_more(seen, site.name.as_str());
     }
     Ok(())
 }
 
-// The tests of a site behind earlier ones, whose names are in the table where there is one, in the
-// order of their faults' numbers.
+// The tests of one of these sites behind earlier ones, whose names are in the table where there is
+// one, in the order of their faults' numbers.
 fn test_site(
     points: usize,
+    sites: &[Site],
     seen: Option<&Names>,
     earlier: &[Site],
     site: &Site,
 ) -> Result<(), DefinitionFault>
     requires seen { IfSome seen (λ names. names.now ≡ map (λ s. s.name) earlier.now) }
     ensures value { MatchResult result
-        (λ _. first_failing (site_tests points earlier.now site.now) ≡ None)
-        (λ e. first_failing (site_tests points earlier.now site.now) ≡ Some e) }
+        (λ _. first_failing (site_tests points sites.now earlier.now site.now) ≡ None)
+        (λ e. first_failing (site_tests points sites.now earlier.now site.now) ≡ Some e) }
 {
     let links = site.links.as_slice();
     demand(links.len() <= MOST_LINKS, DefinitionFault::TooManyLinks)?;
@@ -74,6 +79,17 @@ fn test_site(
     demand(knows_points(site, points), DefinitionFault::NoPoint)?;
     demand(need_once(links), DefinitionFault::NeedTwice)?;
     demand(is_typed(site), DefinitionFault::TypeMismatch)?;
+    let target = site.target.handle();
+    demand(site.level <= GREATEST_LEVEL, DefinitionFault::BadLevel)?;
+    demand(invokes_known(sites, target), DefinitionFault::NoSite)?;
+    demand(
+        invokes_of_type(sites, target),
+        DefinitionFault::InvokeMismatch,
+    )?;
+    demand(
+        invokes_lower(sites, site.level, target),
+        DefinitionFault::WrongLevel,
+    )?;
     demand(cost_little(links), DefinitionFault::ChargeTooLarge)
 }
 

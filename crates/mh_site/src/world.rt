@@ -2,8 +2,9 @@
 
 ghost use Rattle.std.specs.Prelude.{◌≡◌, ◌<◌, ◌+◌, ◌^◌, length, map, fold, slice_set, slice_index_or, IfOk, OnOk, OnErr, List, ◌++◌, ◌∷◌, []};
 ghost use Rattle.std.specs.List.{All};
-ghost use Rattle.mh_site.specs.Worlds.{WorldState, opened, opening, after, replay, state_at, no_state, retargeted, relinked, relink_site, clear_point};
-ghost use Rattle.mh_site.specs.SiteStates.{site_state};
+ghost use Rattle.mh_tree.specs.Typing.{IsTyped};
+ghost use Rattle.mh_site.specs.Worlds.{WorldState, AreTyped, linkeds, opened, opening, after, replay, state_at, no_state, retargeted, relink_site, clear_point};
+ghost use Rattle.mh_site.specs.SiteStates.{site_state, site_states};
 ghost use Rattle.mh_site.specs.declared.control.Control.{Control};
 
 use crate::control::{Control, Installation, KeptLinks, Relinking, Retargeting};
@@ -12,19 +13,19 @@ use crate::site::Site;
 use mh_base::{Listing, NoMemory};
 use mh_tree::{CodeCache, Declared, Handle, Prepared};
 use std::alloc::Global;
+use std::collections::VecDeque;
 use std::marker::Model;
 
-// A site's trees, the links that its linked tree holds, and how often it was retargeted.
+// A site's base tree, the links that its linked tree holds, and how often it was retargeted.
 #[derive(Debug, Drop)]
 pub(crate) struct SiteWorld {
     base: Declared,
-    linked: Prepared,
     kept: KeptLinks,
     version: u64,
 }
 
 /// Which points are valid, and the trees of each site: what a list of controls made of a
-/// definition.
+/// definition. The linked trees stand in one slice, which calls of trees that invoke sites read.
 ///
 /// A contract sees a world as its tables. They are the replay of the controls absorbed so far, and,
 /// as the law `worlds_look_back` says, what looking back through these controls finds.
@@ -32,47 +33,54 @@ pub(crate) struct SiteWorld {
 pub struct World {
     valid: Vec<bool>,
     sites: Vec<SiteWorld>,
+    linked: Vec<Prepared>,
     front: u64,
+    // The changes of an installation while `try_absorb` takes them in, and else empty: room for one
+    // of each site from the opening on.
+    incoming: VecDeque<Relinking>,
 }
 
 impl Model for World {
-    ghost use Rattle.std.specs.Prelude.{map};
+    ghost use Rattle.std.specs.Prelude.{◌≡◌, length};
     ghost use Rattle.mh_site.specs.Worlds.{WorldState, coded_world, IsWorld};
 
     ghost Value = { WorldState };
 
     ghost coded = { coded_world };
 
-    ghost use Rattle.mh_site.specs.SiteStates.{site_state};
+    ghost use Rattle.mh_site.specs.SiteStates.{site_states};
 
     ghost view = { λ w. record {
       valid = w.valid.items;
-      sites = map site_state w.sites.items;
+      sites = site_states w.sites.items w.linked.items;
       front = w.front;
     } };
 
-    ghost invariant = { λ w. IsWorld record {
+    ghost invariant = { λ w. (length w.linked.items ≡ length w.sites.items) × IsWorld record {
       valid = w.valid.items;
-      sites = map site_state w.sites.items;
+      sites = site_states w.sites.items w.linked.items;
       front = w.front;
     } };
 }
 
 impl World {
     /// The world of a definition before any control: all points are valid, and each site runs its
-    /// target, whose code is made here, and shared where trees have the same parts. Refused where a
-    /// growth was refused, or a further owner of a tree.
+    /// target, whose code is made here, and shared where trees have the same parts. Fails only if
+    /// an allocation or a reference count is refused.
     pub fn open(alloc: Global, definition: &Definition) -> Result<World, NoMemory>
         ensures value { IfOk result (λ w. w ≡ opened definition.now) }
         ensures replays { IfOk result (λ w. w ≡ replay (opened definition.now) []) }
     {
         let points = definition.points().len();
         let valid = Vec::from_elem(alloc, true, points).map_err(|_| NoMemory)?;
-        let sites = open_sites(alloc, definition.sites())?;
+        let (sites, linked) = open_sites(alloc, definition.sites())?;
+        let incoming = VecDeque::with_capacity(alloc, sites.len()).map_err(|_| NoMemory)?;
         Ok(World {
             valid,
             sites,
+            linked,
             front: 0,
+            incoming,
         })
     }
 
@@ -96,7 +104,7 @@ impl World {
         requires inside { site < length self.now.sites }
         ensures value { result.now ≡ (state_at self.now site).linked }
     {
-        self.sites[site].linked.handle()
+        self.linked[site].handle()
     }
 
     /// The tree that a call of the site runs, with its code.
@@ -104,7 +112,15 @@ impl World {
         requires inside { site < length self.now.sites }
         ensures value { result.now ≡ (state_at self.now site).linked }
     {
-        &self.sites[site].linked
+        &self.linked[site]
+    }
+
+    /// The trees that calls of the sites run, with their code, by number.
+    pub fn prepared_all(&self) -> &[Prepared]
+        ensures value { result.now ≡ linkeds self.now }
+        ensures typed { AreTyped self.now.sites }
+    {
+        self.linked.as_slice()
     }
 
     /// The links that the linked tree holds, by number.
@@ -139,17 +155,22 @@ impl World {
     {
         self.front += 1;
         match control {
-            Control::Target(retargeting) => retarget(&mut self.sites, retargeting),
+            Control::Target(retargeting) => {
+                retarget(&mut self.sites, &mut self.linked, retargeting);
+            }
             Control::Invalidate(points) => clear(&mut self.valid, &points),
-            Control::Install(installation) => relink_all(&mut self.sites, installation),
+            Control::Install(installation) => {
+                relink_all(&mut self.sites, &mut self.linked, installation);
+            }
         }
     }
 
     /// Takes a control in, on trees of which it makes another owner first: what `absorb` does, of a
-    /// control that goes on to another world.
+    /// control that goes on to another world. It allocates nothing, unless an installation has more
+    /// changes than there are sites: `open` has reserved room for one change of each.
     ///
-    /// Refused where a growth was refused, or a further owner of a tree, or where 2^64 - 1 controls
-    /// were absorbed, and then nothing changes.
+    /// Fails only if a reference count or that allocation is refused, or if 2^64 - 1 controls were
+    /// absorbed, and then nothing changes.
     pub fn try_absorb(&mut self, control: &Control) -> Result<(), NoMemory>
         ensures step { OnOk result (self.new ≡ after self.old control.now) }
         ensures replays { OnOk result ((w : WorldState) → (controls : List Control)
@@ -159,77 +180,139 @@ impl World {
         if self.front == u64::MAX {
             return Err(NoMemory);
         }
-        let owned = control.share()?;
-        self.absorb(owned);
+        match control {
+            Control::Target(retargeting) => {
+                retarget(&mut self.sites, &mut self.linked, retargeting.share()?);
+            }
+            Control::Invalidate(points) => clear(&mut self.valid, points),
+            Control::Install(installation) => {
+                share_all(&mut self.incoming, installation.as_slice())?;
+                relink_each(&mut self.sites, &mut self.linked, &mut self.incoming);
+            }
+        }
+        self.front += 1;
         Ok(())
     }
 }
 
-// Each site before any control.
-fn open_sites(alloc: Global, sites: &[Site]) -> Result<Vec<SiteWorld>, NoMemory>
-    ensures value { IfOk result (λ v. map site_state v.items ≡ map opening sites.now) }
+// Each site before any control, and its linked tree.
+fn open_sites(alloc: Global, sites: &[Site]) -> Result<(Vec<SiteWorld>, Vec<Prepared>), NoMemory>
+    ensures value { IfOk result (λ v. site_states v.0.items v.1.items ≡ map opening sites.now) }
+    ensures many { IfOk result (λ v. length v.1.items ≡ length v.0.items) }
+    ensures typed { OnOk result (AreTyped (map opening sites.now)) }
 {
     let mut cache = CodeCache::new(alloc);
     let mut opened = Vec::new(alloc);
+    let mut linked = Vec::new(alloc);
     for site in sites {
-        let entry = open_site(&mut cache, site)?;
+        let (entry, tree) = open_site(&mut cache, site)?;
         opened.push(entry).map_err(|_| NoMemory)?;
+        linked.push(tree).map_err(|_| NoMemory)?;
     }
-    Ok(opened)
+    Ok((opened, linked))
 }
 
-// A site before any control. Sites share the code of parts that are the same.
-fn open_site(cache: &mut CodeCache, site: &Site) -> Result<SiteWorld, NoMemory>
+// A site before any control, and its linked tree. Sites share the code of parts that are the same.
+fn open_site(cache: &mut CodeCache, site: &Site) -> Result<(SiteWorld, Prepared), NoMemory>
     ensures value { IfOk result (λ x. site_state x ≡ opening site.now) }
+    ensures typed { IsTyped site.now.target.tree site.now.target.signature }
 {
     let target = &site.target;
-    Ok(SiteWorld {
+    // Read for what a tree keeps.
+    let _type = target.handle().method_type();
+    let opened = SiteWorld {
         base: target.share().map_err(|_| NoMemory)?,
-        linked: cache.prepare(target.handle()).map_err(|_| NoMemory)?,
         kept: KeptLinks::new(),
         version: 0,
-    })
+    };
+    let linked = cache.prepare(target.handle()).map_err(|_| NoMemory)?;
+    Ok((opened, linked))
 }
 
 // Another base and linked tree of a site.
-fn retarget(sites: &mut Vec<SiteWorld>, retargeting: Retargeting)
+fn retarget(sites: &mut Vec<SiteWorld>, linked: &mut Vec<Prepared>, retargeting: Retargeting)
     requires room { All (λ x. x.version + 1 < 2 ^ 64) sites.old.items }
-    ensures value { map site_state sites.new.items ≡ slice_set
-        (map site_state sites.old.items) retargeting.site
+    requires many { length linked.old.items ≡ length sites.old.items }
+    ensures value { site_states sites.new.items linked.new.items ≡ slice_set
+        (site_states sites.old.items linked.old.items) retargeting.site
         (retargeted retargeting.tree (slice_index_or
-        (map site_state sites.old.items) retargeting.site no_state)) }
+        (site_states sites.old.items linked.old.items) retargeting.site no_state)) }
+    ensures many { length linked.new.items ≡ length sites.new.items }
+    ensures typed { IsTyped retargeting.tree.tree retargeting.tree.signature }
 {
-    let Retargeting { site, base, linked } = retargeting;
+    let Retargeting {
+        site,
+        base,
+        linked: tree,
+    } = retargeting;
     if site < sites.len() {
         let entry = &mut sites[site];
         entry.base = base;
-        entry.linked = linked;
         entry.kept = KeptLinks::new();
         entry.version += 1;
+        linked[site] = tree;
     }
 }
 
 // Other linked trees of sites, in order.
-fn relink_all(sites: &mut Vec<SiteWorld>, installation: Installation)
-    ensures value { map site_state sites.new.items ≡ fold relink_site
-        (map site_state sites.old.items) installation }
+fn relink_all(sites: &mut Vec<SiteWorld>, linked: &mut Vec<Prepared>, installation: Installation)
+    requires many { length linked.old.items ≡ length sites.old.items }
+    ensures value { site_states sites.new.items linked.new.items ≡ fold relink_site
+        (site_states sites.old.items linked.old.items) installation }
+    ensures many { length linked.new.items ≡ length sites.new.items }
+    ensures typed { All (λ c. IsTyped c.linked.tree c.linked.signature) installation }
 {
     let Installation { changes } = installation;
     for change in changes {
-        relink(sites, change);
+        relink(sites, linked, change);
+    }
+}
+
+// Puts the changes on trees with another owner into a list, in order, in place of what it had.
+fn share_all(incoming: &mut VecDeque<Relinking>, changes: &[Relinking]) -> Result<(), NoMemory>
+    ensures value { OnOk result (incoming.new.items ≡ changes.now) }
+{
+    incoming.clear();
+    for change in changes {
+        incoming.push_back(change.share()?).map_err(|_| NoMemory)?;
+    }
+    Ok(())
+}
+
+// Other linked trees of sites, in order, out of the list.
+fn relink_each(
+    sites: &mut Vec<SiteWorld>,
+    linked: &mut Vec<Prepared>,
+    incoming: &mut VecDeque<Relinking>,
+)
+    requires many { length linked.old.items ≡ length sites.old.items }
+    ensures value { site_states sites.new.items linked.new.items ≡ fold relink_site
+        (site_states sites.old.items linked.old.items) incoming.old.items }
+    ensures many { length linked.new.items ≡ length sites.new.items }
+    ensures typed { All (λ c. IsTyped c.linked.tree c.linked.signature) incoming.old.items }
+{
+    while let Some(next) = incoming.pop_front() {
+        relink(sites, linked, next);
     }
 }
 
 // Another linked tree of a site, over the same base.
-fn relink(sites: &mut Vec<SiteWorld>, change: Relinking)
-    ensures value { map site_state sites.new.items ≡ relink_site
-        (map site_state sites.old.items) change }
+fn relink(sites: &mut Vec<SiteWorld>, linked: &mut Vec<Prepared>, change: Relinking)
+    requires many { length linked.old.items ≡ length sites.old.items }
+    ensures value { site_states sites.new.items linked.new.items ≡ relink_site
+        (site_states sites.old.items linked.old.items) change }
+    ensures many { length linked.new.items ≡ length sites.new.items }
+    ensures typed { IsTyped change.linked.tree change.linked.signature }
 {
-    let Relinking { site, linked, kept } = change;
+    let Relinking {
+        site,
+        linked: tree,
+        kept,
+    } = change;
     if site < sites.len() {
         let relinked = &mut sites[site];
-        relinked.linked = linked;
         relinked.kept = kept;
+        linked[site] = tree;
     }
 }
 

@@ -2,10 +2,9 @@
 ghost use Rattle.std.specs.Prelude.{◌≡◌, ◌⊎◌, ◌<◌, ◌≤◌, ℕ, List, string_bytes, length, IfOk, IfErr, IfSome, OnOk};
 ghost use Rattle.std.specs.Io.KnownBytes.{Appends};
 ghost use Rattle.mh_text.specs.Bytes.{HasFailed};
-ghost use Rattle.mh_text.specs.Gives.{IsEndOf};
+ghost use Rattle.mh_text.specs.Gives.{no_memory, IsHonest};
 ghost use Rattle.mh_text.specs.Output.{outside};
 ghost use Rattle.mh_text.specs.declared.fault.TextFault.TheVariants.{NoReader};
-ghost use Rattle.mh_text.specs.Gives.{no_memory};
 ghost use Rattle.mh_live.specs.Limits.{most_workers};
 ghost use Rattle.mh_stress.specs.Stress.{AreLawful, FailsStress, cause_of, IsSettlement, IsSettlementOf, IsStressed, workers_of, most_rounds};
 ghost use Rattle.mh_stress.specs.Rounds.{AreFresh};
@@ -159,10 +158,8 @@ pub fn stress_bytes<T: Threads + Wait + Sync, R: Read, W: Write>(
         (W.contents writer.old.inner) (W.contents writer.new.inner)
         (HasFailed reader.old.failures reader.new.failures)
         (HasFailed writer.old.failures writer.new.failures)) }
-    ensures told { IfErr result (λ e. IsEndOf (HasFailed reader.old.failures reader.new.failures)
-        (HasFailed writer.old.failures writer.new.failures) e.kind) }
-    ensures reads { OnOk result (reader.new.failures ≡ reader.old.failures) }
-    ensures writes { OnOk result (writer.new.failures ≡ writer.old.failures) }
+    ensures honest { IsHonest result reader.old.failures reader.new.failures
+        writer.old.failures writer.new.failures }
 {
     let script = read_script_from(alloc, reader)?;
     let sums = stress_script(rt, alloc, options, script)?;

@@ -214,6 +214,7 @@ fn negation(alloc: Global) -> Result<Listing<Site>, Fail> {
     sites.push(Site {
         name: Name::new(alloc, "f")?,
         method_type: MethodType::new(Kind::Int, &[Kind::Int])?,
+        level: 0,
         key: None,
         target: Declared::new(&Handle::op(alloc, Op::Ineg)?)?,
         links: Listing::from_vec(Vec::new(alloc)),

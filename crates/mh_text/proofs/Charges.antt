@@ -2,7 +2,7 @@
 use Rattle.std.proofs.Common.{◌≡◌, refl, sym, subst, ap, ℕ, ◌+◌, ◌-◌, ◌^◌, List, [], ◌∷◌, Option, Some, None, Result, Ok, Err, arith}
 use Rattle.std.specs.Prelude.{codes}
 use Rattle.std.specs.List.{All}
-use Rattle.std.proofs.lemmas.List.Elements.{All-cons}
+use Rattle.std.proofs.lemmas.List.Elements.{All-cons, All-push}
 use Rattle.serde_json.specs.Data.{Data}
 use Rattle.serde_json.specs.Find.{get}
 use Rattle.mh_type.specs.declared.kind.Kind.{Kind}
@@ -13,8 +13,9 @@ use Rattle.mh_site.specs.declared.version.Version.TheVariants.{One, Two}
 use Rattle.mh_site.specs.Rules.{HasNoCharges}
 use Rattle.mh_text.specs.declared.fault.InputFault.{InputFault}
 use Rattle.mh_text.specs.declared.json.scope.Scope.{Scope}
+use Rattle.mh_text.specs.declared.json.sites.Sited.{Sited}
 use Rattle.mh_text.specs.Gives.{◌>>=◌}
-use Rattle.mh_text.specs.Script.{key_kind, key_of, link_of, links_of, links_where, named_points_of, site_of, sites_of}
+use Rattle.mh_text.specs.Script.{all_sites_of, key_kind, key_of, level_of, link_of, links_of, links_where, named_points_of, none_sited, one_sited, site_of, sites_of}
 use Rattle.mh_text.specs.Shape.{count_of, each_from, list_of, member_of, text_of}
 use Rattle.mh_text.specs.Trees.{declared_of}
 use Rattle.mh_text.specs.Values.{type_of, value_for}
@@ -70,15 +71,26 @@ site_free scope d s h =
     let name = read_before (text_of a.value) _ s a.rest in
     let b = read_before (member_of (codes "type") d) _ s name.rest in
     let method_type = read_before (type_of b.value) _ s b.rest in
-    let key = read_before (key_of d) _ s method_type.rest in
+    let level = read_before (level_of d) _ s method_type.rest in
+    let key = read_before (key_of d) _ s level.rest in
     let c = read_before (member_of (codes "target") d) _ s key.rest in
     let target = read_before (declared_of scope c.value) _ s c.rest in
     let links = read_before (links_of One scope.points (key_kind method_type.value key.value) d) _ s target.rest in
     subst (λ ys. All IsFree ys) (ap (λ (x : Site). x.links) (same_ok _ s links.rest)) (links_free scope.points (key_kind method_type.value key.value) (get (codes "links") d) links.value links.is)
 
-pub no_charges : (version : Version) (scope : Scope) (d : Data) (sites : List Site) → sites_of version scope d ≡ Ok sites → HasNoCharges version sites
-no_charges One scope d sites h =
-    let a = read_before (member_of (codes "sites") d) _ sites h in
-    let list = read_before (list_of a.value) _ sites a.rest in
-    λ _. each_all (λ (s : Site). All IsFree s.links) (site_of One scope) (site_free scope) 0 list.value sites list.rest
-no_charges Two scope d sites h = λ same. cc
+abbrev AreFree : List Site → Type 0
+AreFree sites = All (λ (s : Site). All IsFree s.links) sites
+
+sites_free : (sited : Sited) (ds : List Data) (all : Sited) → AreFree sited.sites → all_sites_of One sited ds ≡ Ok all → AreFree all.sites
+sites_free sited [] all free h = subst (λ (x : Sited). AreFree x.sites) (same_ok sited all h) free
+sites_free sited (d ∷ ds) all free h =
+    let first = read_before (site_of One sited.scope d) _ all h in
+    sites_free (one_sited sited first.value) ds all
+    (All-push (λ (s : Site). All IsFree s.links) sited.sites first.value free (site_free sited.scope d first.value first.is)) first.rest
+
+pub no_charges : (version : Version) (scope : Scope) (d : Data) (sited : Sited) → sites_of version scope d ≡ Ok sited → HasNoCharges version sited.sites
+no_charges One scope d sited h =
+    let a = read_before (member_of (codes "sites") d) _ sited h in
+    let list = read_before (list_of a.value) _ sited a.rest in
+    λ _. sites_free (none_sited scope) list.value sited (λ k e l. absurd (omega arith)) list.rest
+no_charges Two scope d sited h = λ same. cc

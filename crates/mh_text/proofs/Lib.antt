@@ -10,3 +10,4 @@ mod Reached
 mod Runs
 mod Shapes
 mod SharedPairs
+mod SitesInOrder

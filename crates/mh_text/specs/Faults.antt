@@ -7,7 +7,7 @@ use Rattle.mh_site.specs.Definitions as definition_fault
 use Rattle.mh_network.specs.Problems as problem_fault
 use Rattle.mh_text.specs.declared.fault.Fault.{Fault}
 use Rattle.mh_text.specs.declared.fault.InputFault.{InputFault}
-use Rattle.mh_text.specs.declared.fault.InputFault.TheVariants.{NoMemory, TooLong, NotJson, BadShape, BadValue, UnknownShared, Tree, Definition, Problem, BadType}
+use Rattle.mh_text.specs.declared.fault.InputFault.TheVariants.{NoMemory, TooLong, NotJson, BadShape, BadValue, UnknownShared, Tree, Definition, Problem, BadType, UnknownSite}
 use Rattle.mh_text.specs.declared.fault.TextFault.{TextFault}
 use Rattle.mh_text.specs.declared.fault.TextFault.TheVariants.{Input, ReadFailed, WriteFailed, NoReader}
 
@@ -23,6 +23,7 @@ input_text (Tree cause) = codes "7 Tree " ++ decimal (tree_fault.fault_number ca
 input_text (Definition cause) = codes "8 Definition " ++ decimal (definition_fault.fault_number cause)
 input_text (Problem cause) = codes "9 Problem " ++ decimal (problem_fault.fault_number cause)
 input_text (BadType cause) = codes "12 BadType " ++ decimal (type_fault.fault_number cause)
+input_text UnknownSite = codes "13 UnknownSite"
 
 abbrev pub kind_text : TextFault → List ℕ
 kind_text (Input cause) = input_text cause

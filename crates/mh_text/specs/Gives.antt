@@ -13,6 +13,7 @@ use Rattle.mh_text.specs.declared.fault.InputFault.TheVariants.{NoMemory, TooLon
 use Rattle.mh_text.specs.declared.fault.TextFault.{TextFault}
 use Rattle.mh_text.specs.declared.fault.TextFault.TheVariants as text
 use Rattle.mh_text.specs.declared.fault.Fault.{Fault}
+use Rattle.mh_text.specs.Bytes.{HasFailed}
 
 infixl 10 ◌>>=◌
 abbrev pub ◌>>=◌ : {A B E : Type 0} → Result A E → (A → Result B E) → Result B E
@@ -88,6 +89,16 @@ abbrev pub IsEndOf : Type 0 → Type 0 → TextFault → Type 0
 IsEndOf ReadHasFailed WriteHasFailed text.ReadFailed = ReadHasFailed
 IsEndOf ReadHasFailed WriteHasFailed text.WriteFailed = WriteHasFailed
 IsEndOf ReadHasFailed WriteHasFailed _ = ⊤
+
+-- a fault of a stream is told only where that stream failed, and success only where neither did
+abbrev pub IsHonest : {A : Type 0} → Result A Fault → ℕ → ℕ → ℕ → ℕ → Type 0
+IsHonest (Ok x) reads_old reads_new writes_old writes_new = (reads_new ≡ reads_old) × (writes_new ≡ writes_old)
+IsHonest (Err e) reads_old reads_new writes_old writes_new = IsEndOf (HasFailed reads_old reads_new) (HasFailed writes_old writes_new) e.kind
+
+-- the same of a function that has no writer
+abbrev pub IsHonestReading : {A : Type 0} → Result A Fault → ℕ → ℕ → Type 0
+IsHonestReading (Ok x) old new = new ≡ old
+IsHonestReading (Err e) old new = IsEndOf (HasFailed old new) ⊥ e.kind
 
 -- a fault that an input may have, or want of memory, and not that of a stream
 abbrev pub IsOfInput : TextFault → Type 0

@@ -1,6 +1,6 @@
 -- The script that a JSON value is.
-use Rattle.std.specs.Prelude.{ℕ, ◌≡◌, ◌^◌, ◌-◌, ◌<◌, ◌≤◌, ◌&&◌, List, [], ◌∷◌, length, take, nat_lt, nat_le, Option, Some, None, option_and_then, is_some, Result, Ok, Err, codes, fold, if◌then◌else◌, ◌==◌}
-use Rattle.std.specs.List.{slice_get}
+use Rattle.std.specs.Prelude.{ℕ, ◌≡◌, ◌^◌, ◌-◌, ◌<◌, ◌≤◌, ◌&&◌, List, [], ◌∷◌, ◌++◌, length, take, nat_lt, nat_le, Option, Some, None, option_and_then, is_some, Result, Ok, Err, codes, fold, if◌then◌else◌, ◌==◌}
+use Rattle.std.specs.List.{list_any, slice_get}
 use Rattle.std.specs.Str.{bytes_eq}
 use Rattle.serde_json.specs.Data.{Data}
 use Rattle.serde_json.specs.Find.{get, as_null, as_object}
@@ -23,6 +23,7 @@ use Rattle.mh_text.specs.declared.json.declarations.Declarations.{Declarations}
 use Rattle.mh_text.specs.declared.json.scope.Scope.{Scope}
 use Rattle.mh_text.specs.declared.json.script.Schedule.{Schedule}
 use Rattle.mh_text.specs.declared.json.script.Script.{Script}
+use Rattle.mh_text.specs.declared.json.sites.Sited.{Sited}
 use Rattle.mh_text.specs.declared.json.step.Step.{Step}
 use Rattle.mh_text.specs.declared.json.step.Step.TheVariants.{Ask, Plan as ask_plan}
 use Rattle.mh_text.specs.Gives.{◌>>=◌, at_place, caused, of_definition}
@@ -97,22 +98,45 @@ key_of site = key_where (get (codes "key") site)
 abbrev pub key_kind : Signature → Option ℕ → Option Kind
 key_kind method_type key = option_and_then (slice_get method_type.parameters) key
 
--- a site: its name, its type, its key place, its target, its links
+-- the level, which is 0 where it is absent
+abbrev pub level_where : Option Data → Result ℕ InputFault
+level_where None = Ok 0
+level_where (Some d) = count_of (2 ^ 63 - 1) d
+
+abbrev pub level_of : Data → Result ℕ InputFault
+level_of site = level_where (get (codes "level") site)
+
+-- a site: its name, its type, its level, its key place, its target, its links
 abbrev pub site_of : Version → Scope → Data → Result Site InputFault
 site_of version scope d = do
   name ← member_of (codes "name") d
   name ← text_of name
   method_type ← member_of (codes "type") d
   method_type ← type_of method_type
+  level ← level_of d
   key ← key_of d
   target ← member_of (codes "target") d
   target ← declared_of scope target
   links ← links_of version scope.points (key_kind method_type key) d
-  Ok (record { name = name; method_type = method_type; key = key; target = target; links = links })
+  Ok (record { name = name; method_type = method_type; level = level; key = key; target = target; links = links })
 
--- the names of the sites, by number
-abbrev pub site_names_of : List Site → List (List ℕ)
-site_names_of sites = fold (λ names s. with_name names s.name) [] sites
+-- a site that later trees may invoke; of one name, the first stays
+abbrev pub with_site : Scope → Site → Scope
+with_site scope s =
+    if list_any (bytes_eq s.name) scope.sites then scope else (record {
+      points = scope.points;
+      names = scope.names;
+      trees = scope.trees;
+      sites = scope.sites ++ s.name ∷ [];
+      types = scope.types ++ s.method_type ∷ [];
+    })
+
+-- no site yet, and one more
+abbrev pub none_sited : Scope → Sited
+none_sited scope = record { scope = scope; sites = [] }
+
+abbrev pub one_sited : Sited → Site → Sited
+one_sited sited s = record { scope = with_site sited.scope s; sites = sited.sites ++ s ∷ [] }
 
 -- the points of a definition
 abbrev pub points_of : Data → Result (List Point) InputFault
@@ -121,12 +145,19 @@ points_of d = do
   points ← list_of points
   each_of point_of points
 
--- the sites of a definition
-abbrev pub sites_of : Version → Scope → Data → Result (List Site) InputFault
+-- the sites in order: each may invoke those before it
+abbrev pub all_sites_of : Version → Sited → List Data → Result Sited InputFault
+all_sites_of version sited [] = Ok sited
+all_sites_of version sited (d ∷ ds) = do
+  site ← site_of version sited.scope d
+  all_sites_of version (one_sited sited site) ds
+
+-- the sites of a definition, and the names that the trees of events may use
+abbrev pub sites_of : Version → Scope → Data → Result Sited InputFault
 sites_of version scope d = do
   sites ← member_of (codes "sites") d
   sites ← list_of sites
-  each_of (site_of version scope) sites
+  all_sites_of version (none_sited scope) sites
 
 -- The version, the points, the shared trees, the sites, and then the faults of the definition that they make. The names
 -- go on to the events.
@@ -136,9 +167,9 @@ declarations_of d = do
   version ← version_of definition
   points ← points_of definition
   scope ← scope_of (point_names_of points) definition
-  sites ← sites_of version scope definition
-  definition ← caused of_definition (definition_made version points sites)
-  Ok (record { definition = definition; scope = scope; sites = site_names_of definition.sites })
+  sited ← sites_of version scope definition
+  definition ← caused of_definition (definition_made version points sited.sites)
+  Ok (record { definition = definition; scope = sited.scope })
 
 -- the most workers that call, or plan
 abbrev pub most_workers : ℕ
@@ -190,8 +221,8 @@ call_from declared (worker ∷ name ∷ values ∷ []) = do
   worker ← count_of (2 ^ 32 - 1) worker
   name ← text_of name
   values ← list_of values
-  values ← values_for (parameters_at declared.definition (place_of declared.sites name)) values
-  Ok (Call worker (place_of declared.sites name) values)
+  values ← values_for (parameters_at declared.definition (place_of declared.scope.sites name)) values
+  Ok (Call worker (place_of declared.scope.sites name) values)
 call_from declared _ = Err BadShape
 
 -- w
@@ -206,7 +237,7 @@ abbrev pub target_from : Declarations → List Data → Result Event InputFault
 target_from declared (name ∷ tree ∷ []) = do
   name ← text_of name
   tree ← declared_of declared.scope tree
-  Ok (Target (place_of declared.sites name) tree)
+  Ok (Target (place_of declared.scope.sites name) tree)
 target_from declared _ = Err BadShape
 
 -- [POINT..]

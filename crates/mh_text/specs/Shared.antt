@@ -14,13 +14,19 @@ use Rattle.mh_site.specs.NamesInOrder.{with_name}
 use Rattle.mh_text.specs.Shape.{list_of, text_of}
 use Rattle.mh_text.specs.Trees.{tree_of}
 
--- the points of these names, and no shared tree
+-- the points of these names, no shared tree and no site
 abbrev pub without_shared : List (List ℕ) → Scope
-without_shared points = record { points = points; names = []; trees = [] }
+without_shared points = record { points = points; names = []; trees = []; sites = []; types = [] }
 
 -- one shared tree more
 abbrev pub with_shared : Scope → Shared → Scope
-with_shared scope shared = record { points = scope.points; names = with_name scope.names shared.name; trees = scope.trees ++ shared.tree ∷ [] }
+with_shared scope shared = record {
+  points = scope.points;
+  names = with_name scope.names shared.name;
+  trees = scope.trees ++ shared.tree ∷ [];
+  sites = scope.sites;
+  types = scope.types;
+}
 
 -- a name that is lawful, and that no earlier shared tree has
 abbrev pub new_name : List (List ℕ) → Data → Result (List ℕ) InputFault

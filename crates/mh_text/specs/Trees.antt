@@ -7,9 +7,9 @@ use Rattle.serde_json.specs.View.{view}
 use Rattle.serde_json.specs.declared.value.Value.{Value}
 use Rattle.mh_base.specs.Words.{at_word}
 use Rattle.mh_tree.specs.Handle.{TypedTree}
-use Rattle.mh_tree.specs.Constructors.{constant_made, identity_made, op_made, insert_made, drop_made, permute_made, filter_made, filter_return_made, fold_made, guard_made, point_made, declared_made}
+use Rattle.mh_tree.specs.Constructors.{constant_made, identity_made, op_made, insert_made, drop_made, permute_made, filter_made, filter_return_made, fold_made, guard_made, point_made, declared_made, invoke_made}
 use Rattle.mh_text.specs.declared.fault.InputFault.{InputFault}
-use Rattle.mh_text.specs.declared.fault.InputFault.TheVariants.{BadShape, UnknownShared}
+use Rattle.mh_text.specs.declared.fault.InputFault.TheVariants.{BadShape, UnknownShared, UnknownSite}
 use Rattle.mh_text.specs.declared.json.scope.Scope.{Scope}
 use Rattle.mh_text.specs.Gives.{◌>>=◌, or_fault, caused, of_tree}
 use Rattle.mh_site.specs.NamesInOrder.{place_of}
@@ -108,7 +108,7 @@ guard_from (test ∷ target ∷ fallback ∷ []) = do
   caused of_tree (guard_made test target fallback)
 guard_from _ = Err BadShape
 
--- the number of a point: that of the first point of its name, or one past the last, at most 2^32 - 1
+-- the number of a point, or of a site: that of the first of its name, or one past the last, at most 2^32 - 1
 abbrev pub point_place : List (List ℕ) → List ℕ → ℕ
 point_place points name = min (place_of points name) (2 ^ 32 - 1)
 
@@ -132,6 +132,19 @@ ref_from scope (name ∷ []) = do
   shared_named scope name
 ref_from scope _ = Err BadShape
 
+-- the invocation of the site of a name, among those that stand earlier, with the site's type
+abbrev pub invocation_named : Scope → List ℕ → Result TypedTree InputFault
+invocation_named scope name = do
+  method_type ← or_fault UnknownSite (slice_get scope.types (point_place scope.sites name))
+  Ok (invoke_made (point_place scope.sites name) method_type)
+
+-- NAME
+abbrev pub invoke_from : Scope → List Part → Result TypedTree InputFault
+invoke_from scope (name ∷ []) = do
+  name ← text_of name.value
+  invocation_named scope name
+invoke_from scope _ = Err BadShape
+
 -- what each word heads
 abbrev pub forms : Scope → List Part → List (List ℕ × Result TypedTree InputFault)
 forms scope args =
@@ -147,6 +160,7 @@ forms scope args =
     ∷ (codes "fold", fold_from args)
     ∷ (codes "guard", guard_from args)
     ∷ (codes "point", point_from scope args)
+    ∷ (codes "invoke", invoke_from scope args)
     ∷ []
 
 -- what a word heads

@@ -36,6 +36,8 @@ pub enum InputFault {
     Problem(ProblemFault),
     /// A text is no method type.
     BadType(TypeFault),
+    /// A site that a tree invokes, and that stands nowhere earlier.
+    UnknownSite,
 }
 
 impl fmt::Display for InputFault {
@@ -56,6 +58,7 @@ impl fmt::Display for InputFault {
             InputFault::Definition(cause) => write!(f, "8 Definition {}", cause.number()),
             InputFault::Problem(cause) => write!(f, "9 Problem {}", cause.number()),
             InputFault::BadType(cause) => write!(f, "12 BadType {}", cause.number()),
+            InputFault::UnknownSite => write!(f, "13 UnknownSite"),
         }
     }
 }

@@ -1,7 +1,7 @@
 -- The number of parameters of a tree.
 use Rattle.std.specs.Prelude.{ℕ, ◌+◌, ◌-◌, length}
 use Rattle.mh_type.specs.Operations.{op_signature}
-use Rattle.mh_tree.specs.Tree.{Tree, constant, identity, operation, insert, discard, permute, filter, filter_return, fold, guard, point}
+use Rattle.mh_tree.specs.Tree.{Tree, constant, identity, operation, insert, discard, permute, filter, filter_return, fold, guard, point, invoke}
 
 -- how many leading arguments a test or a combiner takes
 abbrev pub arity : Tree → ℕ
@@ -16,3 +16,4 @@ arity (filter_return t f) = arity t
 arity (fold t c) = arity t - 1
 arity (guard c x y) = arity x
 arity (point p x y) = arity x
+arity (invoke s n) = length n.parameters

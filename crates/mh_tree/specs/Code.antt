@@ -1,5 +1,5 @@
 -- Prepared trees as plain data. The first number of each is its steps: the nodes of the tree that are entered with it.
-use Rattle.std.specs.Prelude.{ℕ}
+use Rattle.std.specs.Prelude.{ℕ, List}
 use Rattle.mh_type.specs.declared.operation.Op.{Op}
 use Rattle.mh_tree.specs.declared.operand.Operand.{Operand}
 
@@ -14,3 +14,5 @@ pub data Code : Type 0 where
   branch : ℕ → Code → Code → Code → Code
   -- point, target, fallback
   switch : ℕ → ℕ → Code → Code → Code
+  -- an invocation: site, arguments
+  call : ℕ → ℕ → List Operand → Code

@@ -1,7 +1,7 @@
 -- The plain code of a piece, by a fold. A case is a branch.
 use Rattle.mh_type.specs.declared.operation.Op.TheVariants as Op
 use Rattle.mh_type.specs.declared.value.Value.TheVariants.{Int}
-use Rattle.mh_tree.specs.Code.{Code, leaf, apply, bind, branch, switch}
+use Rattle.mh_tree.specs.Code.{Code, leaf, apply, bind, branch, switch, call}
 use Rattle.mh_tree.specs.declared.operand.Operand.TheVariants.{Argument, Constant}
 use Rattle.mh_tree.specs.declared.piece.KeyTest.{KeyTest}
 use Rattle.mh_tree.specs.declared.piece.Piece.{Piece}
@@ -20,6 +20,7 @@ code_step (open_piece.Bind first then steps) = bind steps first.value then.value
 code_step (open_piece.Branch test target fallback steps) = branch steps test.value target.value fallback.value
 code_step (open_piece.Case test target fallback steps) = branch steps (test_code test) target.value fallback.value
 code_step (open_piece.Point place target fallback steps) = switch steps place target.value fallback.value
+code_step (open_piece.Invoke site operands steps) = call steps site operands.items
 
 abbrev pub code_of : Piece → Code
 code_of = fold-Piece Code code_step

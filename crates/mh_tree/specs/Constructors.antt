@@ -12,7 +12,7 @@ use Rattle.mh_type.specs.Operations.{op_signature}
 use Rattle.mh_type.specs.Signature.{Signature, signature_eq, with_parameters, without_parameters}
 use Rattle.mh_tree.specs.Handle.{TypedTree}
 use Rattle.mh_tree.specs.Limits.{depth, size, greatest_depth, most_nodes, greatest_declared_depth, most_declared_nodes}
-use Rattle.mh_tree.specs.Tree.{Filters, filters_of, constant, identity, operation, insert, discard, permute, filter, filter_return, fold, guard, point}
+use Rattle.mh_tree.specs.Tree.{Filters, filters_of, constant, identity, operation, insert, discard, permute, filter, filter_return, fold, guard, point, invoke}
 use Rattle.mh_tree.specs.Typing.{kind_at}
 use Rattle.mh_tree.specs.declared.fault.TreeFault.{TreeFault}
 use Rattle.mh_tree.specs.declared.fault.TreeFault.TheVariants.{NoMemory, BadPosition, TypeMismatch, NotUnary, NotBoolean, BadReorder, TooManyParameters, TooDeep, TooLarge}
@@ -56,6 +56,10 @@ identity_made k = record { tree = identity k; signature = record { ret = k; para
 -- a leaf operation
 abbrev pub op_made : Op → TypedTree
 op_made o = record { tree = operation o; signature = op_signature o }
+
+-- `MutableCallSite.dynamicInvoker`: a site of the type
+abbrev pub invoke_made : ℕ → Signature → TypedTree
+invoke_made s m = record { tree = invoke s m; signature = m }
 
 -- `MethodHandles.insertArguments`: the target without the parameters that the values stand for
 abbrev pub inserted : TypedTree → ℕ → List Value → TypedTree

@@ -6,6 +6,7 @@ pub mod Constructors
 pub mod Environment
 pub mod Faults
 pub mod Handle
+pub mod Invocations
 pub mod Kept
 pub mod KeptCode
 pub mod Laws
@@ -14,6 +15,7 @@ pub mod Meaning
 pub mod Prepared
 pub mod Running
 pub mod Scoped
+pub mod Sites
 pub mod Tree
 pub mod TreeCode
 pub mod TreeOf

@@ -9,7 +9,7 @@ use Rattle.mh_type.specs.declared.outcome.Throw.{Throw}
 use Rattle.mh_type.specs.Operations.{operate}
 use Rattle.mh_tree.specs.Arity.{arity}
 use Rattle.mh_tree.specs.Environment.{Environment, Steps}
-use Rattle.mh_tree.specs.Tree.{Tree, Filters, constant, identity, operation, insert, discard, permute, filter, filter_return, fold, guard, point, no_more, absent, present}
+use Rattle.mh_tree.specs.Tree.{Tree, Filters, constant, identity, operation, insert, discard, permute, filter, filter_return, fold, guard, point, invoke, no_more, absent, present}
 
 infixl 10 ◌>>=◌
 -- goes on with a value, and stops at a throw
@@ -49,7 +49,7 @@ with_value (outcome.Value x) go = go x
 with_value (outcome.Thrown t) go = Err t
 
 abbrev mutual
-  -- The outcome. A test, and a combiner, gets as many of the leading arguments as it has parameters
+  -- The outcome. A test, a combiner, and a site that is invoked get as many of the leading arguments as they have parameters
   -- (`MethodHandles.guardWithTest`, `MethodHandles.foldArguments`).
   pub mean : Environment → Tree → List Value → Outcome
   mean v (constant x) a = outcome.Value x
@@ -69,6 +69,7 @@ abbrev mutual
     b ← mean v c (take (arity c) a)
     choose b (mean v x a) (mean v y a)
   mean v (point p x y) a = if is_valid v p then mean v x a else mean v y a
+  mean v (invoke s n) a = v.calls s (take (length n.parameters) a)
 
   -- the arguments after the filters of the places from p on have run, from left to right
   pub filtered : Environment → Filters → ℕ → List Value → Result (List Value) Throw
@@ -109,6 +110,7 @@ abbrev mutual
       let leading = take (arity c) a in
       1 + (steps v c leading + after (mean v c leading) (λ b. choose_steps b (steps v x a) (steps v y a)))
   steps v (point p x y) a = 1 + (if is_valid v p then steps v x a else steps v y a)
+  steps v (invoke s n) a = 1 + v.call_steps s (take (length n.parameters) a)
 
   -- the steps of the filters of the places from p on
   pub filter_steps : Environment → Filters → ℕ → List Value → Steps

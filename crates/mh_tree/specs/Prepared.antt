@@ -4,9 +4,9 @@ use Rattle.std.specs.Prelude.{ℕ, ◌+◌, false, List, [], ◌∷◌, ◌++◌
 use Rattle.std.specs.List.{range_with_len}
 use Rattle.mh_type.specs.declared.value.Value.TheVariants.{Boolean}
 use Rattle.mh_type.specs.Operations.{op_signature}
-use Rattle.mh_tree.specs.Tree.{Tree, Filters, constant, identity, operation, insert, discard, permute, filter, filter_return, fold, guard, point, no_more, absent, present}
+use Rattle.mh_tree.specs.Tree.{Tree, Filters, constant, identity, operation, insert, discard, permute, filter, filter_return, fold, guard, point, invoke, no_more, absent, present}
 use Rattle.mh_tree.specs.Handle.{TypedTree}
-use Rattle.mh_tree.specs.Code.{Code, leaf, apply, bind, branch, switch}
+use Rattle.mh_tree.specs.Code.{Code, leaf, apply, bind, branch, switch, call}
 use Rattle.mh_tree.specs.declared.operand.Operand.{Operand}
 use Rattle.mh_tree.specs.declared.operand.Operand.TheVariants.{Argument, Local, Constant}
 
@@ -29,6 +29,7 @@ abbrev mutual
   prepared (fold t c) env d s = bind (s + 1) (prepared c env d 0) (prepared t (Local d ∷ env) (d + 1) 0)
   prepared (guard c x y) env d s = branch (s + 1) (prepared c env d 0) (prepared x env d 0) (prepared y env d 0)
   prepared (point p x y) env d s = switch (s + 1) p (prepared x env d 0) (prepared y env d 0)
+  prepared (invoke k n) env d s = call (s + 1) k (take (length n.parameters) env)
 
   -- the filters of the places from p on, and then the target
   pub prepared_filters : Filters → ℕ → List Operand → ℕ → ℕ → (List Operand → ℕ → ℕ → Code) → Code

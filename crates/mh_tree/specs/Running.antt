@@ -1,12 +1,12 @@
 -- What prepared code does in an environment v with arguments a and locals l.
-use Rattle.std.specs.Prelude.{ℕ, ◌+◌, List, [], ◌∷◌, ◌++◌, if◌then◌else◌}
+use Rattle.std.specs.Prelude.{ℕ, ◌+◌, List, [], ◌∷◌, ◌++◌, map, if◌then◌else◌}
 use Rattle.mh_type.specs.declared.value.Value.{Value}
 use Rattle.mh_type.specs.declared.outcome.Outcome.{Outcome}
 use Rattle.mh_type.specs.declared.outcome.Outcome.TheVariants as outcome
 use Rattle.mh_type.specs.Operations.{operate}
 use Rattle.mh_tree.specs.Meaning.{◌>>=◌, argument, choose, choose_steps, after, is_valid}
 use Rattle.mh_tree.specs.Environment.{Environment, Steps}
-use Rattle.mh_tree.specs.Code.{Code, leaf, apply, bind, branch, switch}
+use Rattle.mh_tree.specs.Code.{Code, leaf, apply, bind, branch, switch, call}
 use Rattle.mh_tree.specs.declared.operand.Operand.{Operand}
 use Rattle.mh_tree.specs.declared.operand.Operand.TheVariants.{Argument, Local, Constant}
 
@@ -26,6 +26,7 @@ run_code v (branch s c x y) a l = do
   b ← run_code v c a l
   choose b (run_code v x a l) (run_code v y a l)
 run_code v (switch s p x y) a l = if is_valid v p then run_code v x a l else run_code v y a l
+run_code v (call s k os) a l = v.calls k (map (value_of a l) os)
 
 -- the steps that it takes
 abbrev pub code_steps : Environment → Code → List Value → List Value → Steps
@@ -35,11 +36,13 @@ code_steps v (bind s f g) a l = s + (code_steps v f a l + after (run_code v f a 
 code_steps v (branch s c x y) a l =
     s + (code_steps v c a l + after (run_code v c a l) (λ b. choose_steps b (code_steps v x a l) (code_steps v y a l)))
 code_steps v (switch s p x y) a l = s + (if is_valid v p then code_steps v x a l else code_steps v y a l)
+code_steps v (call s k os) a l = s + v.call_steps k (map (value_of a l) os)
 
--- all steps together
-abbrev pub weight : Code → ℕ
-weight (leaf s o) = s
-weight (apply s op x y) = s
-weight (bind s f g) = s + (weight f + weight g)
-weight (branch s c x y) = s + (weight c + (weight x + weight y))
-weight (switch s p x y) = s + (weight x + weight y)
+-- all steps together, where an invocation takes at most n beside its own
+abbrev pub weight : ℕ → Code → ℕ
+weight n (leaf s o) = s
+weight n (apply s op x y) = s
+weight n (bind s f g) = s + (weight n f + weight n g)
+weight n (branch s c x y) = s + (weight n c + (weight n x + weight n y))
+weight n (switch s p x y) = s + (weight n x + weight n y)
+weight n (call s k os) = s + n

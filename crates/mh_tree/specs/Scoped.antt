@@ -1,6 +1,6 @@
 -- Code that names only what is there.
-use Rattle.std.specs.Prelude.{ℕ, ◌+◌, ◌<◌}
-use Rattle.mh_tree.specs.Code.{Code, leaf, apply, bind, branch, switch}
+use Rattle.std.specs.Prelude.{ℕ, ◌+◌, ◌<◌, List, [], ◌∷◌, length}
+use Rattle.mh_tree.specs.Code.{Code, leaf, apply, bind, branch, switch, call}
 use Rattle.mh_tree.specs.declared.operand.Operand.{Operand}
 use Rattle.mh_tree.specs.declared.operand.Operand.TheVariants.{Argument, Local, Constant}
 
@@ -10,10 +10,16 @@ IsIn n d (Argument i) = i < n
 IsIn n d (Local i) = i < d
 IsIn n d (Constant x) = Unit {0}
 
--- the same of code, which names some of k points
-abbrev pub IsScoped : ℕ → ℕ → ℕ → Code → Type 0
-IsScoped k n d (leaf s o) = IsIn n d o
-IsScoped k n d (apply s op x y) = IsIn n d x × IsIn n d y
-IsScoped k n d (bind s f g) = IsScoped k n d f × IsScoped k n (d + 1) g
-IsScoped k n d (branch s c x y) = IsScoped k n d c × IsScoped k n d x × IsScoped k n d y
-IsScoped k n d (switch s p x y) = (p < k) × IsScoped k n d x × IsScoped k n d y
+-- the same of each operand
+abbrev pub AllIn : ℕ → ℕ → List Operand → Type 0
+AllIn n d [] = Unit {0}
+AllIn n d (o ∷ rest) = IsIn n d o × AllIn n d rest
+
+-- The same of code, which names some of k points. It invokes sites as C allows, a site with a number of arguments.
+abbrev pub IsScoped : (ℕ → ℕ → Type 0) → ℕ → ℕ → ℕ → Code → Type 0
+IsScoped C k n d (leaf s o) = IsIn n d o
+IsScoped C k n d (apply s op x y) = IsIn n d x × IsIn n d y
+IsScoped C k n d (bind s f g) = IsScoped C k n d f × IsScoped C k n (d + 1) g
+IsScoped C k n d (branch s c x y) = IsScoped C k n d c × IsScoped C k n d x × IsScoped C k n d y
+IsScoped C k n d (switch s p x y) = (p < k) × IsScoped C k n d x × IsScoped C k n d y
+IsScoped C k n d (call s site os) = C site (length os) × AllIn n d os

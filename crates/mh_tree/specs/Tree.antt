@@ -1,4 +1,4 @@
--- Handle trees as plain data: one case for each combinator (`java.lang.invoke.MethodHandles` and `SwitchPoint`, Java SE 17).
+-- Handle trees as plain data: one case for each combinator (`java.lang.invoke.MethodHandles`, `SwitchPoint` and `MutableCallSite`, Java SE 17).
 use Rattle.std.specs.Prelude.{ℕ, List, [], ◌∷◌, Option, Some, None}
 use Rattle.mh_type.specs.declared.kind.Kind.{Kind}
 use Rattle.mh_type.specs.declared.operation.Op.{Op}
@@ -29,6 +29,8 @@ mutual
     guard : Tree → Tree → Tree → Tree
     -- `SwitchPoint.guardWithTest`: point, target, fallback
     point : ℕ → Tree → Tree → Tree
+    -- `MutableCallSite.dynamicInvoker`: site, type
+    invoke : ℕ → Signature → Tree
 
   -- a filter, or none, at each place
   pub data Filters : Type 0 where

@@ -9,7 +9,7 @@ use Rattle.mh_type.specs.contracts.value.Value as value
 use Rattle.mh_type.specs.contracts.method_type.MethodType as method_type
 use Rattle.mh_type.specs.Signature.{Signature}
 use Rattle.mh_tree.specs.Handle.{TypedTree}
-use Rattle.mh_tree.specs.Tree.{Tree, Filters, constant, identity, operation, insert, discard, permute, filter, filter_return, fold, guard, point, no_more, absent, present}
+use Rattle.mh_tree.specs.Tree.{Tree, Filters, constant, identity, operation, insert, discard, permute, filter, filter_return, fold, guard, point, invoke, no_more, absent, present}
 
 abbrev left : Gv → Gv
 left gnil = gnil
@@ -39,6 +39,7 @@ abbrev mutual
   tree_code (fold t c) = gcons (gnum 8) (gcons (tree_code t) (tree_code c))
   tree_code (guard c x y) = gcons (gnum 9) (gcons (tree_code c) (gcons (tree_code x) (tree_code y)))
   tree_code (point p x y) = gcons (gnum 10) (gcons (gnum p) (gcons (tree_code x) (tree_code y)))
+  tree_code (invoke s m) = gcons (gnum 11) (gcons (gnum s) (method_type.the_row.coded.code m))
 
   pub filters_code : Filters → Gv
   filters_code no_more = gcons (gnum 0) gnil
@@ -77,6 +78,7 @@ mutual
       λ i. guard (tree_inj c d (ap second p) i) (tree_inj x z (ap third p) i) (tree_inj y w (ap rest p) i)
   tree_inj (point m x y) (point n z w) p =
       λ i. point (ap (λ g. number (second g)) p i) (tree_inj x z (ap third p) i) (tree_inj y w (ap rest p) i)
+  tree_inj (invoke s m) (invoke r n) p = λ i. invoke (ap (λ g. number (second g)) p i) (method_type.the_row.coded.inj m n (ap (λ g. right (right g)) p) i)
   tree_inj x y p = other _ _ p (λ h. omega arith)
 
   pub filters_inj : (x y : Filters) → filters_code x ≡ filters_code y → x ≡ y

@@ -4,7 +4,7 @@ use Rattle.mh_type.specs.declared.kind.Kind.{Kind}
 use Rattle.mh_type.specs.Kinds.{kind_of}
 use Rattle.mh_type.specs.Operations.{op_signature}
 use Rattle.mh_type.specs.Signature.{Signature, with_parameters, without_parameters}
-use Rattle.mh_tree.specs.Tree.{Tree, Filters, constant, identity, operation, insert, discard, permute, filter, filter_return, fold, guard, point, no_more, absent, present}
+use Rattle.mh_tree.specs.Tree.{Tree, Filters, constant, identity, operation, insert, discard, permute, filter, filter_return, fold, guard, point, invoke, no_more, absent, present}
 use Rattle.mh_tree.specs.Typing.{kind_at}
 
 abbrev mutual
@@ -21,6 +21,7 @@ abbrev mutual
   type_of (fold t c) = record { ret = (type_of t).ret; parameters = without_parameters (type_of t).parameters 0 1 }
   type_of (guard c x y) = type_of x
   type_of (point p x y) = type_of x
+  type_of (invoke s n) = n
 
   -- the kinds after the filters of the places from p on: each filter's parameter stands in its place
   pub filtered_kinds : Filters → ℕ → List Kind → List Kind

@@ -1,5 +1,5 @@
--- Which type a tree has, by one case for each combinator (the type conditions in `java.lang.invoke.MethodHandles`
--- and `SwitchPoint`, Java SE 17). A type has at most 16 parameters.
+-- Which type a tree has, by one case for each combinator (the type conditions in `java.lang.invoke.MethodHandles`,
+-- `SwitchPoint` and `MutableCallSite`, Java SE 17). A type has at most 16 parameters.
 use Rattle.std.specs.Prelude.{◌≡◌, ℕ, ◌+◌, ◌<◌, ◌≤◌, List, [], ◌∷◌, take, drop, map, length, slice_index_or}
 use Rattle.std.specs.List.{All}
 use Rattle.mh_type.specs.declared.kind.Kind.{Kind}
@@ -8,7 +8,7 @@ use Rattle.mh_type.specs.declared.value.Value.{Value}
 use Rattle.mh_type.specs.Kinds.{kind_of}
 use Rattle.mh_type.specs.Operations.{op_signature}
 use Rattle.mh_type.specs.Signature.{Signature, with_parameters, without_parameters}
-use Rattle.mh_tree.specs.Tree.{Tree, Filters, constant, identity, operation, insert, discard, permute, filter, filter_return, fold, guard, point, no_more, absent, present}
+use Rattle.mh_tree.specs.Tree.{Tree, Filters, constant, identity, operation, insert, discard, permute, filter, filter_return, fold, guard, point, invoke, no_more, absent, present}
 use Rattle.mh_type.specs.Limits.{most_parameters}
 
 -- a list begins with another
@@ -59,6 +59,7 @@ abbrev mutual
       (ks : List Kind) × IsTyped c (record { ret = kind.Boolean; parameters = ks }) × BeginsWith m.parameters ks
       × IsTyped x m × IsTyped y m
   IsTyped (point p x y) m = IsTyped x m × IsTyped y m
+  IsTyped (invoke s n) m = (length n.parameters ≤ most_parameters) × (m ≡ n)
 
   -- filters over the target's parameters from their first place on, and the parameters that come in their stead
   -- (`MethodHandles.filterArguments`): a filter has one parameter, and returns the kind that it stands for

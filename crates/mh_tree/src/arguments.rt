@@ -45,7 +45,15 @@ impl Handle {
             values: copy_values(alloc, values).map_err(|_| TreeFault::NoMemory)?,
         };
         let (depth, size) = (1 + target.depth(), 1 + target.size());
-        Handle::of(alloc, root, method_type, depth, size, target.point_bound())
+        Handle::of(
+            alloc,
+            root,
+            method_type,
+            depth,
+            size,
+            target.point_bound(),
+            target.site_bound(),
+        )
     }
 
     /// The target behind parameters that are discarded (`MethodHandles.dropArguments`).
@@ -76,7 +84,15 @@ impl Handle {
             kinds: kinds.to_vec(alloc).map_err(|_| TreeFault::NoMemory)?,
         };
         let (depth, size) = (1 + target.depth(), 1 + target.size());
-        Handle::of(alloc, root, method_type, depth, size, target.point_bound())
+        Handle::of(
+            alloc,
+            root,
+            method_type,
+            depth,
+            size,
+            target.point_bound(),
+            target.site_bound(),
+        )
     }
 }
 

@@ -48,7 +48,10 @@ impl Handle {
         let bound = test
             .point_bound()
             .max(target.point_bound().max(fallback.point_bound()));
-        Handle::of(alloc, root, method_type, depth, size, bound)
+        let sites = test
+            .site_bound()
+            .max(target.site_bound().max(fallback.site_bound()));
+        Handle::of(alloc, root, method_type, depth, size, bound, sites)
     }
 
     /// The target while a point is valid, and else the fallback (`SwitchPoint.guardWithTest`).
@@ -81,7 +84,8 @@ impl Handle {
         let depth = 1 + target.depth().max(fallback.depth());
         let size = 1 + (target.size() + fallback.size());
         let bound = (point as usize + 1).max(target.point_bound().max(fallback.point_bound()));
-        Handle::of(alloc, root, method_type, depth, size, bound)
+        let sites = target.site_bound().max(fallback.site_bound());
+        Handle::of(alloc, root, method_type, depth, size, bound, sites)
     }
 }
 

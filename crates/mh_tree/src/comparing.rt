@@ -13,7 +13,8 @@ pub(crate) fn same_tree(one: &Node, other: &Node) -> bool
     ensures same { IsTrue result → tree_of one.now ≡ tree_of other.now }
 {
     match one {
-        Node::Constant(_) | Node::Identity(_) | Node::Operation(_) => same_leaf(one, other),
+        Node::Constant(_) | Node::Identity(_) | Node::Operation(_) | Node::Invoke { .. } =>
+            same_leaf(one, other),
         Node::Insert { .. } | Node::Drop { .. } | Node::Permute { .. } => same_moved(one, other),
         Node::Filter { .. } | Node::FilterReturn { .. } | Node::Fold { .. } => {
             same_composed(one, other)
@@ -30,6 +31,13 @@ fn same_leaf(one: &Node, other: &Node) -> bool
         (Node::Constant(value), Node::Constant(another)) => same_value(value, another),
         (Node::Identity(kind), Node::Identity(another)) => kind.is(*another),
         (Node::Operation(op), Node::Operation(another)) => *op == *another,
+        (
+            Node::Invoke { site, method_type },
+            Node::Invoke {
+                site: another,
+                method_type: other_type,
+            },
+        ) => *site == *another && method_type.equals(other_type),
         _ => false,
     }
 }

@@ -4,7 +4,7 @@ ghost use Rattle.std.specs.Prelude.{◌≡◌, ◌+◌, ◌*◌, ◌≤◌, ◌+
 ghost use Rattle.std.specs.List.{All, list_all};
 ghost use Rattle.mh_base.specs.Tests.{Refuses};
 ghost use Rattle.mh_tree.specs.Constructors.{refusals, filter_made, filter_return_made, is_unary, return_kinds as kinds_returned, taken_kinds, plain_filters};
-ghost use Rattle.mh_tree.specs.Limits.{deepest as deepest_tree, total_size as total_of, greatest_bound as greatest_of, greatest_depth, most_nodes};
+ghost use Rattle.mh_tree.specs.Limits.{deepest as deepest_tree, total_size as total_of, greatest_bound as greatest_of, greatest_site as greatest_site_of, greatest_depth, most_nodes};
 ghost use Rattle.mh_tree.specs.TreeOf.{filter_trees};
 ghost use Rattle.mh_tree.specs.Handle.{IsSound};
 ghost use Rattle.mh_tree.specs.Tree.{filter as filter_tree, filter_return as filter_return_tree};
@@ -56,7 +56,8 @@ impl Handle {
         let depth = 1 + target.depth().max(deepest(filters));
         let size = 1 + (target.size() + total_size(filters));
         let bound = target.point_bound().max(greatest_bound(filters));
-        Handle::of(alloc, root, method_type, depth, size, bound)
+        let sites = target.site_bound().max(greatest_site(filters));
+        Handle::of(alloc, root, method_type, depth, size, bound, sites)
     }
 
     /// The filter of what the target gives (`MethodHandles.filterReturnValue`).
@@ -88,7 +89,8 @@ impl Handle {
         let depth = 1 + target.depth().max(filter.depth());
         let size = 1 + (target.size() + filter.size());
         let bound = target.point_bound().max(filter.point_bound());
-        Handle::of(alloc, root, method_type, depth, size, bound)
+        let sites = target.site_bound().max(filter.site_bound());
+        Handle::of(alloc, root, method_type, depth, size, bound, sites)
     }
 }
 
@@ -233,6 +235,19 @@ fn greatest_bound(filters: &[Option<Handle>]) -> usize
     for filter in filters {
         if let Some(filter) = filter {
             greatest = greatest.max(filter.point_bound());
+        }
+    }
+    greatest
+}
+
+// The greatest site bound of the filters, or 0.
+fn greatest_site(filters: &[Option<Handle>]) -> usize
+    ensures value { result ≡ greatest_site_of (plain_filters filters.now) }
+{
+    let mut greatest = 0;
+    for filter in filters {
+        if let Some(filter) = filter {
+            greatest = greatest.max(filter.site_bound());
         }
     }
     greatest

@@ -41,7 +41,8 @@ impl Handle {
         let depth = 1 + target.depth().max(combiner.depth());
         let size = 1 + (target.size() + combiner.size());
         let bound = target.point_bound().max(combiner.point_bound());
-        Handle::of(alloc, root, method_type, depth, size, bound)
+        let sites = target.site_bound().max(combiner.site_bound());
+        Handle::of(alloc, root, method_type, depth, size, bound, sites)
     }
 }
 

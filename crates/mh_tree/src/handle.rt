@@ -4,7 +4,7 @@ ghost use Rattle.std.specs.Prelude.{◌≡◌, ◌≤◌, IfOk, IfErr};
 ghost use Rattle.std.specs.Arc.{arc_value};
 ghost use Rattle.mh_tree.specs.Handle.{TypedTree, IsSound};
 ghost use Rattle.mh_tree.specs.TreeOf.{tree_of};
-ghost use Rattle.mh_tree.specs.Limits.{depth as tree_depth, size as tree_size, point_bound as tree_point_bound, greatest_depth, most_nodes};
+ghost use Rattle.mh_tree.specs.Limits.{depth as tree_depth, size as tree_size, point_bound as tree_point_bound, site_bound as tree_site_bound, greatest_depth, most_nodes};
 
 use crate::fault::TreeFault;
 use crate::measures::{Measures, measure};
@@ -24,6 +24,7 @@ pub(crate) struct Rooted {
     pub(crate) depth: usize,
     pub(crate) size: usize,
     pub(crate) point_bound: usize,
+    pub(crate) site_bound: usize,
 }
 
 /// A shared tree that is well typed, at most 96 deep and of at most 262,144 nodes. A clone of it is
@@ -65,11 +66,13 @@ impl Handle {
         depth: usize,
         size: usize,
         point_bound: usize,
+        site_bound: usize,
     ) -> Result<Handle, TreeFault>
         requires sound { IsSound (tree_of root) method_type }
         requires deep { depth ≡ tree_depth (tree_of root) }
         requires large { size ≡ tree_size (tree_of root) }
         requires bound { point_bound ≡ tree_point_bound (tree_of root) }
+        requires sites { site_bound ≡ tree_site_bound (tree_of root) }
         ensures value { IfOk result (λ h. h ≡ record
             { tree = tree_of root; signature = method_type }) }
         ensures refused { IfErr result (λ e. e ≡ TreeFault.NoMemory) }
@@ -79,6 +82,7 @@ impl Handle {
             depth,
             size,
             point_bound,
+            site_bound,
         };
         Handle::owning(alloc, root, method_type, measures)
     }
@@ -94,6 +98,7 @@ impl Handle {
         requires deep { measures.depth ≡ tree_depth (tree_of (arc_value root)) }
         requires large { measures.size ≡ tree_size (tree_of (arc_value root)) }
         requires bound { measures.point_bound ≡ tree_point_bound (tree_of (arc_value root)) }
+        requires sites { measures.site_bound ≡ tree_site_bound (tree_of (arc_value root)) }
         ensures value { IfOk result (λ h. h ≡ record
             { tree = tree_of (arc_value root); signature = method_type }) }
         ensures refused { IfErr result (λ e. e ≡ TreeFault.NoMemory) }
@@ -102,6 +107,7 @@ impl Handle {
             depth,
             size,
             point_bound,
+            site_bound,
         } = measures;
         let rooted = Rooted {
             alloc,
@@ -110,6 +116,7 @@ impl Handle {
             depth,
             size,
             point_bound,
+            site_bound,
         };
         let shared = Arc::new(alloc, rooted).map_err(|_| TreeFault::NoMemory)?;
         Ok(Handle { shared })
@@ -198,5 +205,13 @@ impl Handle {
     {
         let shared = &self.shared;
         shared.point_bound
+    }
+
+    /// One more than the greatest site named, or 0.
+    pub fn site_bound(&self) -> usize
+        ensures value { result ≡ tree_site_bound self.now.tree }
+    {
+        let shared = &self.shared;
+        shared.site_bound
     }
 }

@@ -1,7 +1,7 @@
-//! The constructors of leaves: a value, an argument, an operation.
+//! The constructors of leaves: a value, an argument, an operation, a site.
 
 ghost use Rattle.std.specs.Prelude.{◌≡◌, IfOk, IfErr};
-ghost use Rattle.mh_tree.specs.Constructors.{constant_made, identity_made, op_made};
+ghost use Rattle.mh_tree.specs.Constructors.{constant_made, identity_made, op_made, invoke_made};
 
 use crate::fault::TreeFault;
 use crate::handle::Handle;
@@ -25,7 +25,7 @@ impl Handle {
     {
         let method_type = MethodType::nullary(value.kind());
         let value = value.share().map_err(|_| TreeFault::NoMemory)?;
-        Handle::of(alloc, Node::Constant(value), method_type, 1, 1, 0)
+        Handle::of(alloc, Node::Constant(value), method_type, 1, 1, 0, 0)
     }
 
     /// A handle that gives its argument (`MethodHandles.identity`).
@@ -48,6 +48,7 @@ impl Handle {
             1,
             1,
             0,
+            0,
         )
     }
 
@@ -65,6 +66,29 @@ impl Handle {
         ensures value { IfOk result (λ h. h ≡ op_made op) }
         ensures refused { IfErr result (λ e. e ≡ TreeFault.NoMemory) }
     {
-        Handle::of(alloc, Node::Operation(op), op.op_type(), 1, 1, 0)
+        Handle::of(alloc, Node::Operation(op), op.op_type(), 1, 1, 0, 0)
+    }
+
+    /// A handle that invokes the current target of a site (`MutableCallSite.dynamicInvoker`).
+    ///
+    /// *Type*: the given one, which is to be the site's.
+    ///
+    /// *Pseudo-code*: `adapter(arguments..) = sites[site].target(arguments..)`. A throw of the
+    /// target is the outcome.
+    ///
+    /// *Example*: where the target of site 0 is `ineg`, the handle of site 0 and the type
+    /// `(int)int` gives `int -5` on `int 5` in two steps, one of its own and one of the target.
+    ///
+    /// *Refusals*: `NoMemory` alone.
+    pub fn invoke(alloc: Global, site: u32, method_type: &MethodType) -> Result<Handle, TreeFault>
+        ensures value { IfOk result (λ h. h ≡ invoke_made site method_type.now) }
+        ensures refused { IfErr result (λ e. e ≡ TreeFault.NoMemory) }
+    {
+        let root = Node::Invoke {
+            site,
+            method_type: method_type.copy(),
+        };
+        let bound = site as usize + 1;
+        Handle::of(alloc, root, method_type.copy(), 1, 1, 0, bound)
     }
 }

@@ -1,30 +1,32 @@
-//! What is kept beside a tree: its depth, its size and its point bound.
+//! The measures kept beside a tree: its depth, its size, its point bound and its site bound.
 
 ghost use Rattle.std.specs.Prelude.{◌≡◌, ◌+◌, ◌≤◌, ◌<◌, max};
-ghost use Rattle.mh_tree.specs.Limits.{depth, size, point_bound, deepest, total_size, greatest_bound, most_nodes, greatest_depth};
+ghost use Rattle.mh_tree.specs.Limits.{depth, size, point_bound, site_bound, deepest, total_size, greatest_bound, greatest_site, most_nodes, greatest_depth};
 ghost use Rattle.mh_tree.specs.Tree.{filters_of};
 ghost use Rattle.mh_tree.specs.TreeOf.{tree_of, filter_trees};
 
 use crate::node::Node;
 use std::sync::Arc;
 
-// The depth, the size and the point bound of a tree, or of several.
+// The depth, the size, the point bound and the site bound of a tree, or of several.
 #[derive(Clone, Copy)]
 pub(crate) struct Measures {
     pub(crate) depth: usize,
     pub(crate) size: usize,
     pub(crate) point_bound: usize,
+    pub(crate) site_bound: usize,
 }
 
 impl Measures {
     // Of no tree.
     fn nothing() -> Measures
-        ensures value { result ≡ record { depth = 0; size = 0; point_bound = 0 } }
+        ensures value { result ≡ record { depth = 0; size = 0; point_bound = 0; site_bound = 0 } }
     {
         Measures {
             depth: 0,
             size: 0,
             point_bound: 0,
+            site_bound: 0,
         }
     }
 
@@ -36,16 +38,18 @@ impl Measures {
           size = self.size
               + others.size;
           point_bound = max self.point_bound others.point_bound;
+          site_bound = max self.site_bound others.site_bound;
         } }
     {
         Measures {
             depth: self.depth.max(others.depth),
             size: self.size + others.size,
             point_bound: self.point_bound.max(others.point_bound),
+            site_bound: self.site_bound.max(others.site_bound),
         }
     }
 
-    // Of a node over these trees.
+    // Measures of a node with these children.
     fn over(self) -> Measures
         requires few { self.size < most_nodes }
         requires shallow { self.depth < greatest_depth }
@@ -54,16 +58,18 @@ impl Measures {
           size = 1
               + self.size;
           point_bound = self.point_bound;
+          site_bound = self.site_bound;
         } }
     {
         Measures {
             depth: 1 + self.depth,
             size: 1 + self.size,
             point_bound: self.point_bound,
+            site_bound: self.site_bound,
         }
     }
 
-    // Of a point over these trees.
+    // Measures of a point with these children.
     fn over_point(self, point: u32) -> Measures
         requires few { self.size < most_nodes }
         requires shallow { self.depth < greatest_depth }
@@ -72,17 +78,37 @@ impl Measures {
           size = 1
               + self.size;
           point_bound = max (point + 1) self.point_bound;
+          site_bound = self.site_bound;
         } }
     {
         let Measures {
             depth,
             size,
             point_bound,
+            site_bound,
         } = self.over();
         Measures {
             depth,
             size,
             point_bound: (point as usize + 1).max(point_bound),
+            site_bound,
+        }
+    }
+
+    // Measures of an invocation.
+    fn of_site(site: u32) -> Measures
+        ensures value { result ≡ record {
+          depth = 1;
+          size = 1;
+          point_bound = 0;
+          site_bound = site + 1;
+        } }
+    {
+        Measures {
+            depth: 1,
+            size: 1,
+            point_bound: 0,
+            site_bound: site as usize + 1,
         }
     }
 }
@@ -97,6 +123,7 @@ pub(crate) fn measure(node: &Node) -> Measures
       size = size
           (tree_of node.now);
       point_bound = point_bound (tree_of node.now);
+      site_bound = site_bound (tree_of node.now);
     } }
 {
     match node {
@@ -124,6 +151,7 @@ pub(crate) fn measure(node: &Node) -> Measures
             target,
             fallback,
         } => measure(target).and(measure(fallback)).over_point(*point),
+        Node::Invoke { site, .. } => Measures::of_site(*site),
     }
 }
 
@@ -138,6 +166,8 @@ fn measure_filters(filters: &[Option<Arc<Node>>]) -> Measures
       size = total_size
           (filters_of (filter_trees filters.now));
       point_bound = greatest_bound
+          (filters_of (filter_trees filters.now));
+      site_bound = greatest_site
           (filters_of (filter_trees filters.now));
     } }
 {

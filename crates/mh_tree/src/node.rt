@@ -69,6 +69,11 @@ pub enum Node {
         target: Arc<Node>,
         fallback: Arc<Node>,
     },
+    /// `MutableCallSite.dynamicInvoker`.
+    Invoke {
+        site: u32,
+        method_type: MethodType,
+    },
 }
 
 impl Node {
@@ -85,7 +90,8 @@ impl Node {
     // Whether it has no parts.
     pub(crate) fn is_leaf(&self) -> bool {
         match self {
-            Node::Constant(_) | Node::Identity(_) | Node::Operation(_) => true,
+            Node::Constant(_) | Node::Identity(_) | Node::Operation(_) | Node::Invoke { .. } =>
+                true,
             _ => false,
         }
     }
@@ -116,6 +122,7 @@ impl Node {
                 made
             }
             Node::Permute { new_type, .. } => new_type.copy(),
+            Node::Invoke { method_type, .. } => method_type.copy(),
             Node::Filter {
                 target,
                 position,

@@ -50,6 +50,12 @@ pub enum Piece {
         fallback: Arc<Piece>,
         steps: u32,
     },
+    /// An invocation of a site on operands, at most 16 of them.
+    Invoke {
+        site: u32,
+        operands: Vec<Operand>,
+        steps: u32,
+    },
 }
 
 /// A test whether an int argument is one number, the test of most inline caches: the operation

@@ -7,14 +7,14 @@ ghost use Rattle.mh_tree.specs.Limits.{size, total_size, most_nodes};
 ghost use Rattle.mh_tree.specs.Tree.{filters_of};
 ghost use Rattle.mh_tree.specs.TreeOf.{tree_of, filter_trees};
 ghost use Rattle.mh_tree.specs.CodeOf.{code_of};
-ghost use Rattle.mh_tree.specs.Code.{leaf as leaf_code, apply as apply_code, bind as bind_code, branch as branch_code, switch as switch_code};
+ghost use Rattle.mh_tree.specs.Code.{leaf as leaf_code, apply as apply_code, bind as bind_code, branch as branch_code, switch as switch_code, call as call_code};
 ghost use Rattle.mh_tree.specs.Prepared.{operand_at, prepared, prepared_filters};
 ghost use Rattle.mh_tree.specs.declared.operand.Operand.TheVariants.{Constant, Local};
 
 use crate::code_cache::CodeCache;
 use crate::node::Node;
 use crate::operand::Operand;
-use crate::operands::{at, local_first, parts, put_in, reordered, taken_out, with_local};
+use crate::operands::{at, copied, local_first, parts, put_in, reordered, taken_out, with_local};
 use crate::piece::{KeyTest, Piece};
 use mh_base::NoMemory;
 use mh_type::{Op, Value};
@@ -136,6 +136,10 @@ fn prepare_node(
             target,
             fallback,
         } => prepare_point(cache, *point, target, fallback, operands, depth, before + 1),
+        Node::Invoke { site, method_type } => {
+            let count = method_type.count();
+            invoke(alloc, *site, count, operands, before + 1)
+        }
     }
 }
 
@@ -166,6 +170,26 @@ fn apply(alloc: Global, op: Op, operands: &[Operand], steps: u32) -> Result<Arc<
         op,
         first: at(read, 0)?,
         second: at(read, 1)?,
+        steps,
+    };
+    owned(alloc, piece)
+}
+
+// An invocation of a site on as many of the operands.
+fn invoke(
+    alloc: Global,
+    site: u32,
+    count: usize,
+    operands: &[Operand],
+    steps: u32,
+) -> Result<Arc<Piece>, NoMemory>
+    ensures value { IfOk result (λ c. code_of (arc_value c)
+        ≡ call_code steps site (take count operands.now)) }
+{
+    let operands = copied(alloc, parts(operands, count).0)?;
+    let piece = Piece::Invoke {
+        site,
+        operands,
         steps,
     };
     owned(alloc, piece)

@@ -47,7 +47,15 @@ impl Handle {
             reorder: reorder.to_vec(alloc).map_err(|_| TreeFault::NoMemory)?,
         };
         let (depth, size) = (1 + target.depth(), 1 + target.size());
-        Handle::of(alloc, root, method_type, depth, size, target.point_bound())
+        Handle::of(
+            alloc,
+            root,
+            method_type,
+            depth,
+            size,
+            target.point_bound(),
+            target.site_bound(),
+        )
     }
 }
 

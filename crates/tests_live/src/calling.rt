@@ -9,7 +9,7 @@ use std::sync::Wait;
 #[derive(Clone, Copy, Debug, PartialEq, Eq)]
 pub(crate) struct CallAnswer {
     value: Option<i32>,
-    steps: u64,
+    steps: u128,
     front: u64,
 }
 
@@ -21,7 +21,7 @@ impl CallAnswer {
 }
 
 /// What a call is to give.
-pub(crate) fn given(value: i32, steps: u64, front: u64) -> CallAnswer {
+pub(crate) fn given(value: i32, steps: u128, front: u64) -> CallAnswer {
     CallAnswer {
         value: Some(value),
         steps,

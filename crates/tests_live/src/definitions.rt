@@ -65,6 +65,7 @@ fn site_of(alloc: Global, target: Declared, links: Vec<Link>) -> Result<Listing<
     sites.push(Site {
         name: Name::new(alloc, "f")?,
         method_type: MethodType::new(Kind::Int, &[Kind::Int])?,
+        level: 0,
         key: Some(0),
         target,
         links: Listing::from_vec(links),
@@ -83,6 +84,44 @@ fn plain(alloc: Global) -> Result<Definition, Fail> {
         Listing::from_vec(Vec::new(alloc)),
         sites,
     )?;
+    Ok(made)
+}
+
+/// A site of the type (int)int without links.
+fn bare_site(alloc: Global, name: &str, level: u64, target: Declared) -> Result<Site, Fail> {
+    Ok(Site {
+        name: Name::new(alloc, name)?,
+        method_type: MethodType::unary(Kind::Int, Kind::Int),
+        level,
+        key: None,
+        target,
+        links: Listing::from_vec(Vec::new(alloc)),
+    })
+}
+
+/// The invocation of a site of the type (int)int.
+fn invocation(alloc: Global, site: u32) -> Result<Declared, Fail> {
+    let method_type = MethodType::unary(Kind::Int, Kind::Int);
+    Ok(Declared::new(&Handle::invoke(alloc, site, &method_type)?)?)
+}
+
+/// The site f with a link for 1 that gains 3, which invokes g, which invokes h, which negates.
+fn invoking(alloc: Global) -> Result<Definition, Fail> {
+    let mut links = Vec::new(alloc);
+    links.push(link(alloc, 1, 3, &[])?)?;
+    let mut sites = Vec::new(alloc);
+    sites.push(Site {
+        name: Name::new(alloc, "f")?,
+        method_type: MethodType::unary(Kind::Int, Kind::Int),
+        level: 2,
+        key: Some(0),
+        target: invocation(alloc, 1)?,
+        links: Listing::from_vec(links),
+    })?;
+    sites.push(bare_site(alloc, "g", 1, invocation(alloc, 2)?)?)?;
+    sites.push(bare_site(alloc, "h", 0, negation(alloc)?)?)?;
+    let points = Listing::from_vec(Vec::new(alloc));
+    let made = Definition::new(alloc, Version::Two, points, Listing::from_vec(sites))?;
     Ok(made)
 }
 
@@ -125,6 +164,20 @@ pub(crate) fn open_plain(
 {
     let limits = limits(history, ledger, 1 << 30)?;
     Ok(Opening::new(alloc, &plain(alloc)?, workers, limits)?)
+}
+
+/// The same of the negation two invocations below the site 0.
+pub(crate) fn open_invoking(
+    alloc: Global,
+    workers: u32,
+    history: u64,
+    ledger: u64,
+) -> Result<Opening, Fail>
+    requires some { 0 < workers }
+    requires few { workers ≤ 64 }
+{
+    let limits = limits(history, ledger, 1 << 30)?;
+    Ok(Opening::new(alloc, &invoking(alloc)?, workers, limits)?)
 }
 
 /// Opens the guarded tree for two workers, with room for so many events.

@@ -17,7 +17,7 @@ fn links(alloc: Global) -> Result<Vec<Link>, Fail> {
 }
 
 /// Two points, and a site with this link.
-fn definition(alloc: Global) -> Result<Definition, Fail> {
+pub(crate) fn definition(alloc: Global) -> Result<Definition, Fail> {
     let points = two_points(alloc)?;
     let mut sites = Vec::new(alloc);
     let target = tree_of(alloc, Op::Ineg)?;
@@ -27,7 +27,7 @@ fn definition(alloc: Global) -> Result<Definition, Fail> {
 }
 
 /// A book of one worker, and its ledger.
-fn open(alloc: Global) -> Result<(Book, Ledger), Fail> {
+pub(crate) fn open(alloc: Global) -> Result<(Book, Ledger), Fail> {
     let limits = limits(9, 9, 9)?;
     let definition = definition(alloc)?;
     let (book, mut ledgers) = Book::open(alloc, &definition, 1, limits)?;
@@ -38,7 +38,7 @@ fn open(alloc: Global) -> Result<(Book, Ledger), Fail> {
 }
 
 /// The link, its point, this value, and all of the point's cost carried.
-fn plan(alloc: Global, value: i64) -> Result<SharedPlan, Fail> {
+pub(crate) fn plan(alloc: Global, value: i64) -> Result<SharedPlan, Fail> {
     let plan = Plan {
         links: Listing::from_vec(Vec::from_slice(alloc, &[0])?),
         points: Listing::from_vec(Vec::from_slice(alloc, &[0])?),
@@ -119,7 +119,7 @@ fn count_two_hits(book: &mut Book, ledger: &mut Ledger) -> Result<(), Fail> {
 }
 
 /// A book with a snapshot of two hits.
-fn open_with_a_snapshot(alloc: Global) -> Result<Book, Fail> {
+pub(crate) fn open_with_a_snapshot(alloc: Global) -> Result<Book, Fail> {
     let (mut book, mut ledger) = open(alloc)?;
     count_two_hits(&mut book, &mut ledger)?;
     Ok(book)

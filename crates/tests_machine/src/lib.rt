@@ -10,6 +10,10 @@ mod books;
 #[cfg(test)]
 mod definitions;
 #[cfg(test)]
+mod events;
+#[cfg(test)]
+mod invocations;
+#[cfg(test)]
 mod ledger;
 #[cfg(test)]
 mod machines;

@@ -41,6 +41,7 @@ pub(crate) fn plain_site(alloc: Global, name: &str, kind: Kind, op: Op) -> Resul
     Ok(Site {
         name: Name::new(alloc, name)?,
         method_type: MethodType::unary(kind, Kind::Int),
+        level: 0,
         key: None,
         target: tree_of(alloc, op)?,
         links: Listing::from_vec(Vec::new(alloc)),
@@ -57,6 +58,7 @@ pub(crate) fn linked_site(
     Ok(Site {
         name: Name::new(alloc, name)?,
         method_type: MethodType::new(Kind::Int, &[Kind::Int])?,
+        level: 0,
         key: Some(0),
         target,
         links: Listing::from_vec(links),

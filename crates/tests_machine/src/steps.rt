@@ -79,7 +79,7 @@ fn plan(alloc: Global) -> Result<SharedPlan, Fail> {
 }
 
 /// The steps of a call with this argument.
-fn call(machine: &mut Machine, argument: i32) -> Result<u64, Fail> {
+fn call(machine: &mut Machine, argument: i32) -> Result<u128, Fail> {
     match machine.step(Event::Call {
         worker: 0,
         site: 0,
@@ -124,23 +124,23 @@ fn call_and_install(machine: &mut Machine, alloc: Global) -> Result<(), Fail> {
 }
 
 /// The steps of calls with 1, 2 and 3.
-fn steps(machine: &mut Machine) -> Result<[u64; 3], Fail> {
+fn steps(machine: &mut Machine) -> Result<[u128; 3], Fail> {
     Ok([call(machine, 1)?, call(machine, 2)?, call(machine, 3)?])
 }
 
 /// The steps of calls with 1, 2 and 3 after an installation.
-fn steps_after_an_installation(machine: &mut Machine, alloc: Global) -> Result<[u64; 3], Fail> {
+fn steps_after_an_installation(machine: &mut Machine, alloc: Global) -> Result<[u128; 3], Fail> {
     call_and_install(machine, alloc)?;
     steps(machine)
 }
 
-fn steps_of_a_cache(alloc: Global) -> Result<[u64; 3], Fail> {
+fn steps_of_a_cache(alloc: Global) -> Result<[u128; 3], Fail> {
     let mut machine = machine(alloc)?;
     steps_after_an_installation(&mut machine, alloc)
 }
 
 /// The steps of such calls before any.
-fn steps_of_the_base(alloc: Global) -> Result<[u64; 3], Fail> {
+fn steps_of_the_base(alloc: Global) -> Result<[u128; 3], Fail> {
     let mut machine = machine(alloc)?;
     steps(&mut machine)
 }
@@ -154,7 +154,7 @@ fn a_cache_takes_the_steps_of_its_tree(rt: HostRuntime) -> Result<(), Fail> {
 
 /// The steps of a call with 2 after the point 1 is invalid, and after another installation, which
 /// leaves its link out.
-fn steps_after_an_invalidation(machine: &mut Machine, alloc: Global) -> Result<[u64; 2], Fail> {
+fn steps_after_an_invalidation(machine: &mut Machine, alloc: Global) -> Result<[u128; 2], Fail> {
     call_and_install(machine, alloc)?;
     let points = Listing::from_vec(Vec::from_slice(alloc, &[1])?);
     machine.step(Event::Invalidate { points });
@@ -163,7 +163,7 @@ fn steps_after_an_invalidation(machine: &mut Machine, alloc: Global) -> Result<[
     Ok([behind_its_point, call(machine, 2)?])
 }
 
-fn steps_without_a_point(alloc: Global) -> Result<[u64; 2], Fail> {
+fn steps_without_a_point(alloc: Global) -> Result<[u128; 2], Fail> {
     let mut machine = machine(alloc)?;
     steps_after_an_invalidation(&mut machine, alloc)
 }

@@ -1,6 +1,6 @@
 //! The trees that the tests run, and what they give.
 
-use mh_eval::{Stack, evaluate, fits, run};
+use mh_eval::{Here, Stack, evaluate, fits, lawful, run};
 use mh_tree::{Handle, Prepared};
 use mh_type::{Kind, Op, Outcome, Throw, Value};
 use std::alloc::Global;
@@ -57,11 +57,11 @@ pub(crate) fn prepared_example(alloc: Global) -> Result<Prepared, Fail> {
 pub(crate) struct Given {
     int: Option<i32>,
     throw: Option<Throw>,
-    steps: u64,
+    steps: u128,
 }
 
 /// An int after so many steps.
-pub(crate) fn int(number: i32, steps: u64) -> Given {
+pub(crate) fn int(number: i32, steps: u128) -> Given {
     Given {
         int: Some(number),
         throw: None,
@@ -70,7 +70,7 @@ pub(crate) fn int(number: i32, steps: u64) -> Given {
 }
 
 /// A throw after so many steps.
-pub(crate) fn thrown(throw: Throw, steps: u64) -> Given {
+pub(crate) fn thrown(throw: Throw, steps: u128) -> Given {
     Given {
         int: None,
         throw: Some(throw),
@@ -79,7 +79,7 @@ pub(crate) fn thrown(throw: Throw, steps: u64) -> Given {
 }
 
 /// What an outcome is.
-fn read(outcome: &Outcome, steps: u64) -> Given {
+pub(crate) fn read(outcome: &Outcome, steps: u128) -> Given {
     let (int, throw) = match outcome {
         Outcome::Value(Value::Int(number)) => (Some(*number), None),
         Outcome::Value(_) => (None, None),
@@ -95,7 +95,7 @@ pub(crate) fn walked(
     handle: &Handle,
     arguments: &[Value],
 ) -> Result<Given, Fail> {
-    let (outcome, steps) = evaluate(alloc, valid, handle, arguments)?;
+    let (outcome, steps) = evaluate(alloc, valid, &[], &[], handle, arguments)?;
     Ok(read(&outcome, steps))
 }
 
@@ -113,6 +113,13 @@ pub(crate) fn ran(
     if handle.handle().point_bound() > valid.len() {
         return Err("a point is not there".into());
     }
-    let (outcome, steps) = run(stack, valid, handle, &arguments)?;
+    if !lawful(&[], &[], handle.handle()) {
+        return Err("a site is not there".into());
+    }
+    let here = Here {
+        valid,
+        targets: &[],
+    };
+    let (outcome, steps) = run(stack, &here, handle, &arguments)?;
     Ok(read(&outcome, steps))
 }

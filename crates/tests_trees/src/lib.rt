@@ -14,6 +14,8 @@ mod operations;
 #[cfg(test)]
 mod pic;
 #[cfg(test)]
+mod sites;
+#[cfg(test)]
 mod trees;
 #[cfg(test)]
 mod types;

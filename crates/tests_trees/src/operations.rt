@@ -39,7 +39,7 @@ fn given(alloc: Global, op: Op, arguments: &str) -> Result<String, Fail> {
     for text in arguments.split(' ') {
         values.push(argument(alloc, kind, text)?)?;
     }
-    let (outcome, _) = evaluate(alloc, &[], &handle, values.as_slice())?;
+    let (outcome, _) = evaluate(alloc, &[], &[], &[], &handle, values.as_slice())?;
     Ok(shown(alloc, &outcome)?)
 }
 

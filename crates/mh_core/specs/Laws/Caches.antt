@@ -1,4 +1,5 @@
--- The inline cache that a site runs: its links are the site's own, it names declared points alone, and it means what its base tree means.
+-- The inline cache that a site runs: its links are the site's own, it names declared points alone, it invokes sites as its base tree
+-- does, and it means what its base tree means.
 use Rattle.std.proofs.Common.{◌≡◌, ℕ, ◌+◌, ◌<◌, ◌≤◌, ◌==◌, Bool, true, false, cond, Option, Some, None, List, [], ◌∷◌, length, map, take, slice_index_or, refl, ap, sym, subst, ◌∙◌, arith}
 use Rattle.std.specs.List.{All}
 use Rattle.std.proofs.lemmas.List.Elements.{All-filter, All-map}
@@ -13,11 +14,12 @@ use Rattle.mh_tree.specs.Meaning.{mean}
 use Rattle.mh_tree.specs.Typing.{IsTyped, kind_at}
 use Rattle.mh_tree.specs.Laws.{few_parameters}
 use Rattle.mh_pic.specs.Chains.{PlainEntry, HaveKind, HaveNeedsBelow}
-use Rattle.mh_pic.specs.Laws.{chain_bound, chain_faithful}
+use Rattle.mh_pic.specs.Laws.{chain_bound, chain_faithful, chain_invokes}
 use Rattle.mh_site.specs.declared.link.Link.{Link}
 use Rattle.mh_site.specs.declared.site.Site.{Site}
 use Rattle.mh_site.specs.Defined.{DefinitionData, link_of, no_link, no_site, site_at}
-use Rattle.mh_site.specs.Lawful.{IsDefinition, IsLink}
+use Rattle.mh_site.specs.Invoking.{IsLower, IsOfType}
+use Rattle.mh_site.specs.Lawful.{IsDefinition, IsLink, MayInvokeFrom}
 use Rattle.mh_site.specs.Links.{first_link, link_at}
 use Rattle.mh_site.specs.Laws.{numbered}
 use Rattle.mh_core.specs.declared.record.Record.{Record}
@@ -73,6 +75,13 @@ module _ (d : DefinitionData) (s : ℕ) where
     cache_bound small =
         let needs : HaveNeedsBelow (length d.points) (map (entry d) js) = All-map (λ (e : PlainEntry). All (λ p. p < length d.points) e.needs) (entry d) js (λ k e below. (own k e below).known) in
         chain_bound (before_key (site_at d s)) t.tree (map (entry d) js) (length d.points) needs small
+
+    -- the cache invokes sites as the tree does
+    pub cache_invokes : (l : ℕ) → MayInvokeFrom d.sites l t.tree → MayInvokeFrom d.sites l (cached d s t js).tree
+    cache_invokes l may = record {
+      types = chain_invokes (IsOfType d.sites) (before_key (site_at d s)) t.tree (map (entry d) js) may.types;
+      levels = chain_invokes (IsLower d.sites l) (before_key (site_at d s)) t.tree (map (entry d) js) may.levels;
+    }
 
     have_kind : (q : ℕ) → (site_at d s).key ≡ Some q → HaveKind (kind_at (site_at d s).method_type.parameters q) (map (entry d) js)
     have_kind q is_key =

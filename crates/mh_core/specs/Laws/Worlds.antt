@@ -1,8 +1,8 @@
 -- The tables of a world are what looking back through the records finds, and what a book keeps with one record more.
-use Rattle.std.proofs.Common.{◌≡◌, ℕ, zero, suc, ◌+◌, ◌<◌, ◌≤◌, ◌==◌, nat_lt, Bool, true, false, cond, List, [], ◌∷◌, ◌++◌, length, map, filter, not, ◌&&◌, ◌||◌, refl, ap, sym, ◌∙◌, arith}
+use Rattle.std.proofs.Common.{◌≡◌, ℕ, zero, suc, ◌+◌, ◌<◌, ◌≤◌, ◌==◌, nat_lt, Bool, true, false, cond, List, [], ◌∷◌, ◌++◌, length, map, filter, not, ◌&&◌, ◌||◌, refl, ap, sym, subst, ◌∙◌, arith}
 use Rattle.std.specs.Prelude.{reverse}
 use Rattle.std.specs.List.{range_with_len}
-use Rattle.std.proofs.lemmas.List.{reverse-append, ext_get_or}
+use Rattle.std.proofs.lemmas.List.{reverse-append, ext_get_or, get_or-map, length-map}
 use Rattle.std.proofs.lemmas.List.FromFn.{get_or-map-range_with_len, length-map-range_with_len}
 use Rattle.std.proofs.lemmas.Bool.Decides.{Decides-ltb, nat_tests}
 use Rattle.mh_tree.specs.Handle.{TypedTree}
@@ -10,18 +10,20 @@ use Rattle.mh_tree.specs.Limits.{point_bound}
 use Rattle.mh_site.specs.declared.control.Control.{Control}
 use Rattle.mh_site.specs.Controls.{Relinked}
 use Rattle.mh_site.specs.Defined.{DefinitionData, site_at, no_site}
-use Rattle.mh_site.specs.Lawful.{IsDefinition}
+use Rattle.mh_site.specs.Invoking.{InvokesLower}
+use Rattle.mh_site.specs.Lawful.{IsDefinition, MayInvokeFrom}
 use Rattle.mh_site.specs.LookBack as look
 use Rattle.mh_site.specs.LookBack.{member, last_of}
-use Rattle.mh_site.specs.Worlds.{SiteState, opened, replay, state_at}
+use Rattle.mh_site.specs.Worlds.{SiteState, no_state, opened, replay, state_at}
+use Rattle.mh_site.specs.Worlds as worlds
 use Rattle.mh_site.specs.Laws as sites
 use Rattle.mh_core.specs.declared.record.Record.{Record}
 use Rattle.mh_core.specs.declared.record.Record.TheVariants.{Flushed, Targeted, Invalidated, Snapped, Published, Installed}
 use Rattle.mh_core.specs.Books.{Legal}
 use Rattle.mh_core.specs.Limits.{LimitsData}
-use Rattle.mh_core.specs.Installations.{linked, kept, chosen, usable, cached, is_current, is_concerned}
+use Rattle.mh_core.specs.Installations.{linked, linkeds, kept, chosen, usable, cached, is_current, is_concerned}
 use Rattle.mh_core.specs.Problems.{is_eligible}
-use Rattle.mh_core.specs.Records.{base, version, is_valid, valid_points}
+use Rattle.mh_core.specs.Records.{base, bases, version, is_valid, valid_points}
 use Rattle.mh_core.specs.Replayed.{controls, world, changes, relinked}
 
 pub newest_push : {A : Type 0} (xs : List A) (x : A) → reverse (xs ++ x ∷ []) ≡ x ∷ reverse xs
@@ -213,22 +215,49 @@ read d r s h =
 pub valid_is : (d : DefinitionData) (r : List Record) → (world d r).valid ≡ valid_points d r
 valid_is d r = sites.valid_is d (controls d r) ∙ same_map (look.is_valid (controls d r)) (is_valid r) (length d.points) (valid_same d r)
 
--- ---- a base tree has its site's type, and names declared points alone
+-- the trees of all sites, by number
+trees_are : (part : SiteState → TypedTree) (told : ℕ → TypedTree) (d : DefinitionData) (r : List Record) → ((s : ℕ) → s < length d.sites → part (state_at (world d r) s) ≡ told s)
+    → map part (world d r).sites ≡ map told (numbers (length d.sites))
+trees_are part told d r same =
+    let sites = (world d r).sites in
+    let n = length d.sites in
+    let e = part no_state in
+    ext_get_or e (map part sites) (map told (numbers n)) (length-map sites part ∙ (world_sites d r ∙ sym (length-map-range_with_len told 0 n)))
+    (λ s within.
+    let known : s < length sites = omega (arith, length-map sites part) in
+    let inside : s < n = omega (arith, world_sites d r) in
+    get_or-map part sites s no_state e known ∙ (same s inside ∙ sym (get_or-map-range_with_len told 0 n s s e inside (omega arith))))
+
+pub bases_are : (d : DefinitionData) (r : List Record) → worlds.bases (world d r) ≡ bases d r
+bases_are d r = trees_are (λ x. x.base) (base d r) d r (λ s h. ap (λ (x : SiteState). x.base) (read d r s h))
+
+pub linkeds_are : (d : DefinitionData) (r : List Record) → worlds.linkeds (world d r) ≡ linkeds d r
+linkeds_are d r = trees_are (λ x. x.linked) (linked d r) d r (λ s h. ap (λ (x : SiteState). x.linked) (read d r s h))
+
+-- ---- a base tree has its site's type, names declared points alone, and invokes lower sites with their types
 pub record Suits (d : DefinitionData) (s : ℕ) (t : TypedTree) : Type 0 where
   pub signature : t.signature ≡ (site_at d s).method_type
   pub points : point_bound t.tree ≤ length d.points
+  pub invokes : MayInvokeFrom d.sites (site_at d s).level t.tree
 
 suits_cond : (d : DefinitionData) (s : ℕ) (b : Bool) (t u : TypedTree) → (b ≡ true → Suits d s t) → Suits d s u → Suits d s (cond b t u)
 suits_cond d s true t u h k = h refl
 suits_cond d s false t u h k = k
 
 pub base_suits : (d : DefinitionData) (l : LimitsData) (r : List Record) (s : ℕ) → IsDefinition d → s < length d.sites → Legal d l r → Suits d s (base d r s)
-base_suits d l [] s is h legal = let lawful = is.sites s no_site h in record { signature = lawful.typed; points = lawful.known }
+base_suits d l [] s is h legal = let lawful = is.sites s no_site h in record { signature = lawful.typed; points = lawful.known; invokes = is.invokes s no_site h }
 base_suits d l (Flushed w hits ∷ r) s is h legal = base_suits d l r s is h legal.1
 base_suits d l (Targeted t tree ∷ r) s is h legal =
     suits_cond d s (t == s) tree (base d r s)
     (λ e. let same : t ≡ s = grind (arith, nat_tests) in
-    record { signature = legal.0.1.1.1.0 ∙ ap (λ (i : ℕ). (site_at d i).method_type) same; points = legal.0.1.1.1.1.0 })
+    record {
+      signature = legal.0.1.1.1.0.0 ∙ ap (λ (i : ℕ). (site_at d i).method_type) same;
+      points = legal.0.1.1.1.1.0;
+      invokes = record {
+        types = legal.0.1.1.1.0.1;
+        levels = subst (λ (i : ℕ). InvokesLower d.sites (site_at d i).level tree.tree) same legal.0.1.1.1.1.1.0;
+      };
+    })
     (base_suits d l r s is h legal.1)
 base_suits d l (Invalidated points ∷ r) s is h legal = base_suits d l r s is h legal.1
 base_suits d l (Snapped ∷ r) s is h legal = base_suits d l r s is h legal.1

@@ -15,7 +15,7 @@ ghost use Rattle.mh_core.specs.Hits.{IsHitLink, unflushed};
 ghost use Rattle.mh_core.specs.Installations.{linked as linked_of};
 ghost use Rattle.mh_core.specs.Legal.{tests, answer_of_call, HasRoom, TakesNoMemory};
 ghost use Rattle.mh_core.specs.Steps.{IsAccepted, IsRefused};
-ghost use Rattle.mh_core.specs.Records.{environment};
+ghost use Rattle.mh_core.specs.Installations.{linked_sites};
 ghost use Rattle.mh_base.specs.Tests.{Passes, Refuses};
 
 use crate::arguments::Arguments;
@@ -25,7 +25,7 @@ use crate::hits::hit_link;
 use crate::machine::Machine;
 use crate::refusal::Refusal;
 use mh_base::NoMemory;
-use mh_eval::{Stack, fits, run};
+use mh_eval::{Here, Stack, fits, run};
 use mh_ledger::Ledger;
 use mh_type::{Outcome, Value};
 
@@ -42,7 +42,7 @@ impl Machine {
         worker: u32,
         site: usize,
         arguments: Arguments,
-    ) -> Result<(Outcome, u64), Refusal>
+    ) -> Result<(Outcome, u128), Refusal>
         ensures accepted { IfOk result (λ p. IsAccepted self.old (Call worker site arguments)
             (Called p.0 p.1) self.new) }
         ensures refused { IfErr result (λ told. IsRefused self.old (Call worker site arguments)
@@ -139,21 +139,21 @@ fn evaluate_call(
     book: &Book,
     site: usize,
     arguments: &[Value],
-) -> Result<(Outcome, u64), NoMemory>
+) -> Result<(Outcome, u128), NoMemory>
     requires inside { site < length book.now.definition.sites }
     requires fits { Fits (site_at book.now.definition site).method_type arguments.now }
     ensures answer { IfOk result (λ p. Called p.0 p.1
         ≡ answer_of_call book.now.definition book.now.records site arguments.now) }
-    ensures memory { EntersPlain (environment book.now.definition book.now.records)
+    ensures memory { EntersPlain (linked_sites book.now.definition book.now.records)
         (linked_of book.now.definition book.now.records site).tree arguments.now → IsOk result }
 {
     let world = book.world();
-    // Read for what a tree keeps.
-    let base = world.base(site).handle();
-    let _method_type = base.method_type();
     let linked = world.prepared(site);
-    let valid = world.valid();
-    match run(stack, valid, linked, arguments) {
+    let here = Here {
+        valid: world.valid(),
+        targets: world.prepared_all(),
+    };
+    match run(stack, &here, linked, arguments) {
         Ok((outcome, steps)) => Ok((outcome, steps)),
         Err(_) => Err(NoMemory),
     }

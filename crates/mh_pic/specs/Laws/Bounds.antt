@@ -4,7 +4,7 @@ use Rattle.std.specs.List.{All}
 use Rattle.mh_type.specs.declared.kind.Kind.{Kind}
 use Rattle.mh_type.specs.declared.value.Value.{Value}
 use Rattle.mh_tree.specs.Limits.{point_bound, greatest_bound, depth, deepest, size, total_size}
-use Rattle.mh_tree.specs.Tree.{Tree, Filters, constant, identity, operation, insert, discard, permute, filter, filter_return, fold, guard, point, no_more, absent, present}
+use Rattle.mh_tree.specs.Tree.{Tree, Filters, constant, identity, operation, insert, discard, permute, filter, filter_return, fold, guard, point, invoke, no_more, absent, present}
 use Rattle.mh_pic.specs.Keys.{key_test, key_in, decided}
 use Rattle.mh_pic.specs.Specialised.{is_needed, stripped, stripped_filters, branch, specialised}
 use Rattle.mh_pic.specs.Chains.{PlainEntry, points, chain, HaveFewNeeds, HaveNeedsBelow}
@@ -32,6 +32,7 @@ mutual
   stripped_size needs (guard c x y) = omega (arith, stripped_size needs c, stripped_size needs x, stripped_size needs y)
   stripped_size needs (point p x y) =
       omega (arith, point_size (is_needed needs p) p (stripped needs x) (stripped needs y), stripped_size needs x, stripped_size needs y)
+  stripped_size needs (invoke s n) = omega arith
 
   pub stripped_total : (needs : List ℕ) (fs : Filters) → total_size (stripped_filters needs fs) ≤ total_size fs
   stripped_total needs no_more = omega arith
@@ -52,6 +53,7 @@ mutual
   stripped_depth needs (guard c x y) = omega (arith, stripped_depth needs c, stripped_depth needs x, stripped_depth needs y)
   stripped_depth needs (point p x y) =
       omega (arith, point_depth (is_needed needs p) p (stripped needs x) (stripped needs y), stripped_depth needs x, stripped_depth needs y)
+  stripped_depth needs (invoke s n) = omega arith
 
   pub stripped_deepest : (needs : List ℕ) (fs : Filters) → deepest (stripped_filters needs fs) ≤ deepest fs
   stripped_deepest needs no_more = omega arith
@@ -83,6 +85,7 @@ module _ (needs : List ℕ) (kinds : List Kind) (key : Value) where
   specialised_size (filter t p fs) = stripped_size needs (filter t p fs)
   specialised_size (filter_return t f) = stripped_size needs (filter_return t f)
   specialised_size (fold t c) = stripped_size needs (fold t c)
+  specialised_size (invoke s n) = stripped_size needs (invoke s n)
 
   pub specialised_depth : (t : Tree) → depth (specialised needs kinds key t) ≤ depth t
   specialised_depth (guard c x y) =
@@ -98,6 +101,7 @@ module _ (needs : List ℕ) (kinds : List Kind) (key : Value) where
   specialised_depth (filter t p fs) = stripped_depth needs (filter t p fs)
   specialised_depth (filter_return t f) = stripped_depth needs (filter_return t f)
   specialised_depth (fold t c) = stripped_depth needs (fold t c)
+  specialised_depth (invoke s n) = stripped_depth needs (invoke s n)
 
 pub test_size : (kinds : List Kind) (key : Value) → size (key_test kinds key) ≤ 3
 test_size [] key = omega arith
@@ -165,6 +169,7 @@ mutual
   stripped_bound needs (guard c x y) = omega (arith, stripped_bound needs c, stripped_bound needs x, stripped_bound needs y)
   stripped_bound needs (point p x y) =
       omega (arith, point_bounds (is_needed needs p) p (stripped needs x) (stripped needs y), stripped_bound needs x, stripped_bound needs y)
+  stripped_bound needs (invoke s n) = omega arith
 
   pub stripped_greatest : (needs : List ℕ) (fs : Filters) → greatest_bound (stripped_filters needs fs) ≤ greatest_bound fs
   stripped_greatest needs no_more = omega arith
@@ -191,6 +196,7 @@ module _ (needs : List ℕ) (kinds : List Kind) (key : Value) where
   specialised_bound (filter t p fs) = stripped_bound needs (filter t p fs)
   specialised_bound (filter_return t f) = stripped_bound needs (filter_return t f)
   specialised_bound (fold t c) = stripped_bound needs (fold t c)
+  specialised_bound (invoke s n) = stripped_bound needs (invoke s n)
 
 test_bound : (kinds : List Kind) (key : Value) → point_bound (key_test kinds key) ≤ 0
 test_bound [] key = omega arith

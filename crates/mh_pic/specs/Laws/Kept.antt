@@ -3,7 +3,7 @@ use Rattle.std.proofs.Common.{◌≡◌, ℕ, refl, List, [], ◌∷◌, Bool, t
 use Rattle.mh_type.specs.declared.kind.Kind.{Kind}
 use Rattle.mh_type.specs.declared.value.Value.{Value}
 use Rattle.mh_type.specs.Signature.{Signature}
-use Rattle.mh_tree.specs.Tree.{Tree, Filters, constant, identity, operation, insert, discard, permute, filter, filter_return, fold, guard, point, no_more, absent, present}
+use Rattle.mh_tree.specs.Tree.{Tree, Filters, constant, identity, operation, insert, discard, permute, filter, filter_return, fold, guard, point, invoke, no_more, absent, present}
 use Rattle.mh_tree.specs.Typing.{IsTyped, AreTyped}
 use Rattle.mh_pic.specs.Keys.{key_in, decided}
 use Rattle.mh_pic.specs.Specialised.{is_needed, stripped, stripped_filters, branch, specialised, NamesNone, NameNone}
@@ -29,6 +29,7 @@ mutual
       (ks, stripped_typed needs c _ test, begins, stripped_typed needs x m first, stripped_typed needs y m second)
   stripped_typed needs (point p x y) m (first, second) =
       point_typed (is_needed needs p) p (stripped needs x) (stripped needs y) m (stripped_typed needs x m first) (stripped_typed needs y m second)
+  stripped_typed needs (invoke s n) m h = h
 
   pub stripped_are_typed : (needs : List ℕ) (fs : Filters) (old new : List Kind) → AreTyped fs old new → AreTyped (stripped_filters needs fs) old new
   stripped_are_typed needs no_more old new h = h
@@ -60,6 +61,7 @@ specialised_typed needs kinds key (permute t n r) m h = stripped_typed needs (pe
 specialised_typed needs kinds key (filter t p fs) m h = stripped_typed needs (filter t p fs) m h
 specialised_typed needs kinds key (filter_return t f) m h = stripped_typed needs (filter_return t f) m h
 specialised_typed needs kinds key (fold t c) m h = stripped_typed needs (fold t c) m h
+specialised_typed needs kinds key (invoke s n) m h = stripped_typed needs (invoke s n) m h
 
 point_names : (needs : List ℕ) (b : Bool) (p : ℕ) (x y : Tree) → is_needed needs p ≡ b → NamesNone needs x → NamesNone needs y → NamesNone needs (if b then x else point p x y)
 point_names needs true p x y same hx hy = hx
@@ -78,6 +80,7 @@ mutual
   stripped_names needs (fold t c) = (stripped_names needs t, stripped_names needs c)
   stripped_names needs (guard c x y) = (stripped_names needs c, stripped_names needs x, stripped_names needs y)
   stripped_names needs (point p x y) = point_names needs (is_needed needs p) p _ _ refl (stripped_names needs x) (stripped_names needs y)
+  stripped_names needs (invoke s n) = tt
 
   pub stripped_name : (needs : List ℕ) (fs : Filters) → NameNone needs (stripped_filters needs fs)
   stripped_name needs no_more = tt
@@ -103,3 +106,4 @@ specialised_names needs kinds key (permute t n r) = stripped_names needs (permut
 specialised_names needs kinds key (filter t p fs) = stripped_names needs (filter t p fs)
 specialised_names needs kinds key (filter_return t f) = stripped_names needs (filter_return t f)
 specialised_names needs kinds key (fold t c) = stripped_names needs (fold t c)
+specialised_names needs kinds key (invoke s n) = stripped_names needs (invoke s n)

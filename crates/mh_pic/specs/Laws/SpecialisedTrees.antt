@@ -9,7 +9,7 @@ use Rattle.mh_type.specs.declared.outcome.Outcome.TheVariants.{Value as Value'}
 use Rattle.mh_type.specs.Kinds.{kind_of, kind_eq}
 use Rattle.mh_tree.specs.Arity.{arity}
 use Rattle.mh_tree.specs.Meaning.{◌>>=◌, mean, steps, argument, choose, choose_steps}
-use Rattle.mh_tree.specs.Tree.{Tree, constant, identity, operation, insert, discard, permute, filter, filter_return, fold, guard, point}
+use Rattle.mh_tree.specs.Tree.{Tree, constant, identity, operation, insert, discard, permute, filter, filter_return, fold, guard, point, invoke}
 use Rattle.mh_type.specs.Values.{same_value}
 use Rattle.mh_pic.specs.Keys.{key_test, key_in, decided}
 use Rattle.mh_pic.specs.Specialised.{AreValid, is_needed, stripped, branch, specialised}
@@ -72,6 +72,7 @@ module _ (needs : List ℕ) (kinds : List Kind) (key : Value) (v : Environment) 
   specialised_mean (filter t p fs) = stripped_mean needs v valid (filter t p fs) a
   specialised_mean (filter_return t f) = stripped_mean needs v valid (filter_return t f) a
   specialised_mean (fold t c) = stripped_mean needs v valid (fold t c) a
+  specialised_mean (invoke s n) = stripped_mean needs v valid (invoke s n) a
 
   pub specialised_steps : (t : Tree) → steps v (specialised needs kinds key t) a ≤ steps v t a
   specialised_steps (guard c x y) =
@@ -87,3 +88,4 @@ module _ (needs : List ℕ) (kinds : List Kind) (key : Value) (v : Environment) 
   specialised_steps (filter t p fs) = stripped_steps needs v valid (filter t p fs) a
   specialised_steps (filter_return t f) = stripped_steps needs v valid (filter_return t f) a
   specialised_steps (fold t c) = stripped_steps needs v valid (fold t c) a
+  specialised_steps (invoke s n) = stripped_steps needs v valid (invoke s n) a

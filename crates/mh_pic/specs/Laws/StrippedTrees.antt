@@ -8,7 +8,7 @@ use Rattle.mh_type.specs.declared.outcome.Outcome.{Outcome}
 use Rattle.mh_type.specs.declared.outcome.Outcome.TheVariants.{Thrown, Value as Value'}
 use Rattle.mh_tree.specs.Arity.{arity}
 use Rattle.mh_tree.specs.Meaning.{◌>>=◌, mean, steps, filtered, filter_steps, with_arguments, with_value, after, after_filters, argument, put_in, taken_out, choose, choose_steps, is_valid}
-use Rattle.mh_tree.specs.Tree.{Tree, Filters, constant, identity, operation, insert, discard, permute, filter, filter_return, fold, guard, point, no_more, absent, present}
+use Rattle.mh_tree.specs.Tree.{Tree, Filters, constant, identity, operation, insert, discard, permute, filter, filter_return, fold, guard, point, invoke, no_more, absent, present}
 use Rattle.mh_pic.specs.Specialised.{AreValid, is_needed, stripped, stripped_filters}
 use Rattle.mh_tree.specs.Environment.{Environment}
 
@@ -29,6 +29,7 @@ stripped_arity needs (filter_return t f) = stripped_arity needs t
 stripped_arity needs (fold t c) = rw (stripped_arity needs t) refl
 stripped_arity needs (guard c x y) = stripped_arity needs x
 stripped_arity needs (point p x y) = rw (arity_point (is_needed needs p) p (stripped needs x) (stripped needs y)) (stripped_arity needs x)
+stripped_arity needs (invoke s n) = refl
 
 pub mean_point : (v : Environment) (b : Bool) (p : ℕ) (x y x' y' : Tree) (a : List Value)
     → (b ≡ true → is_valid v p ≡ true) → mean v x' a ≡ mean v x a → mean v y' a ≡ mean v y a
@@ -54,6 +55,7 @@ mutual
       rw (stripped_arity needs c) (λ i. stripped_mean needs v valid c (take (arity c) a) i >>= (λ b. choose b (stripped_mean needs v valid x a i) (stripped_mean needs v valid y a i)))
   stripped_mean needs v valid (point p x y) a =
       mean_point v (is_needed needs p) p x y (stripped needs x) (stripped needs y) a (valid p) (stripped_mean needs v valid x a) (stripped_mean needs v valid y a)
+  stripped_mean needs v valid (invoke s n) a = refl
 
   pub stripped_filtered : (needs : List ℕ) (v : Environment) → AreValid v needs → (fs : Filters) (p : ℕ) (a : List Value) → filtered v (stripped_filters needs fs) p a ≡ filtered v fs p a
   stripped_filtered needs v valid no_more p a = refl
@@ -120,6 +122,7 @@ mutual
       rw (stripped_arity needs c) (omega (arith, before, rest))
   stripped_steps needs v valid (point p x y) a =
       steps_point v (is_needed needs p) p x y (stripped needs x) (stripped needs y) a (valid p) (stripped_steps needs v valid x a) (stripped_steps needs v valid y a)
+  stripped_steps needs v valid (invoke s n) a = omega arith
 
   pub stripped_filter_steps : (needs : List ℕ) (v : Environment) → AreValid v needs → (fs : Filters) (p : ℕ) (a : List Value) → filter_steps v (stripped_filters needs fs) p a ≤ filter_steps v fs p a
   stripped_filter_steps needs v valid no_more p a = omega arith

@@ -4,7 +4,7 @@ ghost use Rattle.mh_site.specs.NamesInOrder.{place_of};
 ghost use Rattle.mh_text.specs.Script.{parameters_at};
 
 use crate::json::scope::Scope;
-use mh_site::{Definition, Names};
+use mh_site::Definition;
 use mh_type::Kind;
 
 /// A definition, with the names of its points, shared trees and sites.
@@ -12,16 +12,14 @@ use mh_type::Kind;
 pub struct Declarations {
     pub definition: Definition,
     pub scope: Scope,
-    /// The names of the sites, by number.
-    pub sites: Names,
 }
 
 impl Declarations {
     /// The number of a site by its name: one past the last where no site has it.
     pub(crate) fn site_number(&self, name: &str) -> usize
-        ensures value { result ≡ place_of self.now.sites name.now }
+        ensures value { result ≡ place_of self.now.scope.sites name.now }
     {
-        self.sites.place(name)
+        self.scope.sites.place(name)
     }
 
     /// The parameters of a site, none past the last.

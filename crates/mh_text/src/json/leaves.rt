@@ -2,7 +2,7 @@
 ghost use Rattle.std.specs.Prelude.{◌≡◌, map};
 ghost use Rattle.serde_json.specs.View.{view};
 ghost use Rattle.mh_text.specs.Gives.{Gives};
-ghost use Rattle.mh_text.specs.Trees.{part, constant_from, identity_from, op_from, ref_from};
+ghost use Rattle.mh_text.specs.Trees.{part, constant_from, identity_from, op_from, ref_from, invoke_from};
 
 use crate::fault::InputFault;
 use crate::json::scope::Scope;
@@ -64,4 +64,18 @@ pub(crate) fn read_ref(scope: &Scope, args: &[Value]) -> Result<Handle, InputFau
         return Err(InputFault::BadShape);
     };
     scope.tree_named(text(name)?)
+}
+
+/// The invocation of a site that stands earlier.
+pub(crate) fn read_invocation(
+    alloc: Global,
+    scope: &Scope,
+    args: &[Value],
+) -> Result<Handle, InputFault>
+    ensures value { Gives (λ x. x) result (invoke_from scope.now (map (part scope.now) args.now)) }
+{
+    let [name] = args else {
+        return Err(InputFault::BadShape);
+    };
+    scope.invocation_named(alloc, text(name)?)
 }

@@ -2,11 +2,13 @@
 ghost use Rattle.std.specs.Prelude.{◌≡◌, OnOk, IfErr};
 ghost use Rattle.mh_text.specs.Gives.{Gives};
 ghost use Rattle.mh_text.specs.Shared.{without_shared, with_shared};
-ghost use Rattle.mh_text.specs.Trees.{point_place, shared_named};
+ghost use Rattle.mh_text.specs.Script.{with_site};
+ghost use Rattle.mh_text.specs.Trees.{invocation_named, point_place, shared_named};
 
 use crate::fault::InputFault;
-use mh_site::{Listing, Name, Names};
+use mh_site::{Listing, Name, Names, Site};
 use mh_tree::Handle;
+use mh_type::MethodType;
 use std::alloc::Global;
 
 /// A tree that later ones may name.
@@ -16,7 +18,7 @@ pub struct Shared {
     pub tree: Handle,
 }
 
-/// Points by their names, and the shared trees so far.
+/// Points by their names, and the shared trees and the sites so far.
 #[derive(Drop)]
 pub struct Scope {
     /// The names of the points, by number.
@@ -25,10 +27,14 @@ pub struct Scope {
     pub names: Names,
     /// The shared trees, by the numbers of their names.
     pub trees: Listing<Handle>,
+    /// The names of the sites that a tree may invoke, in the order in which they stand.
+    pub sites: Names,
+    /// The types of these sites, by the numbers of their names.
+    pub types: Listing<MethodType>,
 }
 
 impl Scope {
-    /// The points of these names, and no shared tree.
+    /// The points of these names, no shared tree and no site.
     pub(crate) fn new(alloc: Global, points: Names) -> Scope
         ensures value { result ≡ without_shared points }
     {
@@ -36,6 +42,8 @@ impl Scope {
             points,
             names: Names::new(alloc),
             trees: Listing::from_vec(Vec::new(alloc)),
+            sites: Names::new(alloc),
+            types: Listing::from_vec(Vec::new(alloc)),
         }
     }
 
@@ -47,6 +55,37 @@ impl Scope {
         self.names.add(shared.name.as_str())?;
         self.trees.push(shared.tree)?;
         Ok(())
+    }
+
+    /// Puts a site last, so that later trees may invoke it. Of one name, the first site stays.
+    pub(crate) fn add_site(&mut self, site: &Site) -> Result<(), InputFault>
+        ensures value { OnOk result (self.new ≡ with_site self.old site.now) }
+        ensures refused { IfErr result (λ e. e ≡ InputFault.NoMemory) }
+    {
+        if self.sites.contains(site.name.as_str()) {
+            return Ok(());
+        }
+        self.sites.add(site.name.as_str())?;
+        self.types.push(site.method_type.copy())?;
+        Ok(())
+    }
+
+    /// The invocation of a site by its name, with the site's type.
+    pub(crate) fn invocation_named(&self, alloc: Global, name: &str) -> Result<Handle, InputFault>
+        ensures value { Gives (λ x. x) result (invocation_named self.now name.now) }
+    {
+        let site = self.site_number(name);
+        match self.types.as_slice().get(site as usize) {
+            Some(method_type) => Ok(Handle::invoke(alloc, site, method_type)?),
+            None => Err(InputFault::UnknownSite),
+        }
+    }
+
+    /// The number of a site by its name: one past the last where no site so far has it.
+    fn site_number(&self, name: &str) -> u32
+        ensures value { result ≡ point_place self.now.sites name.now }
+    {
+        u32::try_from(self.sites.place(name)).unwrap_or(u32::MAX)
     }
 
     /// The number of a point by its name: one past the last where no point has it.

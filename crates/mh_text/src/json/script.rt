@@ -13,7 +13,7 @@ use crate::json::points::{point_names, read_points};
 use crate::json::read_json;
 use crate::json::shape::{count, list, member};
 use crate::json::shared::read_scope;
-use crate::json::sites::{read_sites, site_names};
+use crate::json::sites::{Sited, read_sites};
 use crate::json::step::Step;
 use crate::json::versions::version;
 use mh_core::Limits;
@@ -50,14 +50,9 @@ fn read_declarations(alloc: Global, value: &Value) -> Result<Declarations, Input
     let points = read_points(alloc, definition)?;
     let names = point_names(alloc, points.as_slice())?;
     let scope = read_scope(alloc, names, definition)?;
-    let sites = read_sites(alloc, version, &scope, definition)?;
+    let Sited { scope, sites } = read_sites(alloc, version, scope, definition)?;
     let definition = Definition::new(alloc, version, points, sites)?;
-    let sites = site_names(alloc, definition.sites())?;
-    Ok(Declarations {
-        definition,
-        scope,
-        sites,
-    })
+    Ok(Declarations { definition, scope })
 }
 
 fn read_workers(value: &Value) -> Result<u32, InputFault>

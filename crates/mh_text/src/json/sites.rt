@@ -1,19 +1,19 @@
 //! The sites of a script, and their names.
-ghost use Rattle.std.specs.Prelude.{◌≡◌, IfOk};
+ghost use Rattle.std.specs.Prelude.{◌≡◌, IfErr, OnOk};
 ghost use Rattle.serde_json.specs.View.{view};
 ghost use Rattle.mh_text.specs.Gives.{Gives};
-ghost use Rattle.mh_text.specs.Script.{place_or_none, key_of, key_kind as kind_of_key, site_of, sites_of, site_names_of};
+ghost use Rattle.mh_text.specs.Script.{level_of, place_or_none, key_of, key_kind as kind_of_key, none_sited, one_sited, site_of, sites_of};
 
 use crate::fault::InputFault;
 use crate::json::links::read_links;
 use crate::json::scope::Scope;
-use crate::json::shape::{each, list, member, place, text};
+use crate::json::shape::{MOST, count, list, member, place, text};
 use crate::json::trees::read_declared;
 use crate::json::values::{kind_at, read_type};
-use mh_site::{Listing, Name, Names, Site, Version};
+use mh_site::{Listing, Name, Site, Version};
 use mh_type::{Kind, MethodType};
 use serde_json::Value;
-use std::alloc::{AllocError, Global};
+use std::alloc::Global;
 
 /// A place, or none where the value is null.
 fn read_place_or_none(value: &Value) -> Result<Option<usize>, InputFault>
@@ -23,6 +23,16 @@ fn read_place_or_none(value: &Value) -> Result<Option<usize>, InputFault>
         return Ok(None);
     }
     Ok(Some(place(value)?))
+}
+
+/// The level of a site, which is 0 where it is absent.
+fn read_level(site: &Value) -> Result<u64, InputFault>
+    ensures value { Gives (λ x. x) result (level_of (view site.now)) }
+{
+    match site.get("level") {
+        Some(level) => count(level, MOST),
+        None => Ok(0),
+    }
 }
 
 /// The key place of a site, which may be absent or null.
@@ -52,38 +62,64 @@ fn read_one(
 {
     let name = Name::new(alloc, text(member(value, "name")?)?)?;
     let method_type = read_type(member(value, "type")?)?;
+    let level = read_level(value)?;
     let key = read_key(value)?;
     let target = read_declared(alloc, scope, member(value, "target")?)?;
     let links = read_links(alloc, version, scope, key_kind(&method_type, key), value)?;
     Ok(Site {
         name,
         method_type,
+        level,
         key,
         target,
         links,
     })
 }
 
-/// The sites of a definition, each its name, its type, its key place, its target and its links.
+/// The sites of a definition that were read, and the names that later trees may use.
+#[derive(Drop)]
+pub struct Sited {
+    pub scope: Scope,
+    pub sites: Listing<Site>,
+}
+
+impl Sited {
+    /// No site yet.
+    fn new(alloc: Global, scope: Scope) -> Sited
+        ensures value { result ≡ none_sited scope }
+    {
+        Sited {
+            scope,
+            sites: Listing::from_vec(Vec::new(alloc)),
+        }
+    }
+
+    /// Puts a site last.
+    fn add(&mut self, site: Site) -> Result<(), InputFault>
+        ensures value { OnOk result (self.new ≡ one_sited self.old site) }
+        ensures refused { IfErr result (λ e. e ≡ InputFault.NoMemory) }
+    {
+        self.scope.add_site(&site)?;
+        self.sites.push(site)?;
+        Ok(())
+    }
+}
+
+/// The sites of a definition, each its name, its type, its level, its key place, its target, which
+/// may invoke those before it, and its links.
 pub(crate) fn read_sites(
     alloc: Global,
     version: Version,
-    scope: &Scope,
+    scope: Scope,
     definition: &Value,
-) -> Result<Listing<Site>, InputFault>
-    ensures value { Gives (λ x. x) result (sites_of version scope.now (view definition.now)) }
+) -> Result<Sited, InputFault>
+    ensures value { Gives (λ x. x) result (sites_of version scope (view definition.now)) }
 {
     let sites = list(member(definition, "sites")?)?;
-    each(alloc, sites, |site| read_one(alloc, version, scope, site))
-}
-
-/// The names of the sites, by number.
-pub(crate) fn site_names(alloc: Global, sites: &[Site]) -> Result<Names, AllocError>
-    ensures value { IfOk result (λ names. names ≡ site_names_of sites.now) }
-{
-    let mut names = Names::new(alloc);
+    let mut sited = Sited::new(alloc, scope);
     for site in sites {
-        names.add(site.name.as_str())?;
+        let read = read_one(alloc, version, &sited.scope, site)?;
+        sited.add(read)?;
     }
-    Ok(names)
+    Ok(sited)
 }

@@ -7,7 +7,9 @@ ghost use Rattle.mh_text.specs.Shape.{each_of};
 ghost use Rattle.mh_text.specs.Trees.{part, tree_of, declared_of, filter_of, filters_of, form_named, insert_from, drop_from, permute_from, filter_from, return_from, fold_from, guard_from, point_from};
 
 use crate::fault::InputFault;
-use crate::json::leaves::{read_identity, read_leaf_constant, read_operation, read_ref};
+use crate::json::leaves::{
+    read_identity, read_invocation, read_leaf_constant, read_operation, read_ref,
+};
 use crate::json::scope::Scope;
 use crate::json::shape::{each, list, place, text};
 use crate::json::values::{read_kind, read_type, read_values};
@@ -178,6 +180,7 @@ fn read_form(alloc: Global, scope: &Scope, word: &str, args: &[Value]) -> Result
         "fold" => read_fold(alloc, scope, args),
         "guard" => read_guard(alloc, scope, args),
         "point" => read_branches(alloc, scope, args),
+        "invoke" => read_invocation(alloc, scope, args),
         _ => Err(InputFault::BadShape),
     }
 }

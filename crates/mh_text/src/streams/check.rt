@@ -2,7 +2,7 @@
 ghost use Rattle.std.specs.Prelude.{◌≡◌, ◌⊎◌, IfOk, IfErr, OnOk, IfSome, MatchResult};
 ghost use Rattle.std.specs.Io.KnownBytes.{Appends, Keeps};
 ghost use Rattle.mh_text.specs.Bytes.{HasFailed};
-ghost use Rattle.mh_text.specs.Gives.{no_memory, IsEndOf};
+ghost use Rattle.mh_text.specs.Gives.{no_memory, IsHonest};
 ghost use Rattle.mh_text.specs.Output.{outside};
 ghost use Rattle.mh_text.specs.Checks.{IsVerdict, IsCutOff, FailsCheck, verdict_line};
 
@@ -53,10 +53,8 @@ pub fn check_bytes<R: Read, W: Write>(
         (W.contents writer.old.inner) (W.contents writer.new.inner)
         (HasFailed reader.old.failures reader.new.failures)
         (HasFailed writer.old.failures writer.new.failures)) }
-    ensures told { IfErr result (λ e. IsEndOf (HasFailed reader.old.failures reader.new.failures)
-        (HasFailed writer.old.failures writer.new.failures) e.kind) }
-    ensures reads { OnOk result (reader.new.failures ≡ reader.old.failures) }
-    ensures writes { OnOk result (writer.new.failures ≡ writer.old.failures) }
+    ensures honest { IsHonest result reader.old.failures reader.new.failures
+        writer.old.failures writer.new.failures }
 {
     let claim = read_whole(alloc, reader)?;
     let verdict = judge(alloc, &claim)?;

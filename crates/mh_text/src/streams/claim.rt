@@ -1,9 +1,9 @@
 //! A problem and a plan, which is claimed to be best.
-ghost use Rattle.std.specs.Prelude.{◌≡◌, ◌⊎◌, Some, codes, IfOk, IfErr, OnOk, IfSome};
+ghost use Rattle.std.specs.Prelude.{◌≡◌, ◌⊎◌, Some, codes, IfOk, IfErr, IfSome};
 ghost use Rattle.serde_json.specs.View.{view};
 ghost use Rattle.mh_text.specs.Bytes.{HasFailed};
 ghost use Rattle.mh_text.specs.Checks.{Holds, IsFirstOf, IsClaim, IsClaimFault};
-ghost use Rattle.mh_text.specs.Gives.{at_place, no_memory, IsEndOf, IsOfInput};
+ghost use Rattle.mh_text.specs.Gives.{at_place, no_memory, IsHonestReading, IsOfInput};
 ghost use Rattle.mh_text.specs.Output.{IsUnread, outside};
 ghost use Rattle.mh_text.specs.Plans.{plan_at};
 ghost use Rattle.mh_text.specs.Problems.{rows_at};
@@ -55,11 +55,9 @@ fn read_claim(alloc: Global, input: &[u8]) -> Result<Claim, Fault>
 pub(crate) fn read_whole<R: Read>(alloc: Global, reader: &mut Watched<R>) -> Result<Claim, Fault>
     ensures ok { IfOk result (λ claim. IfSome (R.remaining reader.old.inner)
         (λ input. IsClaim input claim.problem claim.plan)) }
-    ensures kept { OnOk result (reader.new.failures ≡ reader.old.failures) }
     ensures failed { IfErr result (IsUnread IsClaimFault (R.remaining reader.old.inner)
         (HasFailed reader.old.failures reader.new.failures)) }
-    ensures told { IfErr result (λ e. IsEndOf (HasFailed reader.old.failures reader.new.failures) ⊥
-        e.kind) }
+    ensures honest { IsHonestReading result reader.old.failures reader.new.failures }
 {
     let input = read_input(alloc, reader)?;
     read_claim(alloc, &input)

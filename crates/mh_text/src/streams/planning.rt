@@ -2,7 +2,7 @@
 ghost use Rattle.std.specs.Prelude.{◌≡◌, ◌<◌, ◌≤◌, ◌++◌, ◌⊎◌, ℕ, List, true, string_bytes, IfOk, IfErr, OnOk, IfSome, MatchResult};
 ghost use Rattle.std.specs.Io.KnownBytes.{Appends};
 ghost use Rattle.mh_text.specs.Bytes.{HasFailed};
-ghost use Rattle.mh_text.specs.Gives.{no_memory, IsEndOf, IsOfInput};
+ghost use Rattle.mh_text.specs.Gives.{no_memory, IsHonest, IsHonestReading, IsOfInput};
 ghost use Rattle.mh_text.specs.Output.{IsUnread, outside};
 ghost use Rattle.mh_text.specs.Planning.{IsProblemInput, IsProblemFault, IsPlanOf, IsPlanned, IsCutShort, FailsPlan, line_where, lines_for};
 ghost use Rattle.mh_text.specs.Script.{most_workers};
@@ -44,11 +44,9 @@ fn read_bytes(alloc: Global, input: &[u8]) -> Result<Problem, Fault>
 fn read_whole<R: Read>(alloc: Global, reader: &mut Watched<R>) -> Result<Problem, Fault>
     ensures ok { IfOk result (λ problem. IfSome (R.remaining reader.old.inner)
         (λ input. IsProblemInput input problem)) }
-    ensures kept { OnOk result (reader.new.failures ≡ reader.old.failures) }
     ensures failed { IfErr result (IsUnread IsProblemFault (R.remaining reader.old.inner)
         (HasFailed reader.old.failures reader.new.failures)) }
-    ensures told { IfErr result (λ e. IsEndOf (HasFailed reader.old.failures reader.new.failures) ⊥
-        e.kind) }
+    ensures honest { IsHonestReading result reader.old.failures reader.new.failures }
 {
     let input = read_input(alloc, reader)?;
     read_bytes(alloc, &input)
@@ -139,10 +137,8 @@ pub fn plan_bytes<T: Threads + Sync, R: Read, W: Write>(
         (W.contents writer.old.inner) (W.contents writer.new.inner)
         (HasFailed reader.old.failures reader.new.failures)
         (HasFailed writer.old.failures writer.new.failures)) }
-    ensures told { IfErr result (λ e. IsEndOf (HasFailed reader.old.failures reader.new.failures)
-        (HasFailed writer.old.failures writer.new.failures) e.kind) }
-    ensures reads { OnOk result (reader.new.failures ≡ reader.old.failures) }
-    ensures writes { OnOk result (writer.new.failures ≡ writer.old.failures) }
+    ensures honest { IsHonest result reader.old.failures reader.new.failures
+        writer.old.failures writer.new.failures }
 {
     let problem = read_whole(alloc, reader)?;
     let lines = plan_problem(rt, alloc, options, &problem)?;

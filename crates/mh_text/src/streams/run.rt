@@ -3,7 +3,7 @@ ghost use Rattle.std.specs.Prelude.{◌≡◌, Ok, IfOk, IfErr, OnOk, IfSome, Ma
 ghost use Rattle.std.specs.Io.KnownBytes.{Appends};
 ghost use Rattle.mh_text.specs.declared.json.script.Script.{Script};
 ghost use Rattle.mh_text.specs.Bytes.{AppendsFront, HasFailed};
-ghost use Rattle.mh_text.specs.Gives.{IsEndOf};
+ghost use Rattle.mh_text.specs.Gives.{IsHonest, IsHonestReading};
 ghost use Rattle.mh_text.specs.Lines.{line_of};
 ghost use Rattle.mh_text.specs.Steps.{Told, Takes};
 ghost use Rattle.mh_text.specs.Output.{script_of_input, first, AppendsRun, EndsIn, EndsEarly, EndsReading, IsUnread, Failed, IsEnd};
@@ -109,11 +109,9 @@ fn run_steps<T: Threads + Sync, W: Write>(
 pub fn read_script_from<R: Read>(alloc: Global, reader: &mut Watched<R>) -> Result<Script, Fault>
     ensures ok { IfOk result (λ script. IfSome (R.remaining reader.old.inner)
         (λ input. script_of_input input ≡ Ok script)) }
-    ensures kept { OnOk result (reader.new.failures ≡ reader.old.failures) }
     ensures failed { IfErr result (IsUnread EndsReading (R.remaining reader.old.inner)
         (HasFailed reader.old.failures reader.new.failures)) }
-    ensures told { IfErr result (λ e. IsEndOf (HasFailed reader.old.failures reader.new.failures) ⊥
-        e.kind) }
+    ensures honest { IsHonestReading result reader.old.failures reader.new.failures }
 {
     let input = read_input(alloc, reader)?;
     read_script(alloc, &input)
@@ -162,10 +160,8 @@ pub fn run_bytes<T: Threads + Sync, R: Read, W: Write>(
         (W.contents writer.old.inner) (W.contents writer.new.inner)
         (HasFailed reader.old.failures reader.new.failures)
         (HasFailed writer.old.failures writer.new.failures) e) }
-    ensures told { IfErr result (λ e. IsEndOf (HasFailed reader.old.failures reader.new.failures)
-        (HasFailed writer.old.failures writer.new.failures) e.kind) }
-    ensures reads { OnOk result (reader.new.failures ≡ reader.old.failures) }
-    ensures writes { OnOk result (writer.new.failures ≡ writer.old.failures) }
+    ensures honest { IsHonest result reader.old.failures reader.new.failures
+        writer.old.failures writer.new.failures }
 {
     let script = read_script_from(alloc, reader)?;
     run_script(rt, alloc, script, writer)

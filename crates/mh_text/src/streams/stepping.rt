@@ -1,14 +1,18 @@
 //! How a step of a script is answered.
-ghost use Rattle.std.specs.Prelude.{◌≡◌, ◌<◌, ◌≤◌, IfOk, IfErr};
+ghost use Rattle.std.specs.Prelude.{◌≡◌, ◌<◌, ◌≤◌, IfOk, IfErr, OnOk};
 ghost use Rattle.mh_network.specs.Selection.{IsLeast, member};
 ghost use Rattle.mh_cert.specs.Plans.{Matches};
+ghost use Rattle.mh_core.specs.Histories.{records};
+ghost use Rattle.mh_core.specs.Legal.{Step as legal_step};
+ghost use Rattle.mh_core.specs.Problems.{IsTaken, problem_at};
+ghost use Rattle.mh_core.specs.declared.event.Event.TheVariants.{Publish};
 ghost use Rattle.mh_text.specs.Script.{most_workers};
 ghost use Rattle.mh_text.specs.Steps.{Answers, IsUnplanned, IsBestFor};
 ghost use Rattle.mh_text.specs.declared.json.step.Step.TheVariants.{Plan as ask_plan};
 
 use crate::json::script::MOST_WORKERS;
 use crate::json::step::Step;
-use mh_core::{Event, Machine, Refusal, Reply, SharedPlan};
+use mh_core::{Machine, Refusal, Reply, SharedPlan};
 use mh_network::Problem;
 use mh_plan::{OpenGate, plan};
 use std::alloc::Global;
@@ -30,7 +34,7 @@ pub(crate) fn answer<T: Threads + Sync>(
     }
 }
 
-/// Makes a plan for a snapshot, and publishes it.
+/// Makes a plan for a snapshot, and publishes it. The problem is made once.
 fn publish<T: Threads + Sync>(
     rt: &T,
     alloc: Global,
@@ -42,27 +46,47 @@ fn publish<T: Threads + Sync>(
     ensures setting { machine.new.setting ≡ machine.old.setting }
 {
     match make_plan(rt, alloc, machine, snapshot) {
-        Ok(plan) => machine.step(Event::Publish { snapshot, plan }),
+        Ok((problem, plan)) => offer(machine, snapshot, &problem, plan),
         Err(refusal) => Reply::Refused(refusal),
     }
 }
 
-/// The best plan for a snapshot, with the fewest links.
+/// Publishes a plan for the problem of a snapshot.
+fn offer(machine: &mut Machine, snapshot: usize, problem: &Problem, plan: SharedPlan) -> Reply
+    requires taken { IsTaken (records machine.old.setting.definition machine.old.history) snapshot }
+    requires problem { problem.now ≡ problem_at machine.old.setting.definition
+        (records machine.old.setting.definition machine.old.history) snapshot }
+    ensures step { legal_step machine.old.setting machine.old.history (Publish snapshot plan) result
+        machine.new.history }
+    ensures setting { machine.new.setting ≡ machine.old.setting }
+{
+    match machine.publish_for(snapshot, problem, plan) {
+        Ok(reply) => reply,
+        Err(refusal) => Reply::Refused(refusal),
+    }
+}
+
+/// The problem of a snapshot, and its best plan, with the fewest links.
 fn make_plan<T: Threads + Sync>(
     rt: &T,
     alloc: Global,
     machine: &Machine,
     snapshot: usize,
-) -> Result<SharedPlan, Refusal>
-    ensures best { IfOk result (λ plan. IsBestFor machine.now.setting machine.now.history snapshot
-        plan) }
+) -> Result<(Problem, SharedPlan), Refusal>
+    ensures taken { OnOk result
+        (IsTaken (records machine.now.setting.definition machine.now.history) snapshot) }
+    ensures problem { IfOk result (λ made. made.0 ≡ problem_at machine.now.setting.definition
+        (records machine.now.setting.definition machine.now.history) snapshot) }
+    ensures best { IfOk result (λ made. IsBestFor machine.now.setting machine.now.history snapshot
+        made.1) }
     ensures refused { IfErr result
         (λ told. IsUnplanned machine.now.setting machine.now.history snapshot
         (Reply.Refused told)) }
 {
     let problem = machine.book().problem(snapshot)?;
     let workers = (machine.workers() as usize).clamp(1, MOST_WORKERS);
-    best_plan(rt, alloc, &problem, workers)
+    let plan = best_plan(rt, alloc, &problem, workers)?;
+    Ok((problem, plan))
 }
 
 /// The best plan of a problem, with the fewest links, made by so many workers, from 1 to 64.

@@ -1,28 +1,32 @@
 -- What a handle's code does in a call.
-use Rattle.std.proofs.Common.{◌≡◌, ◌+◌, ◌≤◌, ap, sym, ◌∙◌, List, [], length, map, arith, zero-add, subst}
+use Rattle.std.proofs.Common.{◌≡◌, ℕ, ◌≤◌, ap, sym, ◌∙◌, List, [], length, map, arith, zero-add, subst}
 use Rattle.std.specs.List.{range_with_len}
 use Rattle.std.proofs.lemmas.List.{length-map}
+use Rattle.std.proofs.lemmas.List.FromFn.{length-map-range_with_len}
 use Rattle.mh_type.specs.declared.kind.Kind.{Kind}
 use Rattle.mh_type.specs.declared.value.Value.{Value}
 use Rattle.mh_type.specs.Kinds.{kind_of}
 use Rattle.mh_type.specs.Fits.{Fits}
 use Rattle.mh_tree.specs.Code.{Code}
 use Rattle.mh_tree.specs.Handle.{TypedTree, IsSound}
-use Rattle.mh_tree.specs.Limits.{point_bound}
+use Rattle.mh_tree.specs.Limits.{point_bound, most_steps}
 use Rattle.mh_tree.specs.Meaning.{mean, steps}
 use Rattle.mh_tree.specs.Prepared.{handle_code}
 use Rattle.mh_tree.specs.Running.{run_code, code_steps, weight}
 use Rattle.mh_tree.specs.Scoped.{IsScoped}
+use Rattle.mh_tree.specs.Sites.{EachInvoke}
+use Rattle.mh_type.specs.Signature.{Signature}
 use Rattle.mh_tree.specs.declared.operand.Operand.TheVariants.{Argument}
 use Rattle.mh_tree.specs.Laws.Costs.{costs, weighs}
 use Rattle.mh_tree.specs.Laws.Means.{means}
 use Rattle.mh_tree.specs.Laws.Scope.{scoped, in_arguments, reads_arguments}
 use Rattle.mh_tree.specs.Environment.{Environment}
 
-module _ (v : Environment) (h : TypedTree) (a : List Value) (code : Code) (kept : code ≡ handle_code h) (sound : IsSound h.tree h.signature) (fits : Fits h.signature a) where
-  pub count : length h.signature.parameters ≡ length a
-  count = sym (ap (λ (ks : List Kind). length ks) fits) ∙ length-map a kind_of
+-- arguments that fit are as many as the parameters
+pub call_count : (m : Signature) (a : List Value) → Fits m a → length m.parameters ≡ length a
+call_count m a fits = sym (ap (λ (ks : List Kind). length ks) fits) ∙ length-map a kind_of
 
+module _ (v : Environment) (h : TypedTree) (a : List Value) (code : Code) (kept : code ≡ handle_code h) (sound : IsSound h.tree h.signature) (count : length h.signature.parameters ≡ length a) where
   pub call_means : run_code v code a [] ≡ mean v h.tree a
   call_means =
       ap (λ k. run_code v k a []) kept
@@ -34,12 +38,16 @@ module _ (v : Environment) (h : TypedTree) (a : List Value) (code : Code) (kept 
       ∙ costs v h.tree h.signature _ 0 0 a [] a sound.typed (omega (arith, count)) (omega arith) (λ e. reads_arguments a e _ count)
       ∙ zero-add _
 
-  pub call_small : 0 + weight code ≤ 262144
-  call_small =
-      let w = ap weight kept ∙ weighs h.tree (map (λ i. Argument i) (range_with_len 0 (length h.signature.parameters))) 0 0 in
-      omega (arith, w, sound.small)
+  pub call_weighs : (c : ℕ) → weight c code ≡ most_steps c h.tree
+  call_weighs c =
+      ap (weight c) kept
+      ∙ weighs c h.tree (map (λ i. Argument i) (range_with_len 0 (length h.signature.parameters))) 0 0
+      ∙ zero-add _
 
-  pub call_scoped : point_bound h.tree ≤ length v.valid → IsScoped (length v.valid) (length a) 0 code
-  call_scoped known =
-      let P : Code → Type 0 = λ k. IsScoped (length v.valid) (length a) 0 k in
-      subst P (sym kept) (scoped (length v.valid) (length a) h.tree _ 0 0 (in_arguments (length a) (length h.signature.parameters) 0 (omega (arith, count))) known)
+  -- what the tree invokes, as P says, the code may invoke, as C says
+  pub call_scoped : (C : ℕ → ℕ → Type 0) (P : ℕ → Signature → Type 0) → ((s : ℕ) (m : Signature) → P s m → C s (length m.parameters)) → (k : ℕ) → point_bound h.tree ≤ k → EachInvoke P h.tree → IsScoped C k (length a) 0 code
+  call_scoped C P allows k known invokes =
+      let S : Code → Type 0 = λ x. IsScoped C k (length a) 0 x in
+      let operands = map (λ i. Argument i) (range_with_len 0 (length h.signature.parameters)) in
+      let wide : length h.signature.parameters ≤ length operands = omega (arith, length-map-range_with_len (λ i. Argument i) 0 (length h.signature.parameters)) in
+      subst S (sym kept) (scoped C P allows k (length a) h.tree h.signature _ 0 0 sound.typed wide (in_arguments (length a) (length h.signature.parameters) 0 (omega (arith, count))) known invokes)

@@ -1,6 +1,7 @@
--- The prepared code of a typed tree takes the steps that the tree takes, and counts each node once.
-use Rattle.std.proofs.Common.{◌≡◌, ℕ, ◌+◌, ◌≤◌, refl, ap, sym, ◌∙◌, List, [], ◌∷◌, ◌++◌, drop, map, length, arith, Result, length-append, length-take, length-drop, zero-add, if◌then◌else◌}
+-- The prepared code of a typed tree takes the steps that the tree takes, and at most as many as the tree may.
+use Rattle.std.proofs.Common.{◌≡◌, ℕ, ◌+◌, ◌≤◌, refl, ap, sym, ◌∙◌, List, [], ◌∷◌, ◌++◌, take, drop, map, length, arith, Result, length-append, length-take, length-drop, zero-add, if◌then◌else◌}
 use Rattle.std.specs.Prelude.{slice_set}
+use Rattle.std.proofs.lemmas.List.{take-map}
 use Rattle.std.proofs.Math.ListN.{length-set}
 use Rattle.mh_type.specs.declared.kind.Kind.{Kind}
 use Rattle.mh_type.specs.declared.value.Value.{Value}
@@ -9,16 +10,16 @@ use Rattle.mh_type.specs.declared.outcome.Outcome.{Outcome}
 use Rattle.mh_type.specs.declared.outcome.Outcome.TheVariants.{Thrown, Value as Value'}
 use Rattle.mh_type.specs.Signature.{Signature}
 use Rattle.mh_tree.specs.Meaning.{mean, steps, filtered, filter_steps, with_value, after, after_filters, argument, put_in, taken_out, choose_steps, is_valid}
-use Rattle.mh_tree.specs.Tree.{Tree, Filters, constant, identity, operation, insert, discard, permute, filter, filter_return, fold, guard, point, no_more, absent, present}
+use Rattle.mh_tree.specs.Tree.{Tree, Filters, constant, identity, operation, insert, discard, permute, filter, filter_return, fold, guard, point, invoke, no_more, absent, present}
 use Rattle.mh_tree.specs.Typing.{IsTyped, AreTyped}
 use Rattle.mh_tree.specs.Laws.LeadingArguments.{mean_leading, steps_leading}
 use Rattle.mh_tree.specs.Code.{Code}
-use Rattle.mh_tree.specs.Limits.{size, total_size}
-use Rattle.mh_tree.specs.Running.{code_steps, weight}
+use Rattle.mh_tree.specs.Limits.{most_steps, all_steps}
+use Rattle.mh_tree.specs.Running.{value_of, code_steps, weight}
 use Rattle.mh_tree.specs.Prepared.{operand_at, prepared, prepared_filters}
 use Rattle.mh_tree.specs.declared.operand.Operand.{Operand}
 use Rattle.mh_tree.specs.declared.operand.Operand.TheVariants.{Local}
-use Rattle.mh_tree.specs.Laws.OperandReads.{Reads, reads_inserted, reads_discarded, reads_permuted, reads_one, reads_newest, reads_set, reads_nothing, permuted_wide, filter_wide, shorter, one_more}
+use Rattle.mh_tree.specs.Laws.OperandReads.{Reads, reads_now, reads_inserted, reads_discarded, reads_permuted, reads_one, reads_newest, reads_set, reads_nothing, permuted_wide, filter_wide, shorter, one_more}
 use Rattle.mh_tree.specs.Laws.Means.{means}
 use Rattle.mh_tree.specs.Environment.{Environment}
 
@@ -72,6 +73,10 @@ mutual
   costs v (point p x y) m env d s a l b (one, two) wide deep h =
       (λ i. (s + 1) + (if is_valid v p then (costs v x m env d 0 a l b one wide deep h ∙ zero-add _) i else (costs v y m env d 0 a l b two wide deep h ∙ zero-add _) i))
       ∙ moved s _
+  costs v (invoke k n) m env d s a l b typed wide deep h =
+      let w = length n.parameters in
+      ap (λ c. (s + 1) + v.call_steps k c) (sym (take-map (value_of a l) w env) ∙ ap (λ c. take w c) (reads_now a l env b h))
+      ∙ moved s _
 
   costs_filters : (v : Environment) (fs : Filters) (old new : List Kind) (p : ℕ) (env : List Operand) (d s : ℕ) (a l b : List Value) (go : List Operand → ℕ → ℕ → Code) (goes : List Value → ℕ) (w : ℕ) → AreTyped fs old new → w ≤ length b → d ≡ length l → Reads a l env b → ((env' : List Operand) (d' s' : ℕ) (l' b' : List Value) → w ≤ length b' → d' ≡ length l' → Reads a l' env' b' → code_steps v (go env' d' s') a l' ≡ s' + goes b') → code_steps v (prepared_filters fs p env d s go) a l ≡ s + (filter_steps v fs p b + after_filters (filtered v fs p b) goes)
   costs_filters v no_more old new p env d s a l b go goes w typed wide deep h k = k env d s l b wide deep h ∙ ap (λ n. s + n) (sym (zero-add _))
@@ -87,23 +92,24 @@ mutual
   costs_filters v (present f fs) [] new p env d s a l b go goes w typed wide deep h k = absurd typed
   costs_filters v (present f fs) (z ∷ old) [] p env d s a l b go goes w typed wide deep h k = absurd typed
 
--- the steps of a tree's code are as many as its nodes
+-- the steps of a tree's code are at most its own, where an invocation takes at most c beside its own
 mutual
-  pub weighs : (t : Tree) (env : List Operand) (d s : ℕ) → weight (prepared t env d s) ≡ s + size t
-  weighs (constant x) env d s = refl
-  weighs (identity k) env d s = refl
-  weighs (operation o) env d s = refl
-  weighs (insert t p xs) env d s = weighs t _ d (s + 1) ∙ moved s _
-  weighs (discard t p ks) env d s = weighs t _ d (s + 1) ∙ moved s _
-  weighs (permute t m r) env d s = weighs t _ d (s + 1) ∙ moved s _
-  weighs (filter t p fs) env d s = filters_weigh fs p env d (s + 1) (prepared t) (size t) (weighs t) ∙ omega arith
-  weighs (filter_return t f) env d s = omega (arith, weighs t env d 0, weighs f (Local d ∷ []) (d + 1) 0)
-  weighs (fold t c) env d s = omega (arith, weighs c env d 0, weighs t (Local d ∷ env) (d + 1) 0)
-  weighs (guard c x y) env d s = omega (arith, weighs c env d 0, weighs x env d 0, weighs y env d 0)
-  weighs (point p x y) env d s = omega (arith, weighs x env d 0, weighs y env d 0)
+  pub weighs : (c : ℕ) (t : Tree) (env : List Operand) (d s : ℕ) → weight c (prepared t env d s) ≡ s + most_steps c t
+  weighs c (constant x) env d s = refl
+  weighs c (identity k) env d s = refl
+  weighs c (operation o) env d s = refl
+  weighs c (insert t p xs) env d s = weighs c t _ d (s + 1) ∙ moved s _
+  weighs c (discard t p ks) env d s = weighs c t _ d (s + 1) ∙ moved s _
+  weighs c (permute t m r) env d s = weighs c t _ d (s + 1) ∙ moved s _
+  weighs c (filter t p fs) env d s = filters_weigh c fs p env d (s + 1) (prepared t) (most_steps c t) (weighs c t) ∙ omega arith
+  weighs c (filter_return t f) env d s = omega (arith, weighs c t env d 0, weighs c f (Local d ∷ []) (d + 1) 0)
+  weighs c (fold t b) env d s = omega (arith, weighs c b env d 0, weighs c t (Local d ∷ env) (d + 1) 0)
+  weighs c (guard b x y) env d s = omega (arith, weighs c b env d 0, weighs c x env d 0, weighs c y env d 0)
+  weighs c (point p x y) env d s = omega (arith, weighs c x env d 0, weighs c y env d 0)
+  weighs c (invoke k n) env d s = moved s c
 
-  filters_weigh : (fs : Filters) (p : ℕ) (env : List Operand) (d s : ℕ) (go : List Operand → ℕ → ℕ → Code) (n : ℕ) → ((env' : List Operand) (d' s' : ℕ) → weight (go env' d' s') ≡ s' + n) → weight (prepared_filters fs p env d s go) ≡ s + (total_size fs + n)
-  filters_weigh no_more p env d s go n k = omega (arith, k env d s)
-  filters_weigh (absent fs) p env d s go n k = filters_weigh fs (p + 1) env d s go n k
-  filters_weigh (present f fs) p env d s go n k =
-      omega (arith, weighs f (operand_at env p ∷ []) d 0, filters_weigh fs (p + 1) (slice_set env p (Local d)) (d + 1) 0 go n k)
+  filters_weigh : (c : ℕ) (fs : Filters) (p : ℕ) (env : List Operand) (d s : ℕ) (go : List Operand → ℕ → ℕ → Code) (n : ℕ) → ((env' : List Operand) (d' s' : ℕ) → weight c (go env' d' s') ≡ s' + n) → weight c (prepared_filters fs p env d s go) ≡ s + (all_steps c fs + n)
+  filters_weigh c no_more p env d s go n k = omega (arith, k env d s)
+  filters_weigh c (absent fs) p env d s go n k = filters_weigh c fs (p + 1) env d s go n k
+  filters_weigh c (present f fs) p env d s go n k =
+      omega (arith, weighs c f (operand_at env p ∷ []) d 0, filters_weigh c fs (p + 1) (slice_set env p (Local d)) (d + 1) 0 go n k)

@@ -16,7 +16,7 @@ use Rattle.mh_type.specs.Operations.{operate, op_signature, first, second}
 use Rattle.mh_type.specs.Signature.{Signature}
 use Rattle.mh_tree.specs.Arity.{arity}
 use Rattle.mh_tree.specs.Meaning.{◌>>=◌, mean, steps, filtered, filter_steps, with_arguments, with_value, after, after_filters, argument, put_in, taken_out, choose, choose_steps, is_valid}
-use Rattle.mh_tree.specs.Tree.{Tree, Filters, constant, identity, operation, insert, discard, permute, filter, filter_return, fold, guard, point, no_more, absent, present}
+use Rattle.mh_tree.specs.Tree.{Tree, Filters, constant, identity, operation, insert, discard, permute, filter, filter_return, fold, guard, point, invoke, no_more, absent, present}
 use Rattle.mh_tree.specs.Typing.{IsTyped, AreTyped}
 use Rattle.mh_tree.specs.Environment.{Environment}
 
@@ -68,6 +68,7 @@ arity_counts (filter_return t f) m (k, typed, after) = arity_counts t _ typed
 arity_counts (fold t c) m (k, ks, typed, combiner, begins) = omega (arith, arity_counts t _ typed)
 arity_counts (guard c x y) m (ks, test, begins, first, second) = arity_counts x m first
 arity_counts (point p x y) m (first, second) = arity_counts x m first
+arity_counts (invoke s n) m (few, made) = ap (λ (k : Signature). length k.parameters) (sym made)
 
 -- operations that take two arguments, and one
 two_more : (a e : List Value) (go : Value → Value → Outcome) → 2 ≤ length a → first (a ++ e) (λ x. second (a ++ e) (go x)) ≡ first a (λ x. second a (go x))
@@ -233,6 +234,9 @@ mean_more v (guard c x y) m a e (ks, test, begins, first, second) wide =
     (λ i. mean v c (take (arity c) a) >>= (λ b. choose b (mean_more v x m a e first wide i) (mean_more v y m a e second wide i)))
 mean_more v (point p x y) m a e (first, second) wide =
     λ i. if is_valid v p then mean_more v x m a e first wide i else mean_more v y m a e second wide i
+mean_more v (invoke s n) m a e (few, made) wide =
+    let many = ap (λ (k : Signature). length k.parameters) made in
+    ap (v.calls s) (take-append-le (length n.parameters) a e (omega arith))
 
 steps_more : (v : Environment) (t : Tree) (m : Signature) (a e : List Value) → IsTyped t m → length m.parameters ≤ length a → steps v t (a ++ e) ≡ steps v t a
 steps_more v (constant x) m a e typed wide = refl
@@ -270,6 +274,9 @@ steps_more v (guard c x y) m a e (ks, test, begins, first, second) wide =
     (λ i. 1 + (steps v c (take (arity c) a) + after (mean v c (take (arity c) a)) (λ b. choose_steps b (steps_more v x m a e first wide i) (steps_more v y m a e second wide i))))
 steps_more v (point p x y) m a e (first, second) wide =
     λ i. 1 + (if is_valid v p then steps_more v x m a e first wide i else steps_more v y m a e second wide i)
+steps_more v (invoke s n) m a e (few, made) wide =
+    let many = ap (λ (k : Signature). length k.parameters) made in
+    ap (λ b. 1 + v.call_steps s b) (take-append-le (length n.parameters) a e (omega arith))
 
 -- A typed tree does on as many leading arguments as it has parameters what it does on all.
 module _ (v : Environment) (t : Tree) (m : Signature) (a : List Value) (typed : IsTyped t m) (wide : length m.parameters ≤ length a) where

@@ -10,7 +10,7 @@ use Rattle.mh_type.specs.declared.outcome.Outcome.TheVariants.{Value as Value'}
 use Rattle.mh_type.specs.Operations.{operate, op_signature}
 use Rattle.mh_type.specs.Signature.{Signature}
 use Rattle.mh_tree.specs.Meaning.{◌>>=◌, mean, filtered, with_arguments, argument, put_in, taken_out, choose, is_valid}
-use Rattle.mh_tree.specs.Tree.{Tree, Filters, constant, identity, operation, insert, discard, permute, filter, filter_return, fold, guard, point, no_more, absent, present}
+use Rattle.mh_tree.specs.Tree.{Tree, Filters, constant, identity, operation, insert, discard, permute, filter, filter_return, fold, guard, point, invoke, no_more, absent, present}
 use Rattle.mh_tree.specs.Typing.{IsTyped, AreTyped}
 use Rattle.mh_tree.specs.Laws.LeadingArguments.{operate_more, mean_leading}
 use Rattle.mh_tree.specs.Code.{Code}
@@ -62,6 +62,9 @@ mutual
       >>= (λ z. choose z (means v x m env d 0 a l b one wide deep h i) (means v y m env d 0 a l b two wide deep h i))
   means v (point p x y) m env d s a l b (one, two) wide deep h =
       λ i. if is_valid v p then means v x m env d 0 a l b one wide deep h i else means v y m env d 0 a l b two wide deep h i
+  means v (invoke k n) m env d s a l b typed wide deep h =
+      let w = length n.parameters in
+      ap (v.calls k) (sym (take-map (value_of a l) w env) ∙ ap (λ c. take w c) (reads_now a l env b h))
 
   means_filters : (v : Environment) (fs : Filters) (old new : List Kind) (p : ℕ) (env : List Operand) (d s : ℕ) (a l b : List Value) (go : List Operand → ℕ → ℕ → Code) (goes : List Value → Outcome) (w : ℕ) → AreTyped fs old new → w ≤ length b → d ≡ length l → Reads a l env b → ((env' : List Operand) (d' s' : ℕ) (l' b' : List Value) → w ≤ length b' → d' ≡ length l' → Reads a l' env' b' → run_code v (go env' d' s') a l' ≡ goes b') → run_code v (prepared_filters fs p env d s go) a l ≡ with_arguments (filtered v fs p b) goes
   means_filters v no_more old new p env d s a l b go goes w typed wide deep h k = k env d s l b wide deep h

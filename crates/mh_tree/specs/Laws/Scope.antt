@@ -1,27 +1,29 @@
 -- The prepared code of a tree names only what is there.
-use Rattle.std.proofs.Common.{◌≡◌, ℕ, zero, suc, ◌+◌, ◌≤◌, refl, ap, sym, ◌∙◌, List, [], ◌∷◌, ◌++◌, take, drop, map, length, arith, false}
+use Rattle.std.proofs.Common.{◌≡◌, ℕ, zero, suc, ◌+◌, ◌≤◌, refl, ap, sym, ◌∙◌, List, [], ◌∷◌, ◌++◌, take, drop, map, length, arith, false, subst, length-append, length-take, length-drop}
 use Rattle.std.specs.Prelude.{slice_set}
 use Rattle.std.specs.List.{range_with_len}
-use Rattle.std.proofs.lemmas.List.{map-append, take_more}
+use Rattle.std.proofs.lemmas.List.{map-append, take_more, length-map}
 use Rattle.std.proofs.lemmas.List.FromFn.{map-range_with_len_more}
+use Rattle.std.proofs.Math.ListN.{length-set}
 use Rattle.std.proofs.Math.Seq.{take-length}
+use Rattle.mh_type.specs.declared.kind.Kind.{Kind}
 use Rattle.mh_type.specs.declared.value.Value.{Value}
 use Rattle.mh_type.specs.declared.value.Value.TheVariants.{Boolean}
 use Rattle.mh_type.specs.Operations.{op_signature}
+use Rattle.mh_type.specs.Signature.{Signature}
+use Rattle.mh_tree.specs.Laws.LeadingArguments.{same_count}
+use Rattle.mh_tree.specs.Laws.OperandReads.{shorter}
 use Rattle.mh_tree.specs.Limits.{point_bound, greatest_bound}
 use Rattle.mh_tree.specs.Meaning.{argument}
-use Rattle.mh_tree.specs.Tree.{Tree, Filters, constant, identity, operation, insert, discard, permute, filter, filter_return, fold, guard, point, no_more, absent, present}
+use Rattle.mh_tree.specs.Tree.{Tree, Filters, constant, identity, operation, insert, discard, permute, filter, filter_return, fold, guard, point, invoke, no_more, absent, present}
 use Rattle.mh_tree.specs.Code.{Code}
 use Rattle.mh_tree.specs.Prepared.{operand_at, prepared, prepared_filters}
 use Rattle.mh_tree.specs.Running.{value_of}
-use Rattle.mh_tree.specs.Scoped.{IsIn, IsScoped}
+use Rattle.mh_tree.specs.Scoped.{IsIn, AllIn, IsScoped}
+use Rattle.mh_tree.specs.Sites.{EachInvoke, EachInvokes}
+use Rattle.mh_tree.specs.Typing.{IsTyped, AreTyped, kind_at}
 use Rattle.mh_tree.specs.declared.operand.Operand.{Operand}
 use Rattle.mh_tree.specs.declared.operand.Operand.TheVariants.{Argument, Local, Constant}
-
--- each operand is there
-abbrev pub AllIn : ℕ → ℕ → List Operand → Type 0
-AllIn n d [] = Unit {0}
-AllIn n d (o ∷ rest) = IsIn n d o × AllIn n d rest
 
 in_append : (n d : ℕ) (xs ys : List Operand) → AllIn n d xs → AllIn n d ys → AllIn n d (xs ++ ys)
 in_append n d [] ys p q = q
@@ -37,7 +39,7 @@ in_drop n d zero xs h = h
 in_drop n d (suc k) [] h = tt
 in_drop n d (suc k) (x ∷ xs) (p, ps) = in_drop n d k xs ps
 
-in_at : (n d i : ℕ) (xs : List Operand) → AllIn n d xs → IsIn n d (operand_at xs i)
+pub in_at : (n d i : ℕ) (xs : List Operand) → AllIn n d xs → IsIn n d (operand_at xs i)
 in_at n d i [] h = tt
 in_at n d zero (x ∷ xs) (p, ps) = p
 in_at n d (suc i) (x ∷ xs) (p, ps) = in_at n d i xs ps
@@ -64,33 +66,69 @@ in_more : (n d : ℕ) (xs : List Operand) → AllIn n d xs → AllIn n (d + 1) x
 in_more n d [] h = tt
 in_more n d (x ∷ xs) (p, ps) = (one_in n d x p, in_more n d xs ps)
 
+-- what a tree invokes, as P says, its code may invoke, as C says
 mutual
-  pub scoped : (k n : ℕ) (t : Tree) (env : List Operand) (d s : ℕ) → AllIn n d env → point_bound t ≤ k → IsScoped k n d (prepared t env d s)
-  scoped k n (constant x) env d s h b = tt
-  scoped k n (identity z) env d s h b = in_at n d 0 env h
-  scoped k n (operation o) env d s h b =
+  pub scoped : (C : ℕ → ℕ → Type 0) (P : ℕ → Signature → Type 0) → ((s : ℕ) (m : Signature) → P s m → C s (length m.parameters)) → (k n : ℕ) (t : Tree) (m : Signature) (env : List Operand) (d s : ℕ) → IsTyped t m → length m.parameters ≤ length env → AllIn n d env → point_bound t ≤ k → EachInvoke P t → IsScoped C k n d (prepared t env d s)
+  scoped C P allows k n (constant x) m env d s typed wide h b e = tt
+  scoped C P allows k n (identity z) m env d s typed wide h b e = in_at n d 0 env h
+  scoped C P allows k n (operation o) m env d s typed wide h b e =
       let read = take (length (op_signature o).parameters) env in
       let there = in_take n d (length (op_signature o).parameters) env h in
       (in_at n d 0 read there, in_at n d 1 read there)
-  scoped k n (insert t p xs) env d s h b =
-      scoped k n t _ d (s + 1) (in_append n d (take p env) _ (in_take n d p env h) (in_append n d (map Constant xs) (drop p env) (in_constants n d xs) (in_drop n d p env h))) b
-  scoped k n (discard t p ks) env d s h b =
-      scoped k n t _ d (s + 1) (in_append n d (take p env) _ (in_take n d p env h) (in_drop n d (p + length ks) env h)) b
-  scoped k n (permute t m r) env d s h b = scoped k n t _ d (s + 1) (in_reordered n d env r h) b
-  scoped k n (filter t p fs) env d s h b =
-      scoped_filters k n fs p env d (s + 1) (prepared t) h (omega arith) (λ env' d' s' h'. scoped k n t env' d' s' h' (omega arith))
-  scoped k n (filter_return t f) env d s h b = (scoped k n t env d 0 h (omega arith), scoped k n f (Local d ∷ []) (d + 1) 0 (omega arith, tt) (omega arith))
-  scoped k n (fold t c) env d s h b = (scoped k n c env d 0 h (omega arith), scoped k n t (Local d ∷ env) (d + 1) 0 (omega arith, in_more n d env h) (omega arith))
-  scoped k n (guard c x y) env d s h b = (scoped k n c env d 0 h (omega arith), scoped k n x env d 0 h (omega arith), scoped k n y env d 0 h (omega arith))
-  scoped k n (point p x y) env d s h b = (omega arith, scoped k n x env d 0 h (omega arith), scoped k n y env d 0 h (omega arith))
-
-  scoped_filters : (k n : ℕ) (fs : Filters) (p : ℕ) (env : List Operand) (d s : ℕ) (go : List Operand → ℕ → ℕ → Code) → AllIn n d env → greatest_bound fs ≤ k → ((env' : List Operand) (d' s' : ℕ) → AllIn n d' env' → IsScoped k n d' (go env' d' s')) → IsScoped k n d (prepared_filters fs p env d s go)
-  scoped_filters k n no_more p env d s go h b g = g env d s h
-  scoped_filters k n (absent fs) p env d s go h b g = scoped_filters k n fs (p + 1) env d s go h b g
-  scoped_filters k n (present f fs) p env d s go h b g = (
-    scoped k n f (operand_at env p ∷ []) d 0 (in_at n d p env h, tt) (omega arith),
-    scoped_filters k n fs (p + 1) (slice_set env p (Local d)) (d + 1) 0 go (in_set n (d + 1) p env (Local d) (omega arith) (in_more n d env h)) (omega arith) g,
+  scoped C P allows k n (insert t p xs) m env d s (q, typed, inserts) wide h b e =
+      let made = ap (λ (j : Signature). length j.parameters) inserts.made in
+      let inside = inserts.inside in
+      let count = simp (length-append, length-take, length-drop) at made in
+      let many : length q.parameters ≤ length (take p env ++ (map Constant xs ++ drop p env)) =
+      omega (arith, length-append (take p env) (map Constant xs ++ drop p env), length-append (map Constant xs) (drop p env), length-take p env, length-drop p env, length-map xs Constant) in
+      scoped C P allows k n t q _ d (s + 1) typed many (in_append n d (take p env) _ (in_take n d p env h) (in_append n d (map Constant xs) (drop p env) (in_constants n d xs) (in_drop n d p env h))) b e
+  scoped C P allows k n (discard t p ks) m env d s (q, typed, discards) wide h b e =
+      let made = ap (λ (j : Signature). length j.parameters) discards.made in
+      let inside = discards.inside in
+      let count = simp (length-append, length-take, length-drop) at made in
+      let many : length q.parameters ≤ length (take p env ++ drop (p + length ks) env) =
+      omega (arith, length-append (take p env) (drop (p + length ks) env), length-take p env, length-drop (p + length ks) env) in
+      scoped C P allows k n t q _ d (s + 1) typed many (in_append n d (take p env) _ (in_take n d p env h) (in_drop n d (p + length ks) env h)) b e
+  scoped C P allows k n (permute t new_type r) m env d s (q, typed, reorders, made) wide h b e =
+      let same = ap (λ (ks : List Kind). length ks) reorders.same in
+      scoped C P allows k n t q _ d (s + 1) typed (omega (arith, length-map r (λ i. kind_at m.parameters i), length-map r (operand_at env))) (in_reordered n d env r h) b e
+  scoped C P allows k n (filter t p fs) m env d s (q, typed, inside, returns, firsts, filters) wide h b e =
+      let same = same_count p fs q.parameters m.parameters inside firsts filters in
+      scoped_filters C P allows k n fs (drop p q.parameters) (drop p m.parameters) p env d (s + 1) (prepared t) (length q.parameters) filters (omega arith) h (omega arith) e.1
+      (λ env' d' s' wide' h'. scoped C P allows k n t q env' d' s' typed wide' h' (omega arith) e.0)
+  scoped C P allows k n (filter_return t f) m env d s (z, typed, last) wide h b e = (
+    scoped C P allows k n t _ env d 0 typed wide h (omega arith) e.0,
+    scoped C P allows k n f _ (Local d ∷ []) (d + 1) 0 last (omega arith) (omega arith, tt) (omega arith) e.1,
   )
+  scoped C P allows k n (fold t c) m env d s (z, ks, typed, combiner, begins) wide h b e =
+      let few = shorter ks m.parameters begins in (
+        scoped C P allows k n c _ env d 0 combiner (omega arith) h (omega arith) e.1,
+        scoped C P allows k n t _ (Local d ∷ env) (d + 1) 0 typed (omega arith) (omega arith, in_more n d env h) (omega arith) e.0,
+      )
+  scoped C P allows k n (guard c x y) m env d s (ks, test, begins, one, two) wide h b e =
+      let few = shorter ks m.parameters begins in (
+        scoped C P allows k n c _ env d 0 test (omega arith) h (omega arith) e.0,
+        scoped C P allows k n x m env d 0 one wide h (omega arith) e.1,
+        scoped C P allows k n y m env d 0 two wide h (omega arith) e.2,
+      )
+  scoped C P allows k n (point p x y) m env d s (one, two) wide h b e =
+      (omega arith, scoped C P allows k n x m env d 0 one wide h (omega arith) e.0, scoped C P allows k n y m env d 0 two wide h (omega arith) e.1)
+  scoped C P allows k n (invoke j q) m env d s (few, made) wide h b e =
+      let count = ap (λ (i : Signature). length i.parameters) made in
+      let all : length (take (length q.parameters) env) ≡ length q.parameters = omega (arith, length-take (length q.parameters) env) in
+      (subst (C j) (sym all) (allows j q e), in_take n d (length q.parameters) env h)
+
+  scoped_filters : (C : ℕ → ℕ → Type 0) (P : ℕ → Signature → Type 0) → ((s : ℕ) (m : Signature) → P s m → C s (length m.parameters)) → (k n : ℕ) (fs : Filters) (old new : List Kind) (p : ℕ) (env : List Operand) (d s : ℕ) (go : List Operand → ℕ → ℕ → Code) (w : ℕ) → AreTyped fs old new → w ≤ length env → AllIn n d env → greatest_bound fs ≤ k → EachInvokes P fs → ((env' : List Operand) (d' s' : ℕ) → w ≤ length env' → AllIn n d' env' → IsScoped C k n d' (go env' d' s')) → IsScoped C k n d (prepared_filters fs p env d s go)
+  scoped_filters C P allows k n no_more old new p env d s go w typed wide h b e g = g env d s wide h
+  scoped_filters C P allows k n (absent fs) (z ∷ old) (j ∷ new) p env d s go w typed wide h b e g = scoped_filters C P allows k n fs old new (p + 1) env d s go w typed.1 wide h b e g
+  scoped_filters C P allows k n (absent fs) [] new p env d s go w typed wide h b e g = absurd typed
+  scoped_filters C P allows k n (absent fs) (z ∷ old) [] p env d s go w typed wide h b e g = absurd typed
+  scoped_filters C P allows k n (present f fs) (z ∷ old) (j ∷ new) p env d s go w typed wide h b e g = (
+    scoped C P allows k n f _ (operand_at env p ∷ []) d 0 typed.0 (omega arith) (in_at n d p env h, tt) (omega arith) e.0,
+    scoped_filters C P allows k n fs old new (p + 1) (slice_set env p (Local d)) (d + 1) 0 go w typed.1 (omega (arith, length-set env p (Local d))) (in_set n (d + 1) p env (Local d) (omega arith) (in_more n d env h)) (omega arith) e.1 g,
+  )
+  scoped_filters C P allows k n (present f fs) [] new p env d s go w typed wide h b e g = absurd typed
+  scoped_filters C P allows k n (present f fs) (z ∷ old) [] p env d s go w typed wide h b e g = absurd typed
 
 -- the operands of a call
 pub in_arguments : (n k a : ℕ) → a + k ≤ n → AllIn n 0 (map (λ x. Argument x) (range_with_len a k))

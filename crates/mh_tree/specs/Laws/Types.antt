@@ -8,7 +8,7 @@ use Rattle.mh_type.specs.declared.operation.Op.TheVariants.{Iadd, Isub, Imul, Id
 use Rattle.mh_type.specs.Operations.{op_signature}
 use Rattle.mh_type.specs.Signature.{Signature, with_parameters, without_parameters}
 use Rattle.std.proofs.lemmas.List.{take-append-drop, take-append-le, take_all, drop_at, take-set, drop-set}
-use Rattle.mh_tree.specs.Tree.{Tree, Filters, constant, identity, operation, insert, discard, permute, filter, filter_return, fold, guard, point, no_more, absent, present}
+use Rattle.mh_tree.specs.Tree.{Tree, Filters, constant, identity, operation, insert, discard, permute, filter, filter_return, fold, guard, point, invoke, no_more, absent, present}
 use Rattle.mh_tree.specs.TypeOf.{type_of, filtered_kinds}
 use Rattle.mh_tree.specs.Typing.{IsTyped, AreTyped, kind_at}
 use Rattle.mh_tree.specs.Laws.LeadingArguments.{same_count}
@@ -55,6 +55,7 @@ mutual
       ap (λ (s : Signature). record { ret = s.ret; parameters = without_parameters s.parameters 0 1 }) (type_computed t _ typed)
   type_computed (guard c x y) m (ks, test, begins, first, second) = type_computed x m first
   type_computed (point p x y) m (first, second) = type_computed x m first
+  type_computed (invoke s n) m (few, made) = sym made
 
   -- filters give the parameters that stand in the places of the target's
   kinds_by : (fs : Filters) (p : ℕ) (ks old new : List Kind) → drop p ks ≡ old → AreTyped fs old new → filtered_kinds fs p ks ≡ take p ks ++ new
@@ -129,6 +130,7 @@ few_parameters (filter_return t f) m (k, typed, last) = few_parameters t _ typed
 few_parameters (fold t c) m (k, ks, typed, combiner, begins) = omega (arith, few_parameters t _ typed)
 few_parameters (guard c x y) m (ks, test, begins, first, second) = few_parameters x m first
 few_parameters (point p x y) m (first, second) = few_parameters x m first
+few_parameters (invoke s n) m (few, made) = let many = ap (λ (k : Signature). length k.parameters) made in omega (arith, few)
 
 -- a parameter that is taken out and put in again as another is replaced
 pub replaced : (ks : List Kind) (p : ℕ) (k : Kind) → p < length ks → with_parameters (without_parameters ks p 1) p (k ∷ []) ≡ slice_set ks p k

@@ -1,30 +1,38 @@
-use Rattle.std.proofs.Common.{◌≡◌, ◌+◌, ◌*◌, ◌≤◌, length, take, vec_capacity}
+use Rattle.std.proofs.Common.{◌≡◌, ◌+◌, ◌-◌, ◌*◌, ◌≤◌, length, take, vec_capacity}
 use Rattle.mh_tree.specs.CodeOf.{code_of}
 use Rattle.mh_eval.specs.Height.{height}
 use Rattle.mh_eval.specs.Quiet.{IsQuiet, deep}
 use Rattle.mh_tree.specs.Running.{run_code, code_steps, weight}
 use Rattle.mh_tree.specs.Scoped.{IsScoped}
 use Rattle.mh_eval.proofs.running.+run_on.Given as goal
-use Rattle.mh_tree.specs.Environment.{with_points}
+use Rattle.mh_tree.specs.Sites.{setting, env, MayCall, most_at, greatest_steps}
+use Rattle.mh_eval.specs.Lower.{AreReady}
 
--- what is left to do: four for each level, and one to three for the call that has entered a piece
+-- what is left to do: as much as a tree's code may take for each tree that may be invoked below another; four for each level, and one to
+-- three for the call that has entered a piece
+abbrev pub decreases-run_site : goal.decreases-run_site
+decreases-run_site l = 1048600 * l.level
+
+abbrev pub decreases-run_framed : goal.decreases-run_framed
+decreases-run_framed l = 1048600 * l.level - 1
+
 abbrev pub decreases-run_on : goal.decreases-run_on
-decreases-run_on l = 4 * height (code_of l.code.now) + 2
+decreases-run_on l = 1048600 * l.level + 4 * height (code_of l.code.now) + 2
 
 abbrev pub decreases-enter : goal.decreases-enter
-decreases-enter l = 4 * height (code_of l.piece.now) + 1
+decreases-enter l = 1048600 * l.level + 4 * height (code_of l.piece.now) + 1
 
 abbrev pub decreases-enter_bind : goal.decreases-enter_bind
-decreases-enter_bind l = 4 * height (code_of l.first.now) + 4
+decreases-enter_bind l = 1048600 * l.level + 4 * height (code_of l.first.now) + 4
 
 abbrev pub decreases-enter_branch : goal.decreases-enter_branch
-decreases-enter_branch l = 4 * height (code_of l.test.now) + 4
+decreases-enter_branch l = 1048600 * l.level + 4 * height (code_of l.test.now) + 4
 
 abbrev pub decreases-answer_piece : goal.decreases-answer_piece
-decreases-answer_piece l = 4 * height (code_of l.code.now) + 3
+decreases-answer_piece l = 1048600 * l.level + 4 * height (code_of l.code.now) + 3
 
 abbrev pub decreases-push_first : goal.decreases-push_first
-decreases-push_first l = 4 * height (code_of l.first.now) + 3
+decreases-push_first l = 1048600 * l.level + 4 * height (code_of l.first.now) + 3
 
 abbrev pub decreases-run_on-loop-next : goal.decreases-run_on-loop-next
 decreases-run_on-loop-next l = height (code_of l.node)
@@ -34,14 +42,15 @@ abbrev pub invariant-run_on-loop-next : goal.invariant-run_on-loop-next
 invariant-run_on-loop-next l =
     record {
       kept : take l.depth l.stack.items ≡ l.initial.stack.items;
-      outcome : run_code (with_points l.valid) (code_of l.node) l.arguments l.stack.items ≡ run_code (with_points l.valid) (code_of l.code) l.arguments l.initial.stack.items;
-      steps : l.total + code_steps (with_points l.valid) (code_of l.node) l.arguments l.stack.items ≡ l.before + code_steps (with_points l.valid) (code_of l.code) l.arguments l.initial.stack.items;
-      few : l.total + weight (code_of l.node) ≤ l.before + weight (code_of l.code);
-      scoped : IsScoped (length l.valid) (length l.arguments) (length l.stack.items) (code_of l.node);
+      outcome : run_code (env (setting l.level l.here.valid.now l.here.targets.now)) (code_of l.node) l.arguments l.stack.items ≡ run_code (env (setting l.level l.here.valid.now l.here.targets.now)) (code_of l.code) l.arguments l.initial.stack.items;
+      steps : l.total + code_steps (env (setting l.level l.here.valid.now l.here.targets.now)) (code_of l.node) l.arguments l.stack.items ≡ l.before + code_steps (env (setting l.level l.here.valid.now l.here.targets.now)) (code_of l.code) l.arguments l.initial.stack.items;
+      few : l.total + weight (most_at l.level) (code_of l.node) ≤ l.before + weight (most_at l.level) (code_of l.code);
+      scoped : IsScoped (MayCall l.level l.here.targets.now (length l.here.valid.now)) (length l.here.valid.now) (length l.arguments) (length l.stack.items) (code_of l.node);
       lower : height (code_of l.node) ≤ height (code_of l.code);
       room : vec_capacity l.initial.stack ≤ vec_capacity l.stack;
-      quiet : IsQuiet (with_points l.valid) (code_of l.code) l.arguments l.initial.stack.items → IsQuiet (with_points l.valid) (code_of l.node) l.arguments l.stack.items;
+      quiet : IsQuiet (setting l.level l.here.valid.now l.here.targets.now) (code_of l.code) l.arguments l.initial.stack.items → IsQuiet (setting l.level l.here.valid.now l.here.targets.now) (code_of l.node) l.arguments l.stack.items;
       shallow : length l.stack.items + deep (code_of l.node) ≤ length l.initial.stack.items + deep (code_of l.code);
-      small : l.before + weight (code_of l.code) ≤ 262144;
+      small : l.before + weight (most_at l.level) (code_of l.code) ≤ greatest_steps;
       whole : l.depth ≡ length l.initial.stack.items;
+      ready : AreReady l.level l.lower;
     }

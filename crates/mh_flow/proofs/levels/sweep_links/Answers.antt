@@ -16,8 +16,8 @@ loop-row-preserved c =
           let items : c.if-settle_link.lowered.items ≡ c.loop-row.lowered.items ++ (row_at c.args.rows.now c.loop-row.row).link ∷ [] = rw w.lowered-is w.in_ok-push.ensures.items in
           subst (λ (xs : List ℕ). IsSpread c.args.links.now c.settle_link.new.links [] xs) (sym items)
           (spread_more _ _ _ _ _ (row_at c.args.rows.now c.loop-row.row).link c.loop-row.invariant.spread c.settle_link.ensures.links (OnTrue_at w.if-settle_link.true c.settle_link.ensures.less)
-          c.settle_link.ensures.others (c.loop-row.invariant.range.link_range c.loop-row.row _ inside))
+          c.settle_link.ensures.others (c.loop-row.invariant.levels.range.link_range c.loop-row.row _ inside))
       | else-settle_link w ↦ rw w.lowered-is (spread_same _ _ _ _ _ c.loop-row.invariant.spread (OnFalse_at w.if-settle_link.false c.settle_link.ensures.same))
     ] in
     links_swept_on _ _ _ _ _ _ _ _ _ c.loop-row.invariant
-    c.settle_link.ensures.supported c.settle_link.ensures.bounded c.settle_link.ensures.links c.settle_link.ensures.settled spread
+    c.settle_link.ensures.levels c.settle_link.ensures.links c.settle_link.ensures.settled spread

@@ -16,8 +16,8 @@ loop-row-preserved c =
           let items : c.if-settle_point.lowered.items ≡ c.loop-row.lowered.items ++ (row_at c.args.rows.now c.loop-row.row).point ∷ [] = rw w.lowered-is w.in_ok-push.ensures.items in
           subst (λ (xs : List ℕ). IsSpread c.args.points.now c.settle_point.new.points [] xs) (sym items)
           (spread_more _ _ _ _ _ (row_at c.args.rows.now c.loop-row.row).point c.loop-row.invariant.spread c.settle_point.ensures.points (OnTrue_at w.if-settle_point.true c.settle_point.ensures.less)
-          c.settle_point.ensures.others (c.loop-row.invariant.range.point_range c.loop-row.row _ inside))
+          c.settle_point.ensures.others (c.loop-row.invariant.levels.range.point_range c.loop-row.row _ inside))
       | else-settle_point w ↦ rw w.lowered-is (spread_same _ _ _ _ _ c.loop-row.invariant.spread (OnFalse_at w.if-settle_point.false c.settle_point.ensures.same))
     ] in
     points_swept_on _ _ _ _ _ _ _ _ _ c.loop-row.invariant
-    c.settle_point.ensures.supported c.settle_point.ensures.bounded c.settle_point.ensures.points c.settle_point.ensures.settled spread
+    c.settle_point.ensures.levels c.settle_point.ensures.points c.settle_point.ensures.settled spread

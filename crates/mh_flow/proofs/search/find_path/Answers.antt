@@ -39,7 +39,7 @@ loop-turns-preserved-in_default c =
     let this = c.loop-turns.invariant.spent.point_place c.loop-turns.at forth (sym place) in
     (search_past _ _ _ _ _ _ _ _ _ _ _ forth c.index.result.now c.loop-turns.invariant place c.in_default.ensures.spent
     (inr (c.in_default.ensures.found, omega (arith, c.if-gain_left-link-gt0.false)))
-    (before_read _ _ _ _ _ forth _ c.requires.by_point this.0 c.index.ensures)).0
+    (before_read _ _ _ _ _ forth _ c.requires.indexed.by_point this.0 c.index.ensures)).0
 
 pub loop-turns-smaller-in_default : goal.loop-turns-smaller-in_default
 loop-turns-smaller-in_default c =
@@ -48,7 +48,7 @@ loop-turns-smaller-in_default c =
     let this = c.loop-turns.invariant.spent.point_place c.loop-turns.at forth (sym place) in
     (search_past _ _ _ _ _ _ _ _ _ _ _ forth c.index.result.now c.loop-turns.invariant place c.in_default.ensures.spent
     (inr (c.in_default.ensures.found, omega (arith, c.if-gain_left-link-gt0.false)))
-    (before_read _ _ _ _ _ forth _ c.requires.by_point this.0 c.index.ensures)).1
+    (before_read _ _ _ _ _ forth _ c.requires.indexed.by_point this.0 c.index.ensures)).1
 
 pub loop-turns-preserved : goal.loop-turns-preserved
 loop-turns-preserved c =
@@ -57,7 +57,7 @@ loop-turns-preserved c =
     let this = c.loop-turns.invariant.spent.point_place c.loop-turns.at forth (sym place) in
     (search_past _ _ _ _ _ _ _ _ _ _ _ forth c.index-else-links-link.result.now c.loop-turns.invariant place c.loop-turns.invariant.spent
     (inl (omega (arith, c.if-links-link.false, ap (number_at c.args.points.now) this.1)))
-    (before_read _ _ _ _ _ forth _ c.requires.by_point this.0 c.index-else-links-link.ensures)).0
+    (before_read _ _ _ _ _ forth _ c.requires.indexed.by_point this.0 c.index-else-links-link.ensures)).0
 
 pub loop-turns-smaller : goal.loop-turns-smaller
 loop-turns-smaller c =
@@ -66,4 +66,4 @@ loop-turns-smaller c =
     let this = c.loop-turns.invariant.spent.point_place c.loop-turns.at forth (sym place) in
     (search_past _ _ _ _ _ _ _ _ _ _ _ forth c.index-else-links-link.result.now c.loop-turns.invariant place c.loop-turns.invariant.spent
     (inl (omega (arith, c.if-links-link.false, ap (number_at c.args.points.now) this.1)))
-    (before_read _ _ _ _ _ forth _ c.requires.by_point this.0 c.index-else-links-link.ensures)).1
+    (before_read _ _ _ _ _ forth _ c.requires.indexed.by_point this.0 c.index-else-links-link.ensures)).1

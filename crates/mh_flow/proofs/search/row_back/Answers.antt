@@ -19,4 +19,4 @@ loop-link_rows-preserved c =
     ] in
     let inside : c.args.link < length c.loop-link_rows.link_rows = omega (arith, c.requires.link, c.loop-link_rows.invariant.link_count) in
     spent_link _ _ _ _ _ _ c.args.link back c.index.result.now c.loop-link_rows.invariant inside place spent
-    (before_read _ _ _ _ _ back _ c.requires.chained this.0 c.index.ensures)
+    (before_read _ _ _ _ _ back _ c.requires.indexed.by_link this.0 c.index.ensures)

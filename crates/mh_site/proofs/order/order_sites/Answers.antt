@@ -6,7 +6,7 @@ use Rattle.mh_site.proofs.Mapped.{partly_more}
 use Rattle.mh_site.proofs.order.order_sites.Goals as goal
 
 abbrev with_links : Site → List Link → Site
-with_links s links = record { name = s.name; method_type = s.method_type; key = s.key; target = s.target; links = links }
+with_links s links = record { name = s.name; method_type = s.method_type; level = s.level; key = s.key; target = s.target; links = links }
 
 in_order : (s g : Site) (links : List Link) → links ≡ map link_in_order s.links → s ≡ g → with_links s links ≡ site_in_order g
 in_order s g links e same = cc

@@ -15,7 +15,7 @@ returns-in_err-test_site c =
     let i = c.loop-index.index in
     let lt = c.loop-index-test.true in
     let fault = c.in_err-test_site.field-0.0 in
-    let read = tests_read (site_tests c.args.points) sites i c.index-sites-index.result no_site lt c.index-sites-index.is in
+    let read = tests_read (site_tests c.args.points sites) sites i c.index-sites-index.result no_site lt c.index-sites-index.is in
     let fails = failed_here (tests_at_site c.args.points sites) i (length sites) fault lt (read ∙ c.in_err-test_site.ensures.value) in
     let told : first_failing (tests_of_sites c.args.points sites) ≡ Some fault = sym c.loop-index.invariant.told ∙ fails in
     grind (arith, common_steps)
@@ -26,8 +26,8 @@ loop-index-preserved c =
     let i = c.loop-index.index in
     let lt = c.loop-index-test.true in
     let passed = c.in_ok-test_site.ensures.value in
-    let read = tests_read (site_tests c.args.points) sites i c.index-sites-index.result no_site lt c.index-sites-index.is in
-    let new = not-true _ (all_hold (site_tests c.args.points (take i sites) c.index-sites-index.result) passed).1.1.1.0 in
+    let read = tests_read (site_tests c.args.points sites) sites i c.index-sites-index.result no_site lt c.index-sites-index.is in
+    let new = not-true _ (all_hold (site_tests c.args.points sites (take i sites) c.index-sites-index.result) passed).1.1.1.0 in
     record {
       told = passed_here (tests_at_site c.args.points sites) i (length sites) lt (read ∙ passed) ∙ c.loop-index.invariant.told;
       seen = one_more (λ (s : Site). s.name) sites i c.index-sites-index.result c.as_str.result.now c.loop-index.seen c.with_one_more-seen.result lt c.index-sites-index.is c.as_str.ensures.value new c.loop-index.invariant.seen c.with_one_more-seen.ensures.value;

@@ -1,7 +1,11 @@
-use Rattle.std.proofs.Common.{◌≡◌, map, take}
-use Rattle.mh_site.specs.SiteStates.{site_state}
-use Rattle.mh_site.specs.Worlds.{opening}
+use Rattle.std.proofs.Common.{◌≡◌, map, take, length}
+use Rattle.mh_site.specs.SiteStates.{site_states}
+use Rattle.mh_site.specs.Worlds.{AreTyped, opening}
 use Rattle.mh_site.proofs.world.open_sites.Given as goal
 
 abbrev pub invariant-loop-site : goal.invariant-loop-site
-invariant-loop-site l = map site_state l.opened.items ≡ map opening (take l.site-index l.sites)
+invariant-loop-site l = record {
+  value : site_states l.opened.items l.linked.items ≡ map opening (take l.site-index l.sites);
+  many : length l.linked.items ≡ length l.opened.items;
+  typed : AreTyped (map opening (take l.site-index l.sites));
+}

@@ -1,7 +1,13 @@
-use Rattle.std.proofs.Common.{◌≡◌, map, fold}
-use Rattle.mh_site.specs.SiteStates.{site_state}
+use Rattle.std.proofs.Common.{◌≡◌, fold, length}
+use Rattle.std.specs.List.{All}
+use Rattle.mh_tree.specs.Typing.{IsTyped}
+use Rattle.mh_site.specs.SiteStates.{site_states}
 use Rattle.mh_site.specs.Worlds.{relink_site}
 use Rattle.mh_site.proofs.world.relink_all.Given as goal
 
 abbrev pub invariant-loop-change : goal.invariant-loop-change
-invariant-loop-change l = map site_state l.sites.items ≡ fold relink_site (map site_state l.fn.sites.items) l.yielded
+invariant-loop-change l = record {
+  value : site_states l.sites.items l.linked.items ≡ fold relink_site (site_states l.fn.sites.items l.fn.linked.items) l.yielded;
+  many : length l.linked.items ≡ length l.sites.items;
+  typed : All (λ c. IsTyped c.linked.tree c.linked.signature) l.yielded;
+}

@@ -2,7 +2,7 @@ use Rattle.std.proofs.Common.{◌≡◌, ◌+◌, ◌∙◌, ap, sym, arith, Lis
 use Rattle.std.specs.Prelude.{max}
 use Rattle.std.specs.declared.alloc.Global.{Global}
 use Rattle.std.specs.declared.sync.Arc.{Arc}
-use Rattle.mh_tree.specs.Limits.{depth, size, point_bound, deepest, total_size, greatest_bound}
+use Rattle.mh_tree.specs.Limits.{depth, size, point_bound, site_bound, deepest, total_size, greatest_bound, greatest_site}
 use Rattle.mh_tree.specs.Tree.{filters_of}
 use Rattle.mh_tree.specs.TreeOf.{tree_of, filter_trees}
 use Rattle.mh_tree.specs.declared.measures.Measures.{Measures}
@@ -57,12 +57,12 @@ measure-returns-in-Filter t c =
     let f : filters_of (filter_trees c.deref-in-Filter.result.now) ≡ filters_of (filter_trees c.in-Filter.filters.items) =
     ap (λ (fs : List (Option (Arc Node Global))). filters_of (filter_trees fs)) c.deref-in-Filter.ensures.value in
     let n : tree_of c.deref.result.now ≡ tree_of c.in-Filter.target.value = ap tree_of c.deref.ensures in
-    let one = c.measure.ensures.value ∙ (λ i. record { depth = depth (n i); size = size (n i); point_bound = point_bound (n i) }) in
-    let more = c.measure_filters.ensures.value ∙ (λ i. record { depth = deepest (f i); size = total_size (f i); point_bound = greatest_bound (f i) }) in
-    let all = c.and.ensures.value ∙ (λ i. record { depth = max (one i).depth (more i).depth; size = (one i).size + (more i).size; point_bound = max (one i).point_bound (more i).point_bound }) in
+    let one = c.measure.ensures.value ∙ (λ i. record { depth = depth (n i); size = size (n i); point_bound = point_bound (n i); site_bound = site_bound (n i) }) in
+    let more = c.measure_filters.ensures.value ∙ (λ i. record { depth = deepest (f i); size = total_size (f i); point_bound = greatest_bound (f i); site_bound = greatest_site (f i) }) in
+    let all = c.and.ensures.value ∙ (λ i. record { depth = max (one i).depth (more i).depth; size = (one i).size + (more i).size; point_bound = max (one i).point_bound (more i).point_bound; site_bound = max (one i).site_bound (more i).site_bound }) in
     record {
       value =
           c.over.ensures.value
-          ∙ (λ i. record { depth = 1 + (all i).depth; size = 1 + (all i).size; point_bound = (all i).point_bound })
-          ∙ (λ i. record { depth = depth (sym e i); size = size (sym e i); point_bound = point_bound (sym e i) });
+          ∙ (λ i. record { depth = 1 + (all i).depth; size = 1 + (all i).size; point_bound = (all i).point_bound; site_bound = (all i).site_bound })
+          ∙ (λ i. record { depth = depth (sym e i); size = size (sym e i); point_bound = point_bound (sym e i); site_bound = site_bound (sym e i) });
     }

@@ -1,6 +1,6 @@
 use Rattle.std.proofs.Common.{◌≡◌, ◌+◌, ◌*◌, drop}
 use Rattle.std.specs.Prelude.{max}
-use Rattle.mh_tree.specs.Limits.{size, deepest, total_size, greatest_bound}
+use Rattle.mh_tree.specs.Limits.{size, deepest, total_size, greatest_bound, greatest_site}
 use Rattle.mh_tree.specs.Tree.{filters_of}
 use Rattle.mh_tree.specs.TreeOf.{tree_of, filter_trees}
 use Rattle.mh_tree.proofs.measures.+measures.Given as goal
@@ -21,4 +21,5 @@ invariant-measure_filters-loop-filter l =
       deep : max l.all.depth (deepest left) ≡ deepest whole;
       large : l.all.size + total_size left ≡ total_size whole;
       bound : max l.all.point_bound (greatest_bound left) ≡ greatest_bound whole;
+      sites : max l.all.site_bound (greatest_site left) ≡ greatest_site whole;
     }

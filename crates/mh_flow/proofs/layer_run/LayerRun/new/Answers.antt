@@ -5,20 +5,17 @@ use Rattle.mh_flow.proofs.Running.{links_inside, points_inside, begun}
 use Rattle.mh_flow.proofs.Runs.{begun-idle}
 use Rattle.mh_flow.proofs.layer_run.LayerRun.new.Goals as goal
 
-pub rows_by_link-requires : goal.rows_by_link-requires
-rows_by_link-requires c = record { inside = rw (c.deref.ensures.value, c.links.ensures.count) (links_inside c.args.problem.now _ (c.needs_are_of_links.ensures.needs _) c.in_ok-rows.ensures) }
-
-pub rows_by_point-requires : goal.rows_by_point-requires
-rows_by_point-requires c = record { inside = rw (c.deref-2.ensures.value, c.points.ensures.count) (points_inside c.args.problem.now _ c.links.ensures.problem c.in_ok-rows.ensures) }
+pub new-requires : goal.new-requires
+new-requires c = record {
+  links = rw (c.deref.ensures.value, c.links.ensures.count) (links_inside c.args.problem.now _ (c.needs_are_of_links.ensures.needs _) c.in_ok-rows.ensures);
+  points = rw (c.deref.ensures.value, c.points.ensures.count) (points_inside c.args.problem.now _ c.links.ensures.problem c.in_ok-rows.ensures);
+}
 
 pub invariant_of-result : goal.invariant_of-result
 invariant_of-result c = (
   begun c.args.problem.now _ _ _ _ _ (c.needs_are_of_links.ensures.needs _) c.links.ensures.problem c.in_ok-rows.ensures c.in_ok-gain_left.ensures.count c.in_ok-gain_left.ensures.gains c.in_ok-cost_left.ensures.count c.in_ok-cost_left.ensures.costs
       (c.in_ok-links.ensures.value ∙ ap (λ (n : ℕ). replicate n far) c.links-2.ensures.count) (c.in_ok-points.ensures.value ∙ ap (λ (n : ℕ). replicate n far) c.points-2.ensures.count),
-  record {
-    by_link = rw (c.deref.ensures.value, c.links.ensures.count) at c.in_ok-by_link.ensures.value;
-    by_point = rw (c.deref-2.ensures.value, c.points.ensures.count) at c.in_ok-by_point.ensures.value;
-  },
+  rw (c.deref.ensures.value, c.links.ensures.count, c.points.ensures.count) at c.in_ok-index.ensures.indexed,
 )
 
 pub returns-clause-kept : goal.returns-clause-kept

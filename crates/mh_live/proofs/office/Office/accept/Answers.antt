@@ -1,6 +1,7 @@
 use Rattle.std.proofs.Common.{◌≡◌, ◌∙◌, Some, ap, refl, ◌<◌, ◌^◌, List, length, sym, subst}
 use Rattle.mh_site.specs.declared.control.Control.{Control}
-use Rattle.mh_core.specs.Pending.{IsReady, control_of}
+use Rattle.mh_core.specs.Books.{Takes, reply_to}
+use Rattle.mh_core.specs.Pending.{IsReady, PendingState, control_of}
 use Rattle.mh_live.specs.Offices.{OfficeState, ReceiptState}
 use Rattle.mh_live.specs.Receipts.{Accepts}
 use Rattle.mh_live.proofs.Answering.{list_few, list_of_change, stands_after}
@@ -15,8 +16,8 @@ show-requires-clause-standing g c =
     let shown = c.self.inside.writer.desk.shown.value in
     let is = c.self.invariant in
     let ready = subst (λ (o : OfficeState). IsReady o.book c.args.change) (sym c.self.view_is) c.requires.ready in
-    let own : control_of c.args.change.effect ≡ Some c.in-Ok-Some.control = sym c.in-Ok-Some.ensures.value ∙ c.in-Ok-Some.field-0-is in
-    stands_after g.N.Name.definition shown.world shown.past.log c.self.inside.book c.args.change c.in-Ok-Some.control c.kept.ensures.book is.definition ready is.stands.replays is.published
+    let own : control_of c.args.change.effect ≡ Some c.in-Some.control = sym c.requires.published ∙ (sym c.take_control.ensures.value ∙ c.in-Some.is) in
+    stands_after g.N.Name.definition shown.world shown.past.log c.self.inside.book c.args.change c.in-Some.control c.kept.ensures.book is.definition ready is.stands.replays is.published
     own
 
 pub invariant_of-self : goal.invariant_of-self
@@ -24,8 +25,10 @@ invariant_of-self g c =
     let is = c.self.invariant in
     let b = c.self.inside.book in
     let ready = subst (λ (o : OfficeState). IsReady o.book c.args.change) (sym c.self.view_is) c.requires.ready in
-    let both = list_of_change b c.commit-reply.new.self c.args.change c.in-Ok-Some.control c.self.inside.front c.in-Ok.front ready c.requires.calls c.commit-reply.ensures.taken
-    (sym c.in-Ok-Some.ensures.value ∙ c.in-Ok-Some.field-0-is) is.known c.in-Ok.ensures.list.0 in
+    let new = c.commit-reply.new.self in
+    let taken = subst (λ (p : PendingState). Takes b p.calls p.entry new) c.take_control.ensures.rest c.commit-reply.ensures.taken in
+    let both = list_of_change b new c.args.change c.in-Some.control c.self.inside.front c.in-Ok.front ready c.requires.calls taken
+    (sym c.requires.published ∙ (sym c.take_control.ensures.value ∙ c.in-Some.is)) is.known c.in-Ok.ensures.list.0 in
     record {
       stands = c.show.ensures.stands;
       published = c.in-Ok.ensures.list.1 ∙ both.1;
@@ -40,12 +43,15 @@ pub returns-in-Ok-clause-accepted : goal.returns-in-Ok-clause-accepted
 returns-in-Ok-clause-accepted g c =
     let b = c.self.inside.book in
     let ready = subst (λ (o : OfficeState). IsReady o.book c.args.change) (sym c.self.view_is) c.requires.ready in
-    let both = list_of_change b c.commit-reply.new.self c.args.change c.in-Ok-Some.control c.self.inside.front c.in-Ok.front ready c.requires.calls c.commit-reply.ensures.taken
-    (sym c.in-Ok-Some.ensures.value ∙ c.in-Ok-Some.field-0-is) c.self.invariant.known c.in-Ok.ensures.list.0 in
-    let new : OfficeState = record { book = c.commit-reply.new.self; published = c.show.new.writer.desk.shown.value.past.log; closed = c.self.inside.closed } in
-    subst (λ (o : OfficeState). Accepts o c.args.change.entry c.new.result new) c.self.view_is record {
+    let new = c.commit-reply.new.self in
+    let taken = subst (λ (p : PendingState). Takes b p.calls p.entry new) c.take_control.ensures.rest c.commit-reply.ensures.taken in
+    let both = list_of_change b new c.args.change c.in-Some.control c.self.inside.front c.in-Ok.front ready c.requires.calls taken
+    (sym c.requires.published ∙ (sym c.take_control.ensures.value ∙ c.in-Some.is)) c.self.invariant.known c.in-Ok.ensures.list.0 in
+    let told = c.commit-reply.ensures.reply ∙ ap (λ (p : PendingState). reply_to b.definition b.records p.entry) c.take_control.ensures.rest in
+    let office : OfficeState = record { book = new; published = c.show.new.writer.desk.shown.value.past.log; closed = c.self.inside.closed } in
+    subst (λ (o : OfficeState). Accepts o c.args.change.entry c.new.result office) c.self.view_is record {
       takes = both.0;
-      answers = ap (λ (r : ReceiptState). r.reply) c.new.ensures.value ∙ c.commit-reply.ensures.reply;
+      answers = ap (λ (r : ReceiptState). r.reply) c.new.ensures.value ∙ told;
       told_list = ap (λ (r : ReceiptState). r.front) c.new.ensures.value ∙ (c.copy.ensures.value ∙ both.1);
       shows = c.in-Ok.ensures.list.1 ∙ both.1;
       stays = refl;

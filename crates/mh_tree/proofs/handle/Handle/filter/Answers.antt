@@ -1,7 +1,7 @@
 use Rattle.std.proofs.Common.{◌≡◌, ◌+◌, ◌∙◌, ap, sym, subst, rules}
 use Rattle.mh_tree.specs.Constructors.{plain_filters}
 use Rattle.mh_tree.specs.Handle.{IsSound}
-use Rattle.mh_tree.specs.Limits.{depth, size, point_bound}
+use Rattle.mh_tree.specs.Limits.{depth, size, point_bound, site_bound}
 use Rattle.mh_tree.specs.Tree.{filter}
 use Rattle.mh_tree.specs.Laws.Tests.{made_by}
 use Rattle.mh_tree.specs.Laws.Trees.{tree_of_owners}
@@ -29,6 +29,12 @@ of-requires-clause-bound c =
     let tree = tree_of_owners c.in_ok-root_owner.field-0 c.args.position c.in_ok-owners.field-0 c.args.target.now.tree c.args.filters.now c.in_ok-root_owner.ensures.value c.in_ok-owners.ensures.value in
     let whole : c.max-bound.result ≡ point_bound (filter c.args.target.now.tree c.args.position (plain_filters c.args.filters.now)) = search rules in
     whole ∙ ap point_bound (sym tree)
+
+pub of-requires-clause-sites : goal.of-requires-clause-sites
+of-requires-clause-sites c =
+    let tree = tree_of_owners c.in_ok-root_owner.field-0 c.args.position c.in_ok-owners.field-0 c.args.target.now.tree c.args.filters.now c.in_ok-root_owner.ensures.value c.in_ok-owners.ensures.value in
+    let whole : c.max-sites.result ≡ site_bound (filter c.args.target.now.tree c.args.position (plain_filters c.args.filters.now)) = search rules in
+    whole ∙ ap site_bound (sym tree)
 
 pub returns-clause-value : goal.returns-clause-value
 returns-clause-value c =
