@@ -3,6 +3,7 @@ import static java.lang.invoke.MethodType.methodType;
 import java.lang.invoke.MethodHandle;
 import java.lang.invoke.MethodHandles;
 import java.lang.invoke.MethodType;
+import java.lang.invoke.MutableCallSite;
 import java.lang.invoke.SwitchPoint;
 
 /**
@@ -81,12 +82,24 @@ public final class Calls {
         return new SwitchPoint().guardWithTest(first, greet);
     }
 
+    /** A call through so many sites, each of which hands on its argument to the next, and the last to ineg. */
+    private static MethodHandle invoking(int sites) {
+        MethodHandle target = op("ineg", int.class, int.class);
+        for (int site = 0; site < sites; site++) {
+            target = new MutableCallSite(target).dynamicInvoker();
+        }
+        return target;
+    }
+
     private static MethodHandle tree(String subject) {
         return switch (subject) {
             case "f1", "f2" -> counted();
             case "operation" -> op("ineg", int.class, int.class);
             case "constant" -> MethodHandles.constant(int.class, 5);
             case "concat" -> op("concat", String.class, String.class, String.class);
+            case "one-site" -> invoking(1);
+            case "two-sites" -> invoking(2);
+            case "three-sites" -> invoking(3);
             default -> everyCombinator();
         };
     }
@@ -94,7 +107,7 @@ public final class Calls {
     private static Object[] arguments(String subject) {
         return switch (subject) {
             case "f1" -> new Object[] {1};
-            case "f2", "operation" -> new Object[] {2};
+            case "f2", "operation", "one-site", "two-sites", "three-sites" -> new Object[] {2};
             case "constant" -> new Object[] {};
             case "concat" -> new Object[] {"ab", "cd"};
             case "eleven" -> new Object[] {1, "ab", false, 0L};

@@ -24,6 +24,9 @@ SUBJECTS = {
     "twice": "every combinator, `abab`",
     "negative": "every combinator, `negative`",
     "greet": "every combinator, `hello, ab`",
+    "one-site": "a site that invokes one of `ineg`",
+    "two-sites": "the same through two sites",
+    "three-sites": "the same through three sites",
 }
 TARGETS = {("f1", "run"): 16, ("concat", "run"): 75, ("f1", "step"): 60}
 LINE = re.compile(r"answers (\d+), steps \d+, (\d+) ns")

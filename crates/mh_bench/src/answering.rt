@@ -1,46 +1,46 @@
 //! The answers of calls after all is opened, for runs in which a growth is refused.
 
-ghost use Rattle.std.specs.Prelude.{◌≤◌, []};
-ghost use Rattle.mh_tree.specs.Limits.{point_bound};
-ghost use Rattle.mh_tree.specs.Sites.{IsLawful};
-ghost use Rattle.mh_type.specs.Fits.{Fits};
+ghost use Rattle.mh_bench.specs.Called.{MayRun};
 
+use crate::called::{Called, VALID, may_run};
 use crate::calling::run_once;
 use crate::histories::{define, open, step_once};
-use crate::measuring::{VALID, may_run};
+use crate::measuring::prepare_all;
 use crate::request::Way;
 use crate::subject::Subject;
 use mh_core::Machine;
 use mh_eval::{Here, Stack};
-use mh_tree::{Handle, Prepared};
+use mh_tree::Prepared;
 use mh_type::Value;
 use std::alloc::Global;
 
 /// How often each call is made.
 const ROUNDS: u32 = 4;
 
-/// Prepares a subject's tree, opens a stack and a machine, writes `opened`, and then makes the
+/// Prepares a subject's trees, opens a stack and a machine, writes `opened`, and then makes the
 /// calls several times, and prints their answers.
 pub(crate) fn answer(rt: &impl Print, alloc: Global, subject: Subject) -> anyhow::Result<()> {
     let handle = subject.handle(alloc)?;
+    let targets = subject.targets(alloc)?;
     let arguments = subject.arguments(alloc)?;
-    answer_tree(rt, alloc, &handle, arguments.as_slice())
+    let called = Called {
+        site: subject.site(),
+        targets: targets.as_slice(),
+        handle: &handle,
+        arguments: arguments.as_slice(),
+    };
+    answer_tree(rt, alloc, &called)
 }
 
 /// The same of a tree and its arguments.
-fn answer_tree(
-    rt: &impl Print,
-    alloc: Global,
-    handle: &Handle,
-    arguments: &[Value],
-) -> anyhow::Result<()> {
-    let mut machine = machine_of(alloc, handle, arguments)?;
-    answer_opened(rt, alloc, handle, arguments, &mut machine)
+fn answer_tree(rt: &impl Print, alloc: Global, called: &Called<'_>) -> anyhow::Result<()> {
+    let mut machine = machine_of(alloc, called)?;
+    answer_opened(rt, alloc, called, &mut machine)
 }
 
 /// A machine with a site of this tree.
-fn machine_of(alloc: Global, handle: &Handle, arguments: &[Value]) -> anyhow::Result<Machine> {
-    let definition = define(alloc, Way::Step, handle, arguments)?;
+fn machine_of(alloc: Global, called: &Called<'_>) -> anyhow::Result<Machine> {
+    let definition = define(alloc, Way::Step, called)?;
     open(alloc, &definition)
 }
 
@@ -48,35 +48,20 @@ fn machine_of(alloc: Global, handle: &Handle, arguments: &[Value]) -> anyhow::Re
 fn answer_opened(
     rt: &impl Print,
     alloc: Global,
-    handle: &Handle,
-    arguments: &[Value],
+    called: &Called<'_>,
     machine: &mut Machine,
 ) -> anyhow::Result<()> {
-    if !may_run(handle, arguments) {
+    if !may_run(called) {
         anyhow::bail!("the arguments do not fit, or a point or a site is not there");
     }
-    let prepared = Prepared::new(handle)?;
+    let prepared = Prepared::new(called.handle)?;
+    let targets = prepare_all(alloc, called.targets)?;
     let mut stack = Stack::new(alloc)?;
     println!(rt; "opened")?;
-    answer_rounds(rt, alloc, &mut stack, machine, &prepared, arguments)
-}
-
-/// Makes each call several times.
-fn answer_rounds(
-    rt: &impl Print,
-    alloc: Global,
-    stack: &mut Stack,
-    machine: &mut Machine,
-    prepared: &Prepared,
-    arguments: &[Value],
-) -> anyhow::Result<()>
-    requires fits { Fits prepared.now.signature arguments.now }
-    requires known { point_bound prepared.now.tree ≤ 1 }
-    requires lawful { IsLawful [] [] prepared.now.tree }
-{
+    let targets = targets.as_slice();
     for _ in 0..ROUNDS {
-        answer_run(rt, stack, prepared, arguments)?;
-        answer_step(rt, alloc, machine, arguments)?;
+        answer_run(rt, &mut stack, targets, &prepared, called.arguments)?;
+        answer_step(rt, alloc, machine, called)?;
     }
     Ok(())
 }
@@ -85,16 +70,15 @@ fn answer_rounds(
 fn answer_run(
     rt: &impl Print,
     stack: &mut Stack,
+    targets: &[Prepared],
     prepared: &Prepared,
     arguments: &[Value],
 ) -> anyhow::Result<()>
-    requires fits { Fits prepared.now.signature arguments.now }
-    requires known { point_bound prepared.now.tree ≤ 1 }
-    requires lawful { IsLawful [] [] prepared.now.tree }
+    requires may { MayRun targets.now prepared.now arguments.now }
 {
     let here = Here {
         valid: &VALID,
-        targets: &[],
+        targets,
     };
     match run_once(stack, &here, prepared, arguments) {
         Ok((outcome, _)) => println!(rt; "run {outcome}")?,
@@ -108,9 +92,9 @@ fn answer_step(
     rt: &impl Print,
     alloc: Global,
     machine: &mut Machine,
-    arguments: &[Value],
+    called: &Called<'_>,
 ) -> anyhow::Result<()> {
-    match step_once(machine, alloc, arguments) {
+    match step_once(machine, alloc, called.site, called.arguments) {
         Ok((outcome, _)) => println!(rt; "step {outcome}")?,
         Err(refused) => println!(rt; "step refused {refused}")?,
     }

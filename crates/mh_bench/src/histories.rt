@@ -2,6 +2,7 @@
 
 ghost use Rattle.std.specs.Prelude.{◌≡◌, IfOk};
 
+use crate::called::Called;
 use crate::request::Way;
 use crate::tally::Tally;
 use mh_core::{Arguments, Event, Limits, Machine, NoMemory, Refusal, Reply};
@@ -11,42 +12,49 @@ use mh_type::{Outcome, Value};
 use std::alloc::Global;
 use thiserror::Error;
 
+/// The name and the level of each site that may be invoked.
+const BELOW: [(&str, u64); 3] = [("g", 0), ("h", 1), ("i", 2)];
+
 /// The calls of one machine, so that with their flushes they are at most 2^20 events.
 pub(crate) const CALLS_OF_A_MACHINE: u64 = 1_000_000;
 
 /// The calls before each flush.
 const CALLS_OF_A_FLUSH: u64 = 1_000;
 
-/// A definition of one point and one site of this tree. Where calls are to be flushed, the site has
-/// a link that each call with these arguments hits.
-pub(crate) fn define(
-    alloc: Global,
-    way: Way,
-    handle: &Handle,
-    arguments: &[Value],
-) -> anyhow::Result<Definition> {
+/// A definition of one point and of the sites of these trees. Where calls are to be flushed, the
+/// site that is called has a link that each call with these arguments hits.
+pub(crate) fn define(alloc: Global, way: Way, called: &Called<'_>) -> anyhow::Result<Definition> {
     let point = Point {
         name: Name::new(alloc, "a")?,
         cost: 5,
     };
-    let mut links = Vec::new(alloc);
-    let mut key = None;
-    if let (Way::Flush, Some(first)) = (way, arguments.first()) {
-        links.push(link_of(alloc, first)?)?;
-        key = Some(0);
+    let mut sites = Vec::new(alloc);
+    for (handle, (name, level)) in called.targets.iter().zip(BELOW.iter()) {
+        sites.push(site_of(alloc, name, *level, handle)?)?;
     }
-    let site = Site {
-        name: Name::new(alloc, "f")?,
-        method_type: handle.method_type().copy(),
-        level: 0,
-        key,
-        target: Declared::new(handle)?,
-        links: Listing::from_vec(links),
-    };
+    let mut site = site_of(alloc, "f", 3, called.handle)?;
+    if let (Way::Flush, Some(first)) = (way, called.arguments.first()) {
+        let link = link_of(alloc, first)?;
+        site.links = Listing::from_vec(vec![in alloc; link]?);
+        site.key = Some(0);
+    }
+    sites.push(site)?;
     let points = Listing::from_vec(vec![in alloc; point]?);
-    let sites = Listing::from_vec(vec![in alloc; site]?);
+    let sites = Listing::from_vec(sites);
     let definition = Definition::new(alloc, Version::Two, points, sites)?;
     Ok(definition)
+}
+
+/// A site of this level with this tree and no link.
+fn site_of(alloc: Global, name: &str, level: u64, handle: &Handle) -> anyhow::Result<Site> {
+    Ok(Site {
+        name: Name::new(alloc, name)?,
+        method_type: handle.method_type().copy(),
+        level,
+        key: None,
+        target: Declared::new(handle)?,
+        links: Listing::from_vec(Vec::new(alloc)),
+    })
 }
 
 /// The link of calls with this argument, which needs no point.
@@ -88,6 +96,7 @@ pub(crate) enum Unanswered {
 pub(crate) fn step_once(
     machine: &mut Machine,
     alloc: Global,
+    site: u32,
     arguments: &[Value],
 ) -> Result<(Outcome, u128), Unanswered> {
     let Ok(arguments) = owned(alloc, arguments) else {
@@ -95,7 +104,7 @@ pub(crate) fn step_once(
     };
     let call = Event::Call {
         worker: 0,
-        site: 0,
+        site: site as usize,
         arguments,
     };
     match machine.step(call) {
@@ -153,16 +162,15 @@ fn flush(machine: &mut Machine) -> anyhow::Result<()> {
 pub(crate) fn step_rounds(
     alloc: Global,
     way: Way,
-    handle: &Handle,
-    arguments: &[Value],
+    called: &Called<'_>,
     rounds: u64,
 ) -> anyhow::Result<Tally> {
-    let definition = define(alloc, way, handle, arguments)?;
+    let definition = define(alloc, way, called)?;
     let mut tally = Tally::new();
     for history in 0..rounds.div_ceil(CALLS_OF_A_MACHINE) {
         let made = history.saturating_mul(CALLS_OF_A_MACHINE);
         let calls = rounds.saturating_sub(made).min(CALLS_OF_A_MACHINE);
-        tally = tally.join(step_history(alloc, way, &definition, arguments, calls)?)?;
+        tally = tally.join(step_history(alloc, way, &definition, called, calls)?)?;
     }
     Ok(tally)
 }
@@ -172,11 +180,11 @@ fn step_history(
     alloc: Global,
     way: Way,
     definition: &Definition,
-    arguments: &[Value],
+    called: &Called<'_>,
     calls: u64,
 ) -> anyhow::Result<Tally> {
     let mut machine = open(alloc, definition)?;
-    make_history(&mut machine, alloc, way, arguments, calls)
+    make_history(&mut machine, alloc, way, called, calls)
 }
 
 /// So many calls of one machine, with their flushes.
@@ -184,12 +192,12 @@ fn make_history(
     machine: &mut Machine,
     alloc: Global,
     way: Way,
-    arguments: &[Value],
+    called: &Called<'_>,
     calls: u64,
 ) -> anyhow::Result<Tally> {
     let mut tally = Tally::new();
     for call in 0..calls {
-        let (outcome, steps) = step_once(machine, alloc, arguments)?;
+        let (outcome, steps) = step_once(machine, alloc, called.site, called.arguments)?;
         tally = tally.count(&outcome, steps)?;
         if way == Way::Flush && call % CALLS_OF_A_FLUSH == CALLS_OF_A_FLUSH - 1 {
             flush(machine)?;

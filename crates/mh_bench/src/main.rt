@@ -8,6 +8,7 @@
 #![tactic(auto)]
 
 mod answering;
+mod called;
 mod calling;
 mod histories;
 mod measuring;

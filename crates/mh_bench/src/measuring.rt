@@ -1,24 +1,19 @@
 //! Calls that are counted and timed.
 
-ghost use Rattle.std.specs.Prelude.{◌≤◌, ◌↔◌, [], IsTrue};
-ghost use Rattle.mh_tree.specs.Limits.{point_bound};
-ghost use Rattle.mh_tree.specs.Sites.{IsLawful};
-ghost use Rattle.mh_type.specs.Fits.{Fits};
+ghost use Rattle.std.specs.Prelude.{◌≡◌, IfOk};
+ghost use Rattle.mh_bench.specs.Called.{MayRun};
 
+use crate::called::{Called, LEVELS, VALID, may_run};
 use crate::calling::{eval_rounds, run_rounds};
 use crate::histories::step_rounds;
 use crate::request::{Calls, Way};
 use crate::subject::Subject;
 use crate::tally::Tally;
-use mh_eval::{Here, Stack, evaluate, fits, lawful};
+use mh_eval::{Here, Stack, evaluate};
 use mh_tree::{Handle, Prepared};
-use mh_type::Value;
 use std::alloc::Global;
 use std::rt::Clock;
 use std::time::Instant;
-
-/// Which points are valid.
-pub(crate) const VALID: [bool; 1] = [true];
 
 /// Makes so many calls in every way of every subject, and prints a line for each.
 pub(crate) fn measure_all(
@@ -59,9 +54,16 @@ pub(crate) fn measure(
     calls: Calls,
 ) -> anyhow::Result<()> {
     let handle = calls.subject.handle(alloc)?;
+    let targets = calls.subject.targets(alloc)?;
     let arguments = calls.subject.arguments(alloc)?;
-    tell_answer(rt, alloc, calls, &handle, arguments.as_slice())?;
-    tell_sums(rt, alloc, calls, &handle, arguments.as_slice())
+    let called = Called {
+        site: calls.subject.site(),
+        targets: targets.as_slice(),
+        handle: &handle,
+        arguments: arguments.as_slice(),
+    };
+    tell_answer(rt, alloc, calls, &called)?;
+    tell_sums(rt, alloc, calls, &called)
 }
 
 /// Prints what one call gives.
@@ -69,10 +71,15 @@ fn tell_answer(
     rt: &impl Print,
     alloc: Global,
     calls: Calls,
-    handle: &Handle,
-    arguments: &[Value],
+    called: &Called<'_>,
 ) -> anyhow::Result<()> {
-    let (outcome, _) = evaluate(alloc, &VALID, &[], &[], handle, arguments)?;
+    let Called {
+        targets,
+        handle,
+        arguments,
+        ..
+    } = *called;
+    let (outcome, _) = evaluate(alloc, &VALID, &LEVELS, targets, handle, arguments)?;
     let (way, subject) = (calls.way.word(), calls.subject.word());
     print!(rt; "{way} {subject}: {outcome}")?;
     Ok(())
@@ -83,12 +90,11 @@ fn tell_sums(
     rt: &(impl Print + Clock),
     alloc: Global,
     calls: Calls,
-    handle: &Handle,
-    arguments: &[Value],
+    called: &Called<'_>,
 ) -> anyhow::Result<()> {
     let Calls { way, rounds, .. } = calls;
     let start = Instant::now(rt)?;
-    let tally = call_rounds(alloc, way, handle, arguments, rounds)?;
+    let tally = call_rounds(alloc, way, called, rounds)?;
     let took = start.elapsed(rt)?.as_nanos();
     let Tally { answers, steps } = tally;
     print!(rt; ", {rounds} calls, answers {answers}, steps {steps}")?;
@@ -99,65 +105,55 @@ fn tell_sums(
     Ok(())
 }
 
-/// Whether a tree may run on arguments: they fit, its points are there, and it invokes no site.
-pub(crate) fn may_run(handle: &Handle, arguments: &[Value]) -> bool
-    ensures decides { IsTrue result ↔ (Fits handle.now.signature arguments.now
-        × (point_bound handle.now.tree ≤ 1) × IsLawful [] [] handle.now.tree) }
-{
-    fits(handle.method_type(), arguments)
-        && handle.point_bound() <= VALID.len()
-        && lawful(&[], &[], handle)
-}
-
 /// So many calls in a way.
-fn call_rounds(
-    alloc: Global,
-    way: Way,
-    handle: &Handle,
-    arguments: &[Value],
-    rounds: u64,
-) -> anyhow::Result<Tally> {
-    if !may_run(handle, arguments) {
+fn call_rounds(alloc: Global, way: Way, called: &Called<'_>, rounds: u64) -> anyhow::Result<Tally> {
+    if !may_run(called) {
         anyhow::bail!("the arguments do not fit, or a point or a site is not there");
     }
     match way {
-        Way::Run => run_calls(alloc, handle, arguments, rounds),
-        Way::Eval => eval_calls(alloc, handle, arguments, rounds),
-        Way::Step | Way::Flush => step_rounds(alloc, way, handle, arguments, rounds),
+        Way::Run => run_calls(alloc, called, rounds),
+        Way::Eval => eval_calls(alloc, called, rounds),
+        Way::Step | Way::Flush => step_rounds(alloc, way, called, rounds),
     }
 }
 
-/// So many calls by `run`, of the handle that is prepared first.
-fn run_calls(
-    alloc: Global,
-    handle: &Handle,
-    arguments: &[Value],
-    rounds: u64,
-) -> anyhow::Result<Tally>
-    requires fits { Fits handle.now.signature arguments.now }
-    requires known { point_bound handle.now.tree ≤ 1 }
-    requires lawful { IsLawful [] [] handle.now.tree }
+/// So many calls by `run`, of trees that are prepared first.
+fn run_calls(alloc: Global, called: &Called<'_>, rounds: u64) -> anyhow::Result<Tally>
+    requires may { MayRun called.now.targets.now called.now.handle.now called.now.arguments.now }
 {
-    let prepared = Prepared::new(handle)?;
+    let prepared = Prepared::new(called.handle)?;
+    let targets = prepare_all(alloc, called.targets)?;
     let mut stack = Stack::new(alloc)?;
     let here = Here {
         valid: &VALID,
-        targets: &[],
+        targets: targets.as_slice(),
     };
-    run_rounds(&mut stack, &here, &prepared, arguments, rounds)
+    run_rounds(&mut stack, &here, &prepared, called.arguments, rounds)
+}
+
+/// Trees with their code.
+pub(crate) fn prepare_all(alloc: Global, targets: &[Handle]) -> anyhow::Result<Vec<Prepared>>
+    ensures value { IfOk result (λ v. v.items ≡ targets.now) }
+{
+    let mut prepared = Vec::new(alloc);
+    for target in targets {
+        prepared.push(Prepared::new(target)?)?;
+    }
+    Ok(prepared)
 }
 
 /// So many calls by `eval`.
-fn eval_calls(
-    alloc: Global,
-    handle: &Handle,
-    arguments: &[Value],
-    rounds: u64,
-) -> anyhow::Result<Tally>
-    requires fits { Fits handle.now.signature arguments.now }
-    requires known { point_bound handle.now.tree ≤ 1 }
-    requires lawful { IsLawful [] [] handle.now.tree }
+fn eval_calls(alloc: Global, called: &Called<'_>, rounds: u64) -> anyhow::Result<Tally>
+    requires may { MayRun called.now.targets.now called.now.handle.now called.now.arguments.now }
 {
     let mut stack = Stack::new(alloc)?;
-    eval_rounds(&mut stack, &VALID, &[], &[], handle, arguments, rounds)
+    let Called {
+        targets,
+        handle,
+        arguments,
+        ..
+    } = *called;
+    eval_rounds(
+        &mut stack, &VALID, &LEVELS, targets, handle, arguments, rounds,
+    )
 }

@@ -1,6 +1,6 @@
 //! What is called: a tree with arguments.
 
-use crate::trees::{counted, every_combinator, text};
+use crate::trees::{counted, every_combinator, invoking, text};
 use mh_tree::{Handle, TreeFault};
 use mh_type::{Op, Value};
 use std::alloc::Global;
@@ -26,11 +26,17 @@ pub(crate) enum Subject {
     Negative,
     /// The same, where it greets.
     Greet,
+    /// An invocation of a site with `ineg`, on 2.
+    OneSite,
+    /// An invocation of a site whose tree invokes that site.
+    TwoSites,
+    /// The same through one more site.
+    ThreeSites,
 }
 
 impl Subject {
     /// All subjects.
-    pub(crate) const ALL: [Subject; 9] = [
+    pub(crate) const ALL: [Subject; 12] = [
         Subject::FirstOfF,
         Subject::SecondOfF,
         Subject::Operation,
@@ -40,6 +46,9 @@ impl Subject {
         Subject::Twice,
         Subject::Negative,
         Subject::Greet,
+        Subject::OneSite,
+        Subject::TwoSites,
+        Subject::ThreeSites,
     ];
 
     /// The word of a subject.
@@ -54,6 +63,9 @@ impl Subject {
             Subject::Twice => "twice",
             Subject::Negative => "negative",
             Subject::Greet => "greet",
+            Subject::OneSite => "one-site",
+            Subject::TwoSites => "two-sites",
+            Subject::ThreeSites => "three-sites",
         }
     }
 
@@ -72,7 +84,34 @@ impl Subject {
             Subject::Eleven | Subject::Twice | Subject::Negative | Subject::Greet => {
                 every_combinator(alloc)
             }
+            Subject::OneSite => invoking(alloc, 0),
+            Subject::TwoSites => invoking(alloc, 1),
+            Subject::ThreeSites => invoking(alloc, 2),
         }
+    }
+
+    /// The number of the site that has the tree. Of those before it the first has `ineg`, and each
+    /// other invokes the one before it.
+    pub(crate) fn site(self) -> u32 {
+        match self {
+            Subject::OneSite => 1,
+            Subject::TwoSites => 2,
+            Subject::ThreeSites => 3,
+            _ => 0,
+        }
+    }
+
+    /// The trees of the sites before it.
+    pub(crate) fn targets(self, alloc: Global) -> anyhow::Result<Vec<Handle>> {
+        let mut targets = Vec::new(alloc);
+        for site in 0..self.site() {
+            let target = match site {
+                0 => Handle::op(alloc, Op::Ineg)?,
+                _ => invoking(alloc, site - 1)?,
+            };
+            targets.push(target)?;
+        }
+        Ok(targets)
     }
 
     /// The arguments.
@@ -80,6 +119,7 @@ impl Subject {
         match self {
             Subject::FirstOfF => one(alloc, 1),
             Subject::SecondOfF | Subject::Operation => one(alloc, 2),
+            Subject::OneSite | Subject::TwoSites | Subject::ThreeSites => one(alloc, 2),
             Subject::Constant => Ok(Vec::new(alloc)),
             Subject::Concat => texts(alloc),
             Subject::Eleven => four(alloc, 1, false, 0),

@@ -38,6 +38,13 @@ pub(crate) fn counted(alloc: Global) -> Result<Handle, TreeFault> {
     Handle::point(alloc, 0, &guarded, &Handle::op(alloc, Op::Ineg)?)
 }
 
+/// An invocation of a site on its int.
+pub(crate) fn invoking(alloc: Global, site: u32) -> Result<Handle, TreeFault> {
+    let of_int = MethodType::new(Kind::Int, &[Kind::Int]);
+    let of_int = of_int.map_err(|_| TreeFault::TooManyParameters)?;
+    Handle::invoke(alloc, site, &of_int)
+}
+
 /// The site of examples/every-combinator.json, with all eleven combinators.
 pub(crate) fn every_combinator(alloc: Global) -> Result<Handle, TreeFault> {
     let greet = greet(alloc)?;
