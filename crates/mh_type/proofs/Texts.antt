@@ -1,8 +1,8 @@
 -- The test of texts decides what a text is.
-use Rattle.std.proofs.Common.{◌≡◌, ℕ, ◌+◌, ◌≤◌, ◌++◌, ◌&&◌, Bool, true, false, List, length, refl, leb}
+use Rattle.std.proofs.Common.{◌≡◌, ℕ, ◌+◌, ◌≤◌, ◌++◌, ◌&&◌, Bool, true, false, List, [], length, refl, leb}
 use Rattle.std.proofs.lemmas.Bool.{leb-true, le-leb}
 use Rattle.std.proofs.lemmas.List.Sums.{AllPass-from_list_all, list_all-from_AllPass}
-use Rattle.std.proofs.lemmas.List.{length-append}
+use Rattle.std.proofs.lemmas.List.{append-nil, length-append}
 use Rattle.std.proofs.lemmas.List.Elements.{All-append}
 use Rattle.std.specs.List.{list_all}
 use Rattle.mh_type.specs.Printable.{IsPrintable, IsText, is_printable, is_text}
@@ -44,3 +44,7 @@ concat_is_text s t first second short =
       short = rw (length-append s t) short;
       printable = All-append IsPrintable s t first.printable second.printable;
     }
+
+-- a text and then nothing
+pub then_nothing : (s : List ℕ) → s ++ [] ≡ s
+then_nothing s = append-nil s

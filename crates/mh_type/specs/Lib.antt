@@ -1,3 +1,4 @@
+pub mod Characters
 pub mod Display
 pub mod Faults
 pub mod Fits

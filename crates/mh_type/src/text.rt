@@ -2,10 +2,12 @@
 
 ghost use Rattle.std.specs.Prelude.{◌≡◌, ◌≤◌, ◌+◌, ◌++◌, ◌↔◌, length, true, IsTrue, IfOk, IfErr, OnOk};
 ghost use Rattle.mh_type.specs.Printable.{IsText, RefusesText, RefusesConcat, is_text as is_text_bytes};
+ghost use Rattle.mh_type.specs.Characters.{bytes_of};
 ghost use Rattle.mh_type.specs.Limits.{longest_text};
 
 use crate::fault::TypeFault;
-use std::alloc::Global;
+use arrayvec::ArrayString;
+use std::alloc::{AllocError, Global};
 use std::fmt;
 use std::marker::Model;
 use std::sync::Arc;
@@ -13,22 +15,36 @@ use std::sync::Arc;
 /// The bytes of the longest text.
 pub const LONGEST_TEXT: usize = 65536;
 
-/// A text that its owners share: at most 65,536 bytes of printable ASCII.
+/// The bytes of the longest text that takes one block of memory.
+const LONGEST_INLINE: usize = 32;
+
+/// A text that its owners share: at most 65,536 bytes of printable ASCII. Up to 32 bytes stand
+/// beside the count of its owners.
 #[derive(Drop)]
 pub struct Text {
-    shared: Arc<String>,
+    shared: Arc<Characters>,
+}
+
+// The characters of a text.
+#[derive(Drop)]
+enum Characters {
+    // Up to 32 bytes, beside the count of owners.
+    Inline(ArrayString<LONGEST_INLINE>),
+    // More, in a block of their own.
+    Apart(String),
 }
 
 impl Model for Text {
-    ghost use Rattle.std.specs.Prelude.{List, ℕ, string_bytes};
+    ghost use Rattle.std.specs.Prelude.{List, ℕ};
     ghost use Rattle.std.specs.Arc.{arc_value};
+    ghost use Rattle.mh_type.specs.Characters.{bytes_of};
     ghost use Rattle.mh_type.specs.Printable.{IsText};
 
     ghost Value = { List ℕ };
 
-    ghost view = { λ t. string_bytes (arc_value t.shared) };
+    ghost view = { λ t. bytes_of (arc_value t.shared) };
 
-    ghost invariant = { λ t. IsText (string_bytes (arc_value t.shared)) };
+    ghost invariant = { λ t. IsText (bytes_of (arc_value t.shared)) };
 }
 
 impl Text {
@@ -36,7 +52,7 @@ impl Text {
     ///
     /// Refused with `BadText` exactly where there are more than 65,536 bytes or one is not from
     /// 0x20 to 0x7E, and with `NoMemory` where a growth was refused.
-    #[tactic(auto, using(crate::proofs::Texts::is_text_from, crate::proofs::Texts::is_text_not))]
+    #[tactic(auto, using(crate::proofs::Texts::is_text_from, crate::proofs::Texts::is_text_not, crate::proofs::Texts::then_nothing))]
     pub fn new(alloc: Global, text: &str) -> Result<Text, TypeFault>
         ensures value { IfOk result (λ t. (t ≡ text.now) × (is_text_bytes text.now ≡ true)) }
         ensures refused { IfErr result (λ e. RefusesText text.now e) }
@@ -44,8 +60,8 @@ impl Text {
         if !is_text(text) {
             return Err(TypeFault::BadText);
         }
-        let owned = String::from_str(alloc, text).map_err(|_| TypeFault::NoMemory)?;
-        let shared = Arc::new(alloc, owned).map_err(|_| TypeFault::NoMemory)?;
+        let characters = joined(alloc, text, "").map_err(|_| TypeFault::NoMemory)?;
+        let shared = Arc::new(alloc, characters).map_err(|_| TypeFault::NoMemory)?;
         Ok(Text { shared })
     }
 
@@ -60,14 +76,11 @@ impl Text {
         ensures refused { IfErr result (λ e. RefusesConcat some.now more.now e) }
     {
         let (some, more) = (some.as_str(), more.as_str());
-        let length = some.len() + more.len();
-        if length > LONGEST_TEXT {
+        if some.len() + more.len() > LONGEST_TEXT {
             return Err(TypeFault::BadText);
         }
-        let mut owned = String::with_capacity(alloc, length).map_err(|_| TypeFault::NoMemory)?;
-        owned.push_str(some).map_err(|_| TypeFault::NoMemory)?;
-        owned.push_str(more).map_err(|_| TypeFault::NoMemory)?;
-        let shared = Arc::new(alloc, owned).map_err(|_| TypeFault::NoMemory)?;
+        let characters = joined(alloc, some, more).map_err(|_| TypeFault::NoMemory)?;
+        let shared = Arc::new(alloc, characters).map_err(|_| TypeFault::NoMemory)?;
         Ok(Text { shared })
     }
 
@@ -85,9 +98,38 @@ impl Text {
         ensures value { result.now ≡ self.now }
         ensures is_text { IsText self.now }
     {
-        let shared = &self.shared;
-        shared.as_str()
+        self.shared.as_str()
     }
+}
+
+impl Characters {
+    // The bytes.
+    fn as_str(&self) -> &str
+        ensures value { result.now ≡ bytes_of self.now }
+    {
+        match self {
+            Characters::Inline(text) => text.as_str(),
+            Characters::Apart(text) => text.as_str(),
+        }
+    }
+}
+
+// One text and then another, each written once.
+fn joined(alloc: Global, some: &str, more: &str) -> Result<Characters, AllocError>
+    requires short { length some.now + length more.now ≤ longest_text }
+    ensures value { IfOk result (λ c. bytes_of c ≡ some.now ++ more.now) }
+{
+    let length = some.len() + more.len();
+    if length <= LONGEST_INLINE {
+        let mut text = ArrayString::new();
+        text.push_str(some);
+        text.push_str(more);
+        return Ok(Characters::Inline(text));
+    }
+    let mut text = String::with_capacity(alloc, length)?;
+    text.push_str(some)?;
+    text.push_str(more)?;
+    Ok(Characters::Apart(text))
 }
 
 impl PartialEq for Text {
