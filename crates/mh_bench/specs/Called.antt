@@ -1,5 +1,5 @@
 -- When a tree may run beside the trees of the sites that it may invoke.
-use Rattle.std.specs.Prelude.{ℕ, ◌×◌, ◌≤◌, List, [], ◌∷◌}
+use Rattle.std.specs.Prelude.{ℕ, ◌≤◌, List, [], ◌∷◌}
 use Rattle.mh_type.specs.declared.value.Value.{Value}
 use Rattle.mh_type.specs.Fits.{Fits}
 use Rattle.mh_tree.specs.Handle.{TypedTree}
