@@ -1,5 +1,5 @@
 -- Parts shared out among workers, and their runs found again.
-use Rattle.std.proofs.Common.{◌≡◌, ℕ, ◌+◌, ◌-◌, ◌*◌, ◌/◌, ◌%◌, ◌<◌, List, [], ◌∷◌, ◌++◌, refl, arith, sym, ◌∙◌, ap, inl, inr, length, get_or, subst, length-append}
+use Rattle.std.proofs.Common.{◌≡◌, ℕ, zero, suc, ◌+◌, ◌-◌, ◌*◌, ◌/◌, ◌%◌, ◌<◌, List, [], ◌∷◌, ◌++◌, refl, arith, sym, ◌∙◌, ap, inl, inr, length, get_or, subst, length-append}
 use Rattle.std.specs.Prelude.{All, Result, Ok, Err, IfOk, IsOk}
 use Rattle.std.specs.List.{slice_index_or}
 use Rattle.std.proofs.Math.Nat.{mod-add-div, mod-lt}
@@ -50,3 +50,33 @@ share_more P parts workers worker part old new run more place each last t l =
           subst (λ (r : FlowData). IsSolved (part_problem P (part_at parts (worker + t * workers))) r) (sym value)
           (subst (λ (k : ℕ). IsSolved (part_problem P (part_at parts k)) run) (sym number) last)
     ]
+
+-- ---- all parts as the share of one worker
+abbrev only : List FlowData → List (Result (List FlowData) NoMemory)
+only runs = Ok runs ∷ []
+
+only_ok : (runs : List FlowData) → All (λ share. IsOk share) (only runs)
+only_ok runs zero d l = refl
+only_ok runs (suc k) d l = absurd (omega (arith, l))
+
+only_share : (P : ProblemData) (parts : List Part) (runs : List FlowData) → IsShare P parts 1 0 runs
+    → (w : ℕ) → w < 1 → IfOk (slice_index_or (only runs) w (Ok [])) (λ rs. IsShare P parts 1 w rs)
+only_share P parts runs share zero l = share
+only_share P parts runs share (suc w) l = absurd (omega (arith, l))
+
+pub solved_alone : (P : ProblemData) (parts : List Part) (shares : List (Result (List FlowData) NoMemory)) (runs : List FlowData) → shares ≡ Ok runs ∷ [] → IsShare P parts 1 0 runs → (i : ℕ) → i < length parts →
+    IsSolved (part_problem P (part_at parts i)) (slice_index_or (share_of (slice_index_or shares (i % 1) (Ok []))) (i / 1) no_run)
+solved_alone P parts shares runs same share i l =
+    subst (λ (xs : List (Result (List FlowData) NoMemory)). IsSolved (part_problem P (part_at parts i)) (slice_index_or (share_of (slice_index_or xs (i % 1) (Ok []))) (i / 1) no_run)) (sym same)
+    (solved_at P parts 1 (Ok runs ∷ []) (omega arith) refl (only_ok runs) (only_share P parts runs share) i l)
+
+pub full_alone : (P : ProblemData) (parts : List Part) (shares : List (Result (List FlowData) NoMemory)) (runs : List FlowData) → shares ≡ Ok runs ∷ [] → IsShare P parts 1 0 runs → (i : ℕ) → i < length parts →
+    i / 1 < length (share_of (slice_index_or shares (i % 1) (Ok [])))
+full_alone P parts shares runs same share i l =
+    let below : i % 1 < 1 = mod-lt i (omega arith) in
+    let first : i % 1 ≡ 0 = omega (arith, below) in
+    let found : share_of (slice_index_or shares (i % 1) (Ok [])) ≡ runs =
+    ap (λ (xs : List (Result (List FlowData) NoMemory)). share_of (slice_index_or xs (i % 1) (Ok []))) same
+    ∙ ap (λ (k : ℕ). share_of (slice_index_or (only runs) k (Ok []))) first in
+    let place : i / 1 < length runs = share.full (i / 1) (omega (arith, l, first, mod-add-div i 1)) in
+    omega (arith, place, ap length found)

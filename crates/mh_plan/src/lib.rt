@@ -16,4 +16,4 @@ mod worker;
 
 pub use gate::{Gate, OpenGate};
 pub use mh_base::NoMemory;
-pub use planner::{plan, plan_counted};
+pub use planner::{plan, plan_alone, plan_counted};

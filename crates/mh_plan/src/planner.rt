@@ -11,10 +11,10 @@ ghost use Rattle.mh_plan.specs.Solved.{AreSolved};
 ghost use Rattle.mh_plan.specs.Limits.{most_workers};
 ghost use Rattle.mh_network.specs.Limits.{greatest_sum};
 
-use crate::gate::Gate;
+use crate::gate::{Gate, OpenGate};
 use crate::joining::{Charge, Row, join_charges, join_links, join_rows};
 use crate::numbers::{ascending, needs_of};
-use crate::runs::{Runs, solve_parts};
+use crate::runs::{Runs, solve_all, solve_alone};
 use mh_base::{Listing, NoMemory};
 use mh_cert::Plan;
 use mh_network::{
@@ -64,10 +64,24 @@ pub fn plan_counted<R: Threads + Sync, G: Gate>(
 {
     let parts = problem.parts(alloc)?;
     let workers = workers.min(parts.len()).max(1);
-    let runs = solve_parts(rt, alloc, problem, &parts, workers, gate)?;
+    let runs = solve_all(rt, alloc, problem, &parts, workers, gate)?;
     let plan = join_plan(alloc, problem, &parts, &runs)?;
     let phases = phases_of(alloc, problem, &parts, &runs)?;
     Ok((plan, phases))
+}
+
+/// The plan that `plan` gives, made on the thread of the caller: it starts no thread, and needs no
+/// runtime that could.
+///
+/// Refused only where a growth was refused.
+pub fn plan_alone(alloc: Global, problem: &Problem) -> Result<Plan, NoMemory>
+    ensures matching { IfOk result (λ plan. Matches problem.now plan) }
+    ensures least { IfOk result (λ plan. IsLeast problem.now (member plan.links)) }
+{
+    let parts = problem.parts(alloc)?;
+    let runs = solve_alone(alloc, problem, &parts, &OpenGate)?;
+    let plan = join_plan(alloc, problem, &parts, &runs)?;
+    Ok(plan)
 }
 
 /// The plan that the parts' runs give together.

@@ -25,9 +25,31 @@ pub(crate) struct Runs {
     workers: usize,
 }
 
+/// Plans all parts: one worker on the thread of the caller, and more in threads of their own.
+pub(crate) fn solve_all<R: Threads + Sync, G: Gate>(
+    rt: &R,
+    alloc: Global,
+    problem: &Problem,
+    parts: &[Part],
+    workers: usize,
+    gate: &G,
+) -> Result<Runs, NoMemory>
+    requires problem { IsProblem problem.now }
+    requires parts { AreParts problem.now parts.now }
+    requires workers { 0 < workers }
+    requires room { length parts.now + workers < 2 ^ 64 }
+    ensures shared { IfOk result (λ runs. AreShared parts.now runs) }
+    ensures solved { IfOk result (λ runs. AreSolved problem.now parts.now (run_at runs)) }
+{
+    if workers == 1 {
+        return solve_alone(alloc, problem, parts, gate);
+    }
+    solve_parts(rt, alloc, problem, parts, workers, gate)
+}
+
 /// Plans all parts, worker k of `workers` the parts k, k + workers and so on, each in a thread of
 /// its own where one can be started.
-pub(crate) fn solve_parts<R: Threads + Sync, G: Gate>(
+fn solve_parts<R: Threads + Sync, G: Gate>(
     rt: &R,
     alloc: Global,
     problem: &Problem,
@@ -53,6 +75,25 @@ pub(crate) fn solve_parts<R: Threads + Sync, G: Gate>(
         return Err(NoMemory);
     }
     Ok(Runs { shares, workers })
+}
+
+/// Plans all parts in turn, on the thread of the caller.
+pub(crate) fn solve_alone<G: Gate>(
+    alloc: Global,
+    problem: &Problem,
+    parts: &[Part],
+    gate: &G,
+) -> Result<Runs, NoMemory>
+    requires problem { IsProblem problem.now }
+    requires parts { AreParts problem.now parts.now }
+    requires room { length parts.now + 1 < 2 ^ 64 }
+    ensures shared { IfOk result (λ runs. AreShared parts.now runs) }
+    ensures solved { IfOk result (λ runs. AreSolved problem.now parts.now (run_at runs)) }
+{
+    let all = plan_share(alloc, problem, parts, 0, 1, gate)?;
+    let mut shares = Vec::with_capacity(alloc, 1)?;
+    shares.push_reserved(Ok(all));
+    Ok(Runs { shares, workers: 1 })
 }
 
 fn are_ok(shares: &[Share]) -> bool
