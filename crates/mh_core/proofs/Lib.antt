@@ -14,4 +14,5 @@ mod Ledgered
 mod Machines
 mod PlanTests
 mod Runs
+mod Runtimes
 mod Standing

@@ -19,6 +19,9 @@ pub mod Standing
 pub mod Codes
 pub mod BookViews
 pub mod MachineViews
+pub mod Runtimes
+pub mod RuntimeCodes
+pub mod RuntimeViews
 pub mod ArgumentViews
 pub mod Pasts
 pub mod CallViews

@@ -34,6 +34,7 @@ mod problem;
 mod record;
 mod refusal;
 mod reply;
+mod runtime;
 mod snapshot;
 mod testing;
 
@@ -66,3 +67,4 @@ pub use plan::SharedPlan;
 pub use record::Record;
 pub use refusal::Refusal;
 pub use reply::Reply;
+pub use runtime::Runtime;

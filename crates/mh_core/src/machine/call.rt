@@ -1,10 +1,10 @@
 //! How a machine answers a call.
 
-ghost use Rattle.std.specs.Prelude.{◌≡◌, ◌<◌, ◌≤◌, ℕ, List, ◌∷◌, ◌↔◌, length, IfErr, IfOk, IfSome, IsOk, IsTrue, OnOk};
+ghost use Rattle.std.specs.Prelude.{◌≡◌, ◌<◌, ◌≤◌, ℕ, List, ◌∷◌, ◌↔◌, length, slice_set, IfErr, IfOk, IfSome, IfNone, IsOk, IsTrue, OnOk};
 ghost use Rattle.mh_eval.specs.Entered.{EntersPlain};
 ghost use Rattle.mh_type.specs.Fits.{Fits};
 ghost use Rattle.mh_type.specs.declared.value.Value.{Value as ValueData};
-ghost use Rattle.mh_ledger.specs.Ledgers.{ledger_at};
+ghost use Rattle.mh_ledger.specs.Ledgers.{at, ledger_at, with_hit};
 ghost use Rattle.mh_site.specs.Defined.{site_at};
 ghost use Rattle.mh_site.specs.Links.{links};
 ghost use Rattle.mh_core.specs.Books.{AreLedgers, BookState};
@@ -117,9 +117,14 @@ impl Machine {
 }
 
 // Counts the hit of a call in its worker's ledger, where it hits a link and the ledger has room.
-fn count_hit(ledgers: &mut Vec<Ledger>, worker: u32, link: Option<usize>)
+#[inline(always)]
+pub(crate) fn count_hit(ledgers: &mut Vec<Ledger>, worker: u32, link: Option<usize>)
     requires known { worker < length ledgers.old.items }
     requires inside { IfSome link (λ j. j < length (ledger_at ledgers.old.items worker).unflushed) }
+    ensures hit { IfSome link (λ j. at (ledger_at ledgers.old.items worker).unflushed j
+        < (ledger_at ledgers.old.items worker).limit → ledgers.new.items
+        ≡ slice_set ledgers.old.items worker (with_hit (ledger_at ledgers.old.items worker) j)) }
+    ensures none { IfNone link (ledgers.new ≡ ledgers.old) }
     ensures counted { (b : BookState) → (workers : ℕ) → (h : List Event) → (site : ℕ)
         → (arguments : List ValueData) → IsHitLink b.definition site arguments link
         → AreLedgers b workers h ledgers.old.items
@@ -134,7 +139,7 @@ fn count_hit(ledgers: &mut Vec<Ledger>, worker: u32, link: Option<usize>)
 }
 
 // What a site's linked tree gives on arguments that fit.
-fn evaluate_call(
+pub(crate) fn evaluate_call(
     stack: &mut Stack,
     book: &Book,
     site: usize,

@@ -1,0 +1,64 @@
+-- What contracts see of a runtime, and what its calls answer, count and are refused.
+use Rattle.std.specs.Prelude.{◌≡◌, ◌⊎◌, ℕ, ◌<◌, true, false, List, length, map, slice_set}
+use Rattle.std.specs.List.{range_with_len}
+use Rattle.mh_base.specs.Tests.{Tests, test, only}
+use Rattle.mh_type.specs.Fits.{Fits}
+use Rattle.mh_type.specs.declared.value.Value.{Value}
+use Rattle.mh_eval.specs.Entered.{EntersPlain}
+use Rattle.mh_ledger.specs.Ledgers.{AreHeld, LedgerState, at, ledger_at, opened_ledger, with_hit}
+use Rattle.mh_site.specs.Defined.{DefinitionData, site_at}
+use Rattle.mh_site.specs.Links.{links}
+use Rattle.mh_core.specs.declared.record.Record.{Record}
+use Rattle.mh_core.specs.declared.record.Record.TheVariants.{Flushed}
+use Rattle.mh_core.specs.declared.refusal.Refusal.{Refusal}
+use Rattle.mh_core.specs.declared.refusal.Refusal.TheVariants.{NoWorker, NoSite, WrongType, LedgerFull}
+use Rattle.mh_core.specs.Books.{BookState, MayRefuse, opened_book}
+use Rattle.mh_core.specs.Hits.{hits}
+use Rattle.mh_core.specs.Installations.{linked, linked_sites}
+use Rattle.mh_core.specs.Limits.{LimitsData}
+use Rattle.mh_core.specs.Records.{hits_in}
+use Rattle.mh_core.specs.Refusals.{memory_last}
+
+-- its book, and the ledger of each worker in order
+pub record RuntimeState : Type 0 where
+  pub book : BookState
+  pub ledgers : List LedgerState
+
+-- before its first call
+abbrev pub opened_runtime : DefinitionData → ℕ → LimitsData → RuntimeState
+opened_runtime d workers l = record { book = opened_book d workers l; ledgers = map (opened_ledger (length (links d)) l.ledger) (range_with_len 0 workers) }
+
+-- the book's totals hold each worker's ledger, which has a number for each link and the limit of ledgers
+pub record IsRuntime (b : BookState) (ledgers : List LedgerState) : Type 0 where
+  pub held : AreHeld b.totals ledgers
+  pub links : (w : ℕ) → w < length ledgers → length (ledger_at ledgers w).unflushed ≡ length (links b.definition)
+  pub limit : (w : ℕ) → w < length ledgers → (ledger_at ledgers w).limit ≡ b.limits.ledger
+
+-- the worker may count the hit of a call, if it hits a link
+abbrev pub HasRoom : RuntimeState → ℕ → ℕ → List Value → Type 0
+HasRoom r w s a = (j : ℕ) → hits r.book.definition s a j ≡ true → at (ledger_at r.ledgers w).unflushed j < r.book.limits.ledger
+
+-- the tests of a call, in order
+abbrev pub call_tests : RuntimeState → ℕ → ℕ → List Value → Tests Refusal
+call_tests r w s a =
+    test (w < length r.ledgers) (only NoWorker)
+    (test (s < length r.book.definition.sites) (only NoSite)
+    (test (Fits (site_at r.book.definition s).method_type a) (only WrongType)
+    (test (HasRoom r w s a) (only LedgerFull) memory_last)))
+
+-- the worker's ledger has one hit more of the link that is hit, and of no other
+pub record CountsHit (d : DefinitionData) (w s : ℕ) (a : List Value) (old new : List LedgerState) : Type 0 where
+  pub hit : (j : ℕ) → hits d s a j ≡ true → new ≡ slice_set old w (with_hit (ledger_at old w) j)
+  pub none : ((j : ℕ) → hits d s a j ≡ false) → new ≡ old
+
+-- a call that enters no node, of invoked trees too, that has String in its type, so that it asks for no memory
+abbrev pub TakesNoMemory : BookState → ℕ → List Value → Type 0
+TakesNoMemory b s a = EntersPlain (linked_sites b.definition b.records) (linked b.definition b.records s).tree a
+
+-- the record of a worker's flush
+abbrev pub flush_of : RuntimeState → ℕ → Record
+flush_of r w = Flushed w (hits_in (ledger_at r.ledgers w).unflushed)
+
+-- there is no such worker, or the first failing test of its flush is told
+abbrev pub RefusesFlush : RuntimeState → ℕ → Refusal → Type 0
+RefusesFlush r w told = ((w < length r.ledgers → ⊥) × (told ≡ NoWorker)) ⊎ ((w < length r.ledgers) × MayRefuse r.book 0 (flush_of r w) told)
