@@ -80,8 +80,7 @@ pub fn plan_alone(alloc: Global, problem: &Problem) -> Result<Plan, NoMemory>
 {
     let parts = problem.parts(alloc)?;
     let runs = solve_alone(alloc, problem, &parts, &OpenGate)?;
-    let plan = join_plan(alloc, problem, &parts, &runs)?;
-    Ok(plan)
+    join_plan(alloc, problem, &parts, &runs)
 }
 
 /// The plan that the parts' runs give together.
