@@ -1,5 +1,6 @@
-// Preloaded below a program: once it has written `opened`, the growth whose number stands in REFUSE_AT, from 1, is
-// refused. When the program ends, standard error has the number of all growths after `opened`.
+// Preloaded below a program: the growth whose number stands in REFUSE_AT, from 1, is refused. Growths are counted from the
+// line `opened`, or from the start where REFUSE_FROM_START is set, up to the line `worked`. When the program ends, the last
+// line of standard error has their number.
 typedef unsigned long size;
 extern void *dlsym(void *, const char *);
 extern char *getenv(const char *);
@@ -11,6 +12,8 @@ extern int dprintf(int, const char *, ...);
 
 static int opened;
 static long growths;
+
+__attribute__((constructor)) static void begin(void) { opened = getenv("REFUSE_FROM_START") != 0; }
 
 static int is_refused(void) {
     const char *at = getenv("REFUSE_AT");
@@ -33,7 +36,17 @@ long write(int file, const void *bytes, size count) {
     static long (*next)(int, const void *, size);
     if (!next) next = (long (*)(int, const void *, size))dlsym(NEXT, "write");
     if (count >= 6 && memcmp(bytes, "opened", 6) == 0) opened = 1;
+    if (count >= 6 && memcmp(bytes, "worked", 6) == 0) opened = 0;
     return next(file, bytes, count);
 }
 
 __attribute__((destructor)) static void tell(void) { dprintf(2, "%ld\n", growths); }
+
+// (a program that may start threads ends by this call, past all destructors)
+void _exit(int status) {
+    static void (*next)(int);
+    if (!next) next = (void (*)(int))dlsym(NEXT, "_exit");
+    tell();
+    next(status);
+    __builtin_unreachable();
+}

@@ -1,0 +1,35 @@
+//! The program `refused_growths`: works of which a growth is refused from outside, while they run.
+//!
+//! `refused_growths SUBJECT` makes ready what a work needs, tells what stands, and writes `opened`.
+//! Then it does the work, writes `worked`, and tells what the work gave and what stands. It does the
+//! work again and tells the same. With no word it does so for every subject.
+//! `tools/refuse_growth` refuses each growth between `opened` and `worked` in turn.
+#![tactic(auto)]
+
+mod books;
+mod definition;
+mod machines;
+mod offices;
+mod openings;
+mod passes;
+mod plans;
+mod settling;
+mod subject;
+mod telling;
+mod trees;
+
+use crate::subject::{Subject, try_all, try_subject};
+use anyhow::Context;
+use std::env;
+
+fn main(rt: HostRuntime) -> anyhow::Result<()> {
+    let alloc = rt.alloc();
+    let words = env::args(&rt)?.collect::<Vec<String>>(alloc)?;
+    match words.as_slice() {
+        [_, word] => {
+            let subject = Subject::named(word.as_str()).context("no such subject")?;
+            try_subject(&rt, alloc, subject)
+        }
+        _ => try_all(&rt, alloc),
+    }
+}

@@ -1,0 +1,126 @@
+//! The methods of an office.
+
+ghost use Rattle.std.specs.Prelude.{◌≡◌};
+
+use crate::books::{Change, Inputs};
+use crate::definition::{F, define, limits, plan_of_two_hits};
+use crate::telling::{tell_again, tell_book, tell_ledger, tell_opened, tell_part, tell_worked};
+use anyhow::Context;
+use mh_live::mh_core::{Refusal, Value};
+use mh_live::{FlushFault, Live, Name, Opening, Pass, Receipt};
+use std::alloc::Global;
+use std::marker::Brand;
+use std::sync::Wait;
+
+/// An opening of two workers.
+pub(crate) fn make_opening(alloc: Global) -> anyhow::Result<Opening> {
+    let definition = define(alloc)?;
+    let opening = Opening::new(alloc, &definition, 2, limits()?)?;
+    Ok(opening)
+}
+
+/// Asks an office.
+fn ask<N: Name, R: Wait>(
+    rt: &R,
+    live: &Live<N>,
+    pass: &mut Pass<N>,
+    change: Change,
+    inputs: Inputs,
+) -> Result<Receipt<N>, FlushFault> {
+    match change {
+        Change::Flush => live.flush(rt, pass),
+        Change::Target => told(live.set_target(rt, F, inputs.tree)),
+        Change::Invalidation => told(live.invalidate(rt, inputs.points)),
+        Change::Snapshot => told(live.snapshot(rt)),
+        Change::Publication => told(live.publish(rt, 1, inputs.plan)),
+        Change::Installation => told(live.install(rt, 1)),
+    }
+}
+
+/// An answer with the fault of a flush.
+fn told<N: Name>(answer: Result<Receipt<N>, Refusal>) -> Result<Receipt<N>, FlushFault> {
+    match answer {
+        Ok(receipt) => Ok(receipt),
+        Err(refusal) => Err(FlushFault::Refused(refusal)),
+    }
+}
+
+/// Calls `f` with 1, which hits the link 0.
+fn hit<N: Name>(pass: &mut Pass<N>) -> anyhow::Result<()> {
+    pass.call(F, &[Value::Int(1)])?;
+    Ok(())
+}
+
+/// Two hits, their flush, a snapshot of them and its plan; and one hit more.
+pub(crate) fn make_ready<N: Name, R: Wait>(
+    rt: &R,
+    alloc: Global,
+    live: &Live<N>,
+    pass: &mut Pass<N>,
+) -> anyhow::Result<()> {
+    hit(pass)?;
+    hit(pass)?;
+    live.flush(rt, pass)?;
+    live.snapshot(rt)?;
+    live.publish(rt, 1, plan_of_two_hits(alloc)?)?;
+    hit(pass)
+}
+
+/// Asks an office, and again.
+pub(crate) fn try_change<R: Print + Wait>(
+    rt: &R,
+    alloc: Global,
+    change: Change,
+) -> anyhow::Result<()> {
+    let opening = make_opening(alloc)?;
+    try_opened::<Brand, R>(rt, alloc, opening, change)
+}
+
+/// The same of an opening.
+fn try_opened<N: Name, R: Print + Wait>(
+    rt: &R,
+    alloc: Global,
+    opening: Opening,
+    change: Change,
+) -> anyhow::Result<()>
+    requires name { opening.name ≡ N.book }
+    requires definition { opening.definition ≡ N.definition }
+    requires limits { opening.limits ≡ N.limits }
+    requires workers { opening.workers ≡ N.workers }
+{
+    let (live, mut passes) = opening.open::<N>()?;
+    let pass = passes.get_mut(0).context("there is no pass")?;
+    make_ready(rt, alloc, &live, pass)?;
+    try_ready(rt, alloc, &live, pass, change)
+}
+
+/// The same of an office that stands.
+fn try_ready<N: Name, R: Print + Wait>(
+    rt: &R,
+    alloc: Global,
+    live: &Live<N>,
+    pass: &mut Pass<N>,
+    change: Change,
+) -> anyhow::Result<()> {
+    tell(rt, live, pass)?;
+    let inputs = Inputs::new(alloc)?;
+    tell_opened(rt)?;
+    tell_worked(rt, &ask(rt, live, pass, change, inputs))?;
+    tell(rt, live, pass)?;
+    let inputs = Inputs::new(alloc)?;
+    tell_again(rt, &ask(rt, live, pass, change, inputs))?;
+    tell(rt, live, pass)
+}
+
+/// What stands in an office and a pass.
+pub(crate) fn tell<N: Name, R: Print + Wait>(
+    rt: &R,
+    live: &Live<N>,
+    pass: &Pass<N>,
+) -> anyhow::Result<()> {
+    tell_ledger(rt, pass.ledger())?;
+    let office = live.office(rt);
+    tell_book(rt, office.book())?;
+    tell_part(rt, "front", office.front())?;
+    tell_part(rt, "closed", &office.closed())
+}
