@@ -73,8 +73,8 @@ stream_failed A B NoReader three end = absurd (omega (arith, three))
 -- what was left written stands after a flush, which keeps it
 module _ (old mid new : Option (List ℕ)) (kept : Keeps mid new) where
   ends_kept : (m : MachineState) (steps : List Step) (n : ℕ) → output.EndsIn m steps n old mid → output.EndsIn m steps n old new
-  ends_kept m steps n (replies, reply, last, front, rest, count, run, line, written) =
-      (replies, reply, last, front, rest, count, run, line, Appends-kept old mid new (lines_of m.setting.definition replies ++ front) written kept)
+  ends_kept m steps n (replies, reply, last, front, rest, count, left, run, line, written) =
+      (replies, reply, last, front, rest, count, left, run, line, Appends-kept old mid new (lines_of m.setting.definition replies ++ front) written kept)
 
   early_kept : (script : Script) (B : Type 0) (e : Fault) → EndsEarly script old mid B e → EndsEarly script old new B e
   early_kept script B e (inl (same, memory)) = inl (Keeps-trans old mid new same kept, memory)
@@ -85,14 +85,14 @@ module _ (old mid new : Option (List ℕ)) (kept : Keeps mid new) where
   fails_kept Run None A B e (inr known) = inr known
   fails_kept Run (Some bytes) A B e (inr (script, is, early)) = inr (script, is, early_kept script B e early)
   fails_kept Check input A B e (inl (same, unread)) = inl (Keeps-trans old mid new same kept, unread)
-  fails_kept Check input A B e (inr (verdict, found, (is, failed, (front, rest, split, begun)))) =
-      inr (verdict, found, (is, failed, (front, rest, split, Appends-kept old mid new front begun kept)))
+  fails_kept Check input A B e (inr (verdict, found, (is, failed, (front, rest, left, split, begun)))) =
+      inr (verdict, found, (is, failed, (front, rest, left, split, Appends-kept old mid new front begun kept)))
   fails_kept (Plan options) input A B e (inl (same, unread)) = inl (Keeps-trans old mid new same kept, unread)
-  fails_kept (Plan options) input A B e (inr (text, planned, (is, failed, (front, rest, split, begun)))) =
-      inr (text, planned, (is, failed, (front, rest, split, Appends-kept old mid new front begun kept)))
+  fails_kept (Plan options) input A B e (inr (text, planned, (is, failed, (front, rest, left, split, begun)))) =
+      inr (text, planned, (is, failed, (front, rest, left, split, Appends-kept old mid new front begun kept)))
   fails_kept (Stress options) input A B e (inl (same, unread)) = inl (Keeps-trans old mid new same kept, unread)
-  fails_kept (Stress options) input A B e (inr (text, stressed, (is, failed, (front, rest, split, begun)))) =
-      inr (text, stressed, (is, failed, (front, rest, split, Appends-kept old mid new front begun kept)))
+  fails_kept (Stress options) input A B e (inr (text, stressed, (is, failed, (front, rest, left, split, begun)))) =
+      inr (text, stressed, (is, failed, (front, rest, left, split, Appends-kept old mid new front begun kept)))
 
   works_kept : (request : Request) (input : Option (List ℕ)) (status : ℕ) → Works request input old mid status → Works request input old new status
   works_kept request None status known = known

@@ -1,5 +1,5 @@
 -- What is written for an input.
-use Rattle.std.specs.Prelude.{◌≡◌, ◌⊎◌, ℕ, ◌+◌, List, [], ◌∷◌, ◌++◌, length, take, Option, Result, Ok, Err, IfSome}
+use Rattle.std.specs.Prelude.{◌≡◌, ◌⊎◌, ℕ, ◌+◌, ◌<◌, List, [], ◌∷◌, ◌++◌, length, take, Option, Result, Ok, Err, IfSome}
 use Rattle.std.specs.Io.KnownBytes.{Appends, Keeps}
 use Rattle.serde_json.specs.Data.{Data}
 use Rattle.mh_text.specs.declared.fault.Fault.{Fault}
@@ -26,11 +26,12 @@ abbrev pub AppendsRun : MachineState → List Step → Option (List ℕ) → Opt
 AppendsRun first steps old new =
     (replies : List Told) × (last : List Event) × Run first.setting first.history steps replies last × Appends old new (lines_of first.setting.definition replies)
 
--- The run ended in step n: the lines of the steps before it were appended, and a beginning of its own line.
+-- The run ended in step n: the lines of the steps before it were appended, and a beginning of its own line, of which bytes are
+-- left. So where the writer fails at the end of a line, n is the next step.
 abbrev pub EndsIn : MachineState → List Step → ℕ → Option (List ℕ) → Option (List ℕ) → Type 0
 EndsIn first steps n old new =
     (replies : List Told) × (reply : Told) × (last : List Event) × (front : List ℕ) × (rest : List ℕ)
-    × (n ≡ length replies + 1)
+    × (n ≡ length replies + 1) × (0 < length rest)
     × Run first.setting first.history (take n steps) (replies ++ reply ∷ []) last
     × (line_of first.setting.definition reply ≡ front ++ rest)
     × Appends old new (lines_of first.setting.definition replies ++ front)

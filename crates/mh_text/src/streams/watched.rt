@@ -105,8 +105,8 @@ impl<W: Write> Watched<W> {
     pub fn write_all(&mut self, bytes: &[u8]) -> Result<(), TextFault>
         ensures ok { OnOk result (Appends (W.contents self.old.inner)
             (W.contents self.new.inner) bytes.now) }
-        ensures begun { AppendsFront (W.contents self.old.inner)
-            (W.contents self.new.inner) bytes.now }
+        ensures begun { OnErr result (AppendsFront (W.contents self.old.inner)
+            (W.contents self.new.inner) bytes.now) }
         ensures kept { OnOk result (self.new.failures ≡ self.old.failures) }
         ensures failed { OnErr result (self.new.failures ≡ one_more self.old.failures) }
         ensures fault { IfErr result (λ e. e ≡ TextFault.WriteFailed) }

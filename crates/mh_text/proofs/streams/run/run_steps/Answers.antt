@@ -34,7 +34,7 @@ returns-in_err-write_step-clause-ends g c =
     let (replies, count, run, written) = c.loop-step.invariant.told in
     let (reply, step, told) = c.in_err-write_step.ensures.step in
     let begun = told.1 in
-    rw (p.1, p.2, told.0) (replies, reply, c.write_step.new.machine.history, begun.0, begun.1, omega (arith, count), run_next _ _ _ _ c.loop-step.at _ replies _ c.in-Some.step reply _ c.loop-step.invariant.count t run c.loop-step.invariant.setting step, ap (λ (y : Setting). line_of y.definition reply) (sym c.loop-step.invariant.setting) ∙ begun.2, Appends-trans _ _ _ _ _ written begun.3)
+    rw (p.1, p.2, told.0) (replies, reply, c.write_step.new.machine.history, begun.0, begun.1, omega (arith, count), begun.2, run_next _ _ _ _ c.loop-step.at _ replies _ c.in-Some.step reply _ c.loop-step.invariant.count t run c.loop-step.invariant.setting step, ap (λ (y : Setting). line_of y.definition reply) (sym c.loop-step.invariant.setting) ∙ begun.3, Appends-trans _ _ _ _ _ written begun.4)
 
 pub returns-clause-ok : goal.returns-clause-ok
 returns-clause-ok g c =
