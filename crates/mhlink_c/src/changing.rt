@@ -1,0 +1,112 @@
+//! What changes a machine beside calls.
+
+ghost use Rattle.std.specs.Prelude.{◌≡◌, ◌≢◌, true};
+
+use crate::handle::MhlinkMachine;
+use crate::held::make_change;
+use crate::request::Change;
+use std::alloc::Global;
+
+/// Adds the hits of a worker since its last flush to the totals.
+#[unsafe(no_mangle)]
+pub extern "C" fn mhlink_flush(alloc: Global, machine: &mut MhlinkMachine, worker: u32) -> u32
+    requires full { machine.old.full ≡ true }
+    ensures full { machine.new.full ≡ true }
+    ensures kept { result ≢ 0 → machine.new.value ≡ machine.old.value }
+{
+    let mut nothing = 0;
+    make_change(alloc, machine, Change::Flush(worker), &mut nothing)
+}
+
+/// Gives a site another tree, as JSON over the points, the shared trees and the sites of the
+/// definition. The definition is read again with it.
+#[unsafe(no_mangle)]
+pub extern "C" fn mhlink_target(
+    alloc: Global,
+    machine: &mut MhlinkMachine,
+    site: usize,
+    tree: &[u8],
+) -> u32
+    requires full { machine.old.full ≡ true }
+    ensures full { machine.new.full ≡ true }
+    ensures kept { result ≢ 0 → machine.new.value ≡ machine.old.value }
+{
+    let mut nothing = 0;
+    make_change(alloc, machine, Change::Target { site, tree }, &mut nothing)
+}
+
+/// Invalidates points together and for good.
+#[unsafe(no_mangle)]
+pub extern "C" fn mhlink_invalidate(
+    alloc: Global,
+    machine: &mut MhlinkMachine,
+    points: &[u32],
+) -> u32
+    requires full { machine.old.full ≡ true }
+    ensures full { machine.new.full ≡ true }
+    ensures kept { result ≢ 0 → machine.new.value ≡ machine.old.value }
+{
+    let mut nothing = 0;
+    make_change(alloc, machine, Change::Invalidate(points), &mut nothing)
+}
+
+/// Takes a snapshot of the totals, with its number, from 1.
+#[unsafe(no_mangle)]
+pub extern "C" fn mhlink_snapshot(
+    alloc: Global,
+    machine: &mut MhlinkMachine,
+    number: &mut u64,
+) -> u32
+    requires full { machine.old.full ≡ true }
+    ensures full { machine.new.full ≡ true }
+    ensures kept { result ≢ 0 → machine.new.value ≡ machine.old.value }
+{
+    make_change(alloc, machine, Change::Snapshot, number)
+}
+
+/// Makes the best plan for a snapshot, of such the one with the fewest links, and publishes it, with
+/// the plan's number, from 1.
+#[unsafe(no_mangle)]
+pub extern "C" fn mhlink_plan(
+    alloc: Global,
+    machine: &mut MhlinkMachine,
+    snapshot: usize,
+    number: &mut u64,
+) -> u32
+    requires full { machine.old.full ≡ true }
+    ensures full { machine.new.full ≡ true }
+    ensures kept { result ≢ 0 → machine.new.value ≡ machine.old.value }
+{
+    make_change(alloc, machine, Change::Plan(snapshot), number)
+}
+
+/// Publishes the caller's plan for a snapshot, as JSON, if the checker accepts it, with its number.
+#[unsafe(no_mangle)]
+pub extern "C" fn mhlink_offer(
+    alloc: Global,
+    machine: &mut MhlinkMachine,
+    snapshot: usize,
+    plan: &[u8],
+    number: &mut u64,
+) -> u32
+    requires full { machine.old.full ≡ true }
+    ensures full { machine.new.full ≡ true }
+    ensures kept { result ≢ 0 → machine.new.value ≡ machine.old.value }
+{
+    make_change(alloc, machine, Change::Offer { snapshot, plan }, number)
+}
+
+/// Installs the newest plan, with the number of sites that it links.
+#[unsafe(no_mangle)]
+pub extern "C" fn mhlink_install(
+    alloc: Global,
+    machine: &mut MhlinkMachine,
+    plan: usize,
+    linked: &mut u64,
+) -> u32
+    requires full { machine.old.full ≡ true }
+    ensures full { machine.new.full ≡ true }
+    ensures kept { result ≢ 0 → machine.new.value ≡ machine.old.value }
+{
+    make_change(alloc, machine, Change::Install(plan), linked)
+}

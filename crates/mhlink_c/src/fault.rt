@@ -1,0 +1,132 @@
+//! Why an export did nothing, and the numbers that C gets for it.
+
+ghost use Rattle.std.specs.Prelude.{◌≡◌, ◌≢◌, ◌≤◌, OnErr, OnOk};
+
+use mh_core::{NoMemory, ProblemFault, Refusal};
+use mh_text::{Fault as TextualFault, InputFault, TextFault};
+use std::alloc::{AllocError, AllocFailed};
+
+/// Why an export did nothing.
+#[derive(Clone, Copy, Debug)]
+pub(crate) enum Fault {
+    /// The machine refused.
+    Refused(Refusal),
+    /// A text that was passed in has a fault.
+    Input(InputFault),
+    /// Rows and costs are no problem.
+    Problem(ProblemFault),
+    /// A name or a number of nothing that is there.
+    Unknown,
+    /// The caller's buffer is too short.
+    Short,
+    /// A value of no kind, out of its kind's range, or whose text is not passed.
+    BadValue,
+    /// A limit, or the number of workers, is out of its range.
+    BadLimits,
+}
+
+impl Fault {
+    /// The number that C gets, never 0: a refusal's own, 100 and an input fault's, 200 and a fault
+    /// of a problem, and 301 to 304.
+    #[tactic(auto, using(crate::proofs::Statuses::some_number))]
+    pub(crate) fn number(self) -> u32
+        ensures some { result ≢ 0 }
+    {
+        match self {
+            Fault::Refused(refusal) => u32::from(refusal.number()),
+            Fault::Input(fault) => 100 + input_number(fault),
+            Fault::Problem(fault) => 200 + u32::from(fault.number()),
+            Fault::Unknown => 301,
+            Fault::Short => 302,
+            Fault::BadValue => 303,
+            Fault::BadLimits => 304,
+        }
+    }
+
+    /// What the number leaves open: the number of the cause, the newest plan, or 0.
+    pub(crate) fn part(self) -> u64 {
+        match self {
+            Fault::Refused(Refusal::PlanRefused(cause)) => u64::from(cause.number()),
+            Fault::Refused(Refusal::OldPlan(newest)) => newest as u64,
+            Fault::Input(InputFault::Tree(cause)) => u64::from(cause.number()),
+            Fault::Input(InputFault::Definition(cause)) => u64::from(cause.number()),
+            Fault::Input(InputFault::Problem(cause)) => u64::from(cause.number()),
+            Fault::Input(InputFault::BadType(cause)) => u64::from(cause.number()),
+            _ => 0,
+        }
+    }
+}
+
+// The number under "Faults of inputs" of docs/FAULTS.md.
+fn input_number(fault: InputFault) -> u32
+    ensures some { 1 ≤ result }
+    ensures few { result ≤ 13 }
+{
+    match fault {
+        InputFault::NoMemory => 1,
+        InputFault::TooLong => 2,
+        InputFault::NotJson => 3,
+        InputFault::BadShape => 4,
+        InputFault::BadValue => 5,
+        InputFault::UnknownShared => 6,
+        InputFault::Tree(_) => 7,
+        InputFault::Definition(_) => 8,
+        InputFault::Problem(_) => 9,
+        InputFault::BadType(_) => 12,
+        InputFault::UnknownSite => 13,
+    }
+}
+
+impl From<Refusal> for Fault {
+    fn from(refusal: Refusal) -> Fault {
+        Fault::Refused(refusal)
+    }
+}
+
+impl From<NoMemory> for Fault {
+    fn from(_e: NoMemory) -> Fault {
+        Fault::Refused(Refusal::NoMemory)
+    }
+}
+
+impl From<AllocError> for Fault {
+    fn from(_e: AllocError) -> Fault {
+        Fault::Refused(Refusal::NoMemory)
+    }
+}
+
+impl<T: Drop> From<AllocFailed<T>> for Fault {
+    fn from(_e: AllocFailed<T>) -> Fault {
+        Fault::Refused(Refusal::NoMemory)
+    }
+}
+
+impl From<TextualFault> for Fault {
+    fn from(fault: TextualFault) -> Fault {
+        match fault.kind {
+            TextFault::Input(InputFault::NoMemory) => Fault::Refused(Refusal::NoMemory),
+            TextFault::Input(cause) => Fault::Input(cause),
+            _ => Fault::Refused(Refusal::NoMemory),
+        }
+    }
+}
+
+impl From<ProblemFault> for Fault {
+    fn from(fault: ProblemFault) -> Fault {
+        match fault {
+            ProblemFault::NoMemory => Fault::Refused(Refusal::NoMemory),
+            _ => Fault::Problem(fault),
+        }
+    }
+}
+
+/// The status of an answer: 0, or the fault's number.
+pub(crate) fn status<T: Drop>(answer: Result<T, Fault>) -> u32
+    ensures ok { OnOk answer (result ≡ 0) }
+    ensures refused { OnErr answer (result ≢ 0) }
+{
+    match answer {
+        Ok(_) => 0,
+        Err(fault) => fault.number(),
+    }
+}

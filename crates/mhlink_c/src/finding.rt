@@ -1,0 +1,47 @@
+//! The numbers of names and keys.
+
+ghost use Rattle.std.specs.Prelude.{◌<◌, length, IfSome};
+
+use crate::fault::Fault;
+use mh_core::{Definition, Link, Value};
+use mh_type::same_value;
+
+/// The number of the site of this name.
+pub(crate) fn site_number(definition: &Definition, name: &[u8]) -> Result<u64, Fault> {
+    for site in 0..definition.sites().len() {
+        if definition.site_name(site).as_bytes() == name {
+            return Ok(site as u64);
+        }
+    }
+    Err(Fault::Unknown)
+}
+
+/// The number of the point of this name.
+pub(crate) fn point_number(definition: &Definition, name: &[u8]) -> Result<u64, Fault> {
+    for point in 0..definition.points().len() {
+        if definition.point_name(point).as_bytes() == name {
+            return Ok(point as u64);
+        }
+    }
+    Err(Fault::Unknown)
+}
+
+/// The number of the link of a site whose key is this value.
+pub(crate) fn link_number(definition: &Definition, site: usize, key: &Value) -> Result<u64, Fault> {
+    if site >= definition.sites().len() {
+        return Err(Fault::Unknown);
+    }
+    // Read for what a definition keeps.
+    let _count = definition.link_count();
+    match place_of(definition.links(site), key) {
+        Some(place) => Ok((definition.first_link(site) + place) as u64),
+        None => Err(Fault::Unknown),
+    }
+}
+
+// The place of the first link with this key.
+fn place_of(links: &[Link], key: &Value) -> Option<usize>
+    ensures inside { IfSome result (λ k. k < length links.now) }
+{
+    links.iter().position(|link| same_value(&link.when, key))
+}

@@ -1,0 +1,65 @@
+//! A boxed host as its pointer, which C keeps.
+
+ghost use Rattle.std.specs.Prelude.{◌≡◌, Bool, true};
+ghost use Rattle.mh_core.specs.Runtimes.{RuntimeState};
+ghost use Rattle.mh_core.specs.RuntimeCodes.{coded_runtime};
+ghost use Rattle.mhlink_c.specs.Held.{held};
+
+use crate::host::Host;
+use mh_parts::Parts;
+use std::alloc::Global;
+use std::marker::Model;
+
+/// A machine as C keeps it: a pointer. Where it is full it owns the machine, and else nothing, as
+/// one that C made. Dropped, it leaves the machine where it is.
+#[repr(C)]
+#[derive(Drop)]
+pub struct MhlinkMachine {
+    at: *mut u8,
+    alloc: Global,
+    pub ghost full: { Bool },
+    pub ghost value: { RuntimeState } by { coded_runtime },
+}
+
+impl Model for MhlinkMachine {
+    ghost also_owns = { λ l. held l.full l.alloc l.at l.value };
+}
+
+impl MhlinkMachine {
+    /// The handle of a host.
+    pub(crate) fn of(boxed: Box<Host>) -> MhlinkMachine
+        ensures full { result.full ≡ true }
+        ensures value { result.value ≡ boxed.value }
+    {
+        MhlinkMachine::of_parts(Parts::of(boxed))
+    }
+
+    /// The host of a handle.
+    pub(crate) fn into_box(self) -> Box<Host>
+        requires full { self.full ≡ true }
+        ensures value { result.value ≡ self.value }
+    {
+        self.into_parts().into_box()
+    }
+
+    fn of_parts(parts: Parts<Host, Global>) -> MhlinkMachine
+        ensures { (result.full ≡ true) × (result.value ≡ parts.value) }
+    {
+        let Parts { ptr, alloc } = parts;
+        MhlinkMachine {
+            at: ptr as *mut u8,
+            alloc,
+        }
+    }
+
+    fn into_parts(self) -> Parts<Host, Global>
+        requires { self.full ≡ true }
+        ensures { result.value ≡ self.value }
+    {
+        let MhlinkMachine { at, alloc } = self;
+        Parts {
+            ptr: at as *mut Host,
+            alloc,
+        }
+    }
+}

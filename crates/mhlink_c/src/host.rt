@@ -1,0 +1,158 @@
+//! What a handle leads to: a runtime, the text of its definition, and the text that the last call
+//! gave.
+
+ghost use Rattle.std.specs.Prelude.{◌≡◌, ◌∷◌, [], ℤ, IfOk, OnErr, OnOk};
+ghost use Rattle.mh_core.specs.Legal.{answer_of_call};
+ghost use Rattle.mh_core.specs.Runtimes.{CountsHit};
+ghost use Rattle.mh_core.specs.Value.TheVariants.{Int};
+ghost use Rattle.mhlink_c.specs.Crossing.{IsReply, Tells, int};
+
+use crate::fault::Fault;
+use crate::finding::{link_number, point_number, site_number};
+use crate::request::{Change, Question};
+use crate::texts::{MhlinkLimits, definition_script};
+use crate::value::{MhlinkReply, MhlinkValue, reply_of, value, values};
+use mh_core::{NoMemory, Outcome, Runtime, Text, Value};
+use mh_text::read_script;
+use std::alloc::Global;
+use std::marker::Model;
+
+/// The most workers of a machine.
+const MOST_WORKERS: u32 = 64;
+
+/// A runtime for C. A contract sees the runtime.
+#[derive(Drop)]
+pub(crate) struct Host {
+    pub(crate) runtime: Runtime,
+    pub(crate) definition: Vec<u8>,
+    given: Option<Text>,
+}
+
+impl Model for Host {
+    ghost use Rattle.mh_core.specs.Runtimes.{RuntimeState};
+    ghost use Rattle.mh_core.specs.RuntimeCodes.{coded_runtime};
+
+    ghost Value = { RuntimeState };
+
+    ghost coded = { coded_runtime };
+
+    ghost view = { λ h. h.runtime };
+}
+
+impl Host {
+    /// The host of a definition in JSON.
+    pub(crate) fn open(
+        alloc: Global,
+        definition: &[u8],
+        workers: u32,
+        limits: &MhlinkLimits,
+    ) -> Result<Host, Fault> {
+        let limits = limits.limits()?;
+        if workers == 0 || workers > MOST_WORKERS {
+            return Err(Fault::BadLimits);
+        }
+        let text = definition_script(alloc, definition)?;
+        let script = read_script(alloc, &text)?;
+        let runtime = Runtime::open(alloc, &script.definition, workers, limits)?;
+        let definition = Vec::from_slice(alloc, definition)?;
+        Ok(Host {
+            runtime,
+            definition,
+            given: None,
+        })
+    }
+
+    /// What a worker's call of a site gives. A text is kept until the next call.
+    pub(crate) fn call(
+        &mut self,
+        alloc: Global,
+        worker: u32,
+        site: usize,
+        given: &[MhlinkValue],
+        texts: &[u8],
+    ) -> Result<MhlinkReply, Fault>
+        ensures answer { (n : ℤ) → given.now ≡ int n ∷ [] → IfOk result (λ reply. IsReply reply
+            (answer_of_call self.old.book.definition self.old.book.records site (Int n ∷ []))) }
+        ensures counted { (n : ℤ) → given.now ≡ int n ∷ [] → OnOk result
+            (CountsHit self.old.book.definition worker site (Int n ∷ [])
+            self.old.ledgers self.new.ledgers) }
+        ensures book { self.new.book ≡ self.old.book }
+        ensures kept { OnErr result (self.new ≡ self.old) }
+    {
+        match given {
+            [] => self.run(worker, site, &[]),
+            [only] => {
+                let argument = [value(alloc, only, texts)?];
+                self.run(worker, site, &argument)
+            }
+            _ => {
+                let arguments = values(alloc, given, texts)?;
+                self.run(worker, site, &arguments)
+            }
+        }
+    }
+
+    // Calls a site, and keeps the text that it gives.
+    #[inline(always)]
+    fn run(&mut self, worker: u32, site: usize, arguments: &[Value]) -> Result<MhlinkReply, Fault>
+        ensures answer { IfOk result (λ reply. IsReply reply
+            (answer_of_call self.old.book.definition self.old.book.records site arguments.now)) }
+        ensures counted { OnOk result (CountsHit self.old.book.definition worker site arguments.now
+            self.old.ledgers self.new.ledgers) }
+        ensures book { self.new.book ≡ self.old.book }
+        ensures kept { OnErr result (self.new ≡ self.old) }
+    {
+        let (outcome, steps) = self.runtime.call(worker, site, arguments)?;
+        let reply = reply_of(&outcome, steps);
+        self.given = text_of(outcome);
+        Ok(reply)
+    }
+
+    /// Another owner of the text that the last call gave.
+    pub(crate) fn text(&self) -> Result<Text, Fault> {
+        match &self.given {
+            Some(text) => text.share().map_err(|_| Fault::from(NoMemory)),
+            None => Err(Fault::Unknown),
+        }
+    }
+
+    /// The answer to a question.
+    pub(crate) fn look(&self, alloc: Global, question: Question<'_>) -> Result<u64, Fault>
+        ensures tells { IfOk result (λ n. Tells self.now question.entry n) }
+    {
+        let definition = self.runtime.book().definition();
+        match question {
+            Question::Site(name) => site_number(definition, name),
+            Question::Point(name) => point_number(definition, name),
+            Question::Link { site, key, text } => {
+                link_number(definition, site, &value(alloc, &key, text)?)
+            }
+            Question::Hits { worker, link } => self.hits(worker, link),
+            Question::Total(link) => self.total(link),
+            Question::Linked(site) => self.linked(site),
+        }
+    }
+
+    /// Makes a change, and gives its answer.
+    pub(crate) fn change(&mut self, alloc: Global, change: Change<'_>) -> Result<u64, Fault>
+        ensures kept { OnErr result (self.new ≡ self.old) }
+    {
+        match change {
+            Change::Flush(worker) => self.flush(worker),
+            Change::Target { site, tree } => self.target(alloc, site, tree),
+            Change::Invalidate(points) => self.invalidate(alloc, points),
+            Change::Snapshot => self.snapshot(),
+            Change::Plan(snapshot) => self.plan(alloc, snapshot),
+            Change::Offer { snapshot, plan } => self.offer(alloc, snapshot, plan),
+            Change::Install(plan) => self.install(plan),
+        }
+    }
+}
+
+// The text of an outcome, if it is one.
+fn text_of(outcome: Outcome) -> Option<Text> {
+    match outcome {
+        Outcome::Value(Value::Text(text)) => Some(text),
+        _ => None,
+    }
+}

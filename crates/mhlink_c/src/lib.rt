@@ -1,0 +1,23 @@
+//! The runtime for C: a static library, whose header is `mhlink.h`.
+//!
+//! C keeps a machine as a struct of one pointer. Nothing checks a C caller: it passes a struct that
+//! `mhlink_open` filled, to one call at a time, and to none after `mhlink_close`. Every answer is a
+//! status, 0 or the number of what is wrong (`Fault::number`); after any other than 0 the machine
+//! is as before.
+#![tactic(auto)]
+
+mod asking;
+mod buffers;
+mod calling;
+mod changing;
+mod fault;
+mod finding;
+mod handle;
+mod held;
+mod host;
+mod opening;
+mod planning;
+mod reading;
+mod request;
+mod texts;
+mod value;

@@ -1,0 +1,66 @@
+//! Machines are opened and closed.
+
+ghost use Rattle.std.specs.Prelude.{◌≡◌, ◌≢◌, true, IfOk};
+
+use crate::fault::Fault;
+use crate::handle::MhlinkMachine;
+use crate::host::Host;
+use crate::texts::MhlinkLimits;
+use std::alloc::Global;
+
+/// The version of these calls: 1.
+#[unsafe(no_mangle)]
+pub extern "C" fn mhlink_version() -> u32
+    ensures value { result ≡ 1 }
+{
+    1
+}
+
+/// Opens a machine of a definition in JSON, as a script's `definition`, with 1 to 64 workers, and
+/// writes its handle to `machine`. Where the status is not 0, `machine` is left alone, and `part`
+/// gets the number of the fault's cause, or 0.
+#[unsafe(no_mangle)]
+pub extern "C" fn mhlink_open(
+    alloc: Global,
+    definition: &[u8],
+    workers: u32,
+    limits: &MhlinkLimits,
+    machine: &mut MhlinkMachine,
+    part: &mut u64,
+) -> u32
+    ensures full { result ≡ 0 → machine.new.full ≡ true }
+    ensures kept { result ≢ 0 → machine.new ≡ machine.old }
+{
+    match open(alloc, definition, workers, limits) {
+        Ok(opened) => {
+            *machine = opened;
+            *part = 0;
+            0
+        }
+        Err(fault) => {
+            *part = fault.part();
+            fault.number()
+        }
+    }
+}
+
+fn open(
+    alloc: Global,
+    definition: &[u8],
+    workers: u32,
+    limits: &MhlinkLimits,
+) -> Result<MhlinkMachine, Fault>
+    ensures full { IfOk result (λ machine. machine.full ≡ true) }
+{
+    let host = Host::open(alloc, definition, workers, limits)?;
+    let boxed = Box::new(alloc, host)?;
+    Ok(MhlinkMachine::of(boxed))
+}
+
+/// Closes a machine: all its memory goes back.
+#[unsafe(no_mangle)]
+pub extern "C" fn mhlink_close(machine: MhlinkMachine)
+    requires full { machine.full ≡ true }
+{
+    drop(machine.into_box());
+}

@@ -1,0 +1,81 @@
+//! The planner over arrays, without a machine.
+
+ghost use Rattle.std.specs.Prelude.{◌≡◌};
+
+use crate::buffers::copy;
+use crate::fault::{Fault, status};
+use mh_core::{LinkRow, Listing, Problem};
+use mh_plan::plan_alone;
+use std::alloc::Global;
+
+/// A link of a problem: what it gains and costs alone, whether it may be chosen, and which of the
+/// needs are its own: `count` of them from `first`.
+#[repr(C)]
+#[derive(Clone, Copy, Debug)]
+pub struct MhlinkLink {
+    /// What it gains.
+    pub gain: u64,
+    /// What it alone costs.
+    pub charge: u64,
+    /// Its first need.
+    pub first: usize,
+    /// The number of its needs.
+    pub count: usize,
+    /// 0 where it may not be chosen.
+    pub eligible: u32,
+}
+
+/// Chooses the links that are worth most, of such the fewest: their gains less their charges and
+/// the costs of the points that they need, which they share. Needs are numbers of points, those of
+/// a link ascending. The numbers of the links are copied to `chosen`, how many they are to `count`,
+/// also where `chosen` is too short, and what they are worth to `value`.
+#[unsafe(no_mangle)]
+pub extern "C" fn mhlink_plan_problem(
+    alloc: Global,
+    costs: &[u64],
+    links: &[MhlinkLink],
+    needs: &[u32],
+    chosen: &mut [u32],
+    count: &mut usize,
+    value: &mut i64,
+) -> u32 {
+    status(choose(alloc, costs, links, needs, chosen, count, value))
+}
+
+fn choose(
+    alloc: Global,
+    costs: &[u64],
+    links: &[MhlinkLink],
+    needs: &[u32],
+    chosen: &mut [u32],
+    count: &mut usize,
+    value: &mut i64,
+) -> Result<(), Fault> {
+    let rows = rows(alloc, links, needs)?;
+    let problem = Problem::new(alloc, &rows, costs)?;
+    let plan = plan_alone(alloc, &problem)?;
+    copy(plan.links.as_slice(), chosen, count)?;
+    *value = plan.value;
+    Ok(())
+}
+
+fn rows(alloc: Global, links: &[MhlinkLink], needs: &[u32]) -> Result<Vec<LinkRow>, Fault> {
+    let mut rows = Vec::new(alloc);
+    for link in links {
+        let its = needs_of(link, needs)?;
+        rows.push(LinkRow {
+            gain: link.gain,
+            eligible: link.eligible != 0,
+            needs: Listing::from_vec(Vec::from_slice(alloc, its)?),
+            charge: link.charge,
+        })?;
+    }
+    Ok(rows)
+}
+
+fn needs_of<'a>(link: &MhlinkLink, needs: &'a [u32]) -> Result<&'a [u32], Fault> {
+    if link.first > needs.len() || link.count > needs.len() - link.first {
+        return Err(Fault::Unknown);
+    }
+    Ok(&needs[link.first..link.first + link.count])
+}

@@ -1,0 +1,46 @@
+//! What C asks of a machine beside calls. An answer is a number.
+
+use crate::value::MhlinkValue;
+
+/// What is read, and changes nothing.
+#[derive(Drop)]
+pub(crate) enum Question<'a> {
+    /// The number of the site of this name.
+    Site(&'a [u8]),
+    /// The number of the point of this name.
+    Point(&'a [u8]),
+    /// The number of the link of a site whose key is this value, with the bytes of a text.
+    Link {
+        site: usize,
+        key: MhlinkValue,
+        text: &'a [u8],
+    },
+    /// The unflushed hits of a link by a worker's calls.
+    Hits {
+        worker: u32,
+        link: usize,
+    },
+    /// The flushed hits of a link.
+    Total(usize),
+    /// The number of links that a site holds.
+    Linked(usize),
+}
+
+/// What changes a machine.
+#[derive(Drop)]
+pub(crate) enum Change<'a> {
+    /// A worker's hits go to the totals; answered with 0.
+    Flush(u32),
+    /// A site gets this tree, in JSON; answered with 0.
+    Target { site: usize, tree: &'a [u8] },
+    /// These points become invalid; answered with 0.
+    Invalidate(&'a [u32]),
+    /// A snapshot is taken; answered with its number.
+    Snapshot,
+    /// The best plan for a snapshot is made and published; answered with the plan's number.
+    Plan(usize),
+    /// This plan, in JSON, is published for a snapshot; answered with the plan's number.
+    Offer { snapshot: usize, plan: &'a [u8] },
+    /// A plan is installed; answered with the number of sites that it links.
+    Install(usize),
+}

@@ -1,0 +1,117 @@
+//! Values as they cross to C.
+
+ghost use Rattle.std.specs.Prelude.{◌≡◌, IfOk};
+ghost use Rattle.mh_core.specs.Value.TheVariants.{Int};
+ghost use Rattle.mhlink_c.specs.Crossing.{reply_kind, reply_number};
+
+use crate::fault::Fault;
+use mh_core::{LONGEST_TEXT, Outcome, Refusal, Text, Throw, TypeFault, Value};
+use std::alloc::Global;
+
+/// A value. Its kind is 1 for an int, 2 for a long, 3 for a boolean, whose number is 0 or 1, and 4
+/// for a String, whose number is the count of its bytes, which stand among the texts of the call.
+#[repr(C)]
+#[derive(Clone, Copy, Debug)]
+pub struct MhlinkValue {
+    /// What it is.
+    pub kind: u32,
+    /// The number.
+    pub number: i64,
+}
+
+/// What a call gave. Its kind is that of the value, and 5 where it was thrown: the number is then 1
+/// for an ArithmeticException, and 2 for a text that grew too long.
+#[repr(C)]
+#[derive(Clone, Copy, Debug)]
+pub struct MhlinkReply {
+    /// What it is.
+    pub kind: u32,
+    /// The number, or the count of a text's bytes, which `mhlink_text` copies.
+    pub number: i64,
+    /// How many nodes were entered, or 2^64 - 1 where they are more.
+    pub steps: u64,
+}
+
+/// The arguments that C passes: the texts stand one behind another.
+pub(crate) fn values(
+    alloc: Global,
+    given: &[MhlinkValue],
+    texts: &[u8],
+) -> Result<Vec<Value>, Fault> {
+    let mut values = Vec::new(alloc);
+    let mut rest = texts;
+    for one in given {
+        let value = value(alloc, one, rest)?;
+        let used = text_length(&value).min(rest.len());
+        rest = &rest[used..];
+        values.push(value)?;
+    }
+    Ok(values)
+}
+
+// How many bytes of the texts a value has.
+fn text_length(value: &Value) -> usize {
+    match value {
+        Value::Text(text) => text.as_str().len(),
+        _ => 0,
+    }
+}
+
+/// A value, whose text begins the texts.
+#[inline(always)]
+pub(crate) fn value(alloc: Global, given: &MhlinkValue, texts: &[u8]) -> Result<Value, Fault>
+    ensures int { given.now.kind ≡ 1 → IfOk result (λ v. v ≡ Int given.now.number) }
+{
+    let number = given.number;
+    match given.kind {
+        1 => match i32::try_from(number) {
+            Ok(number) => Ok(Value::Int(number)),
+            Err(_) => Err(Fault::BadValue),
+        },
+        2 => Ok(Value::Long(number)),
+        3 if number == 0 => Ok(Value::Boolean(false)),
+        3 if number == 1 => Ok(Value::Boolean(true)),
+        4 => text(alloc, number, texts),
+        _ => Err(Fault::BadValue),
+    }
+}
+
+// The text of so many bytes at the beginning of the texts.
+fn text(alloc: Global, length: i64, texts: &[u8]) -> Result<Value, Fault> {
+    if length < 0 || length > LONGEST_TEXT as i64 {
+        return Err(Fault::BadValue);
+    }
+    let length = length as usize;
+    if length > texts.len() {
+        return Err(Fault::BadValue);
+    }
+    let Ok(text) = str::from_utf8(&texts[..length]) else {
+        return Err(Fault::BadValue);
+    };
+    match Text::new(alloc, text) {
+        Ok(text) => Ok(Value::Text(text)),
+        Err(TypeFault::NoMemory) => Err(Fault::Refused(Refusal::NoMemory)),
+        Err(_) => Err(Fault::BadValue),
+    }
+}
+
+/// What C gets of an outcome.
+pub(crate) fn reply_of(outcome: &Outcome, steps: u128) -> MhlinkReply
+    ensures kind { result.kind ≡ reply_kind outcome.now }
+    ensures number { result.number ≡ reply_number outcome.now }
+{
+    let (kind, number) = match outcome {
+        Outcome::Value(Value::Int(number)) => (1, i64::from(*number)),
+        Outcome::Value(Value::Long(number)) => (2, *number),
+        Outcome::Value(Value::Boolean(truth)) => (3, i64::from(*truth)),
+        Outcome::Value(Value::Text(text)) => (4, text.as_str().len() as i64),
+        Outcome::Thrown(Throw::ArithmeticException) => (5, 1),
+        Outcome::Thrown(Throw::TextTooLong) => (5, 2),
+    };
+    let steps = steps.min(u128::from(u64::MAX)) as u64;
+    MhlinkReply {
+        kind,
+        number,
+        steps,
+    }
+}

@@ -1,0 +1,123 @@
+/* mhlink.h: a runtime for dynamic calls after java.lang.invoke, proved, for C and for every VM.
+
+   Nothing checks a C caller. It passes a struct that mhlink_open filled, to one call at a time, and to none after
+   mhlink_close or from a signal handler; pointers that lead to as much as the lengths beside them say, and to nothing that
+   another argument leads to; no null pointer, but for a buffer or an array whose length is 0.
+
+   Every answer but a version is a status: MHLINK_OK, or what is wrong. After any other status than MHLINK_OK the machine is
+   as before, and no number is written but a length, a count or a part. Sites, points, links, snapshots and plans have
+   numbers: the first three from 0 in the order of the definition, links through all sites; the last two from 1. */
+#ifndef MHLINK_H
+#define MHLINK_H
+
+#include <stddef.h>
+#include <stdint.h>
+
+#ifdef __cplusplus
+extern "C" {
+#endif
+
+#define MHLINK_VERSION 1u
+
+enum mhlink_status {
+    MHLINK_OK = 0,
+    /* 1 to 14: the refusals of events, by their numbers in docs/FAULTS.md */
+    MHLINK_NO_MEMORY = 1, MHLINK_HISTORY_FULL = 2, MHLINK_NO_SITE = 3, MHLINK_NO_POINT = 4, MHLINK_WRONG_TYPE = 5,
+    MHLINK_NO_SNAPSHOT = 6, MHLINK_NO_PLAN = 7, MHLINK_PLAN_REFUSED = 8, MHLINK_OLD_PLAN = 9, MHLINK_TOTAL_TOO_LARGE = 10,
+    MHLINK_LEDGER_FULL = 11, MHLINK_GAIN_TOO_LARGE = 12, MHLINK_NO_WORKER = 13, MHLINK_WRONG_LEVEL = 14,
+    /* and the number of an input's fault, in the same document: 102 to 113 */
+    MHLINK_INPUT = 100, MHLINK_TOO_LONG = 102, MHLINK_NOT_JSON = 103, MHLINK_BAD_SHAPE = 104,
+    /* and the number of a problem's fault: 201 and up */
+    MHLINK_PROBLEM = 200,
+    /* of these calls alone */
+    MHLINK_UNKNOWN = 301,    /* a name, a key or a number of nothing that is there */
+    MHLINK_SHORT = 302,      /* the buffer is shorter than the length that is told */
+    MHLINK_BAD_VALUE = 303,  /* a value of no kind, out of its kind's range, or whose text is not passed */
+    MHLINK_BAD_LIMITS = 304  /* a limit, or the number of workers, is out of its range */
+};
+
+enum mhlink_kind { MHLINK_INT = 1, MHLINK_LONG = 2, MHLINK_BOOLEAN = 3, MHLINK_STRING = 4, MHLINK_THROWN = 5 };
+
+/* A machine, which mhlink_open makes and mhlink_close ends. */
+typedef struct mhlink_machine {
+    void *at;
+} mhlink_machine;
+
+/* The most records (flushes and changes; calls are none), unflushed hits of a link by a worker, and hits in a total. */
+typedef struct mhlink_limits {
+    uint64_t history; /* to 2^20 */
+    uint64_t ledger;  /* from 1 to 2^20 */
+    uint64_t total;   /* to 2^40 */
+} mhlink_limits;
+
+#define MHLINK_WIDEST_LIMITS {1u << 20, 1u << 20, (uint64_t)1 << 40}
+
+/* A value: an int, a long, a boolean (0 or 1), or a String, whose number counts the bytes that it has among the texts. */
+typedef struct mhlink_value {
+    uint32_t kind;
+    int64_t number;
+} mhlink_value;
+
+/* What a call gave: a value; or a throw, 1 an ArithmeticException and 2 a text that grew past 65,536 bytes. */
+typedef struct mhlink_reply {
+    uint32_t kind;
+    int64_t number;
+    uint64_t steps; /* the nodes of trees that were entered */
+} mhlink_reply;
+
+/* A link of a problem: its gain, its own charge, `count` needs from the `first` of all needs, and 0 where it may not be chosen. */
+typedef struct mhlink_problem_link {
+    uint64_t gain, charge;
+    size_t first, count;
+    uint32_t eligible;
+} mhlink_problem_link;
+
+uint32_t mhlink_version(void);
+
+/* A machine of a definition in JSON (docs/FORMATS.md), with 1 to 64 workers. `part` gets the number of the fault's cause. */
+uint32_t mhlink_open(const uint8_t *definition, size_t length, uint32_t workers, const mhlink_limits *limits,
+                     mhlink_machine *machine, uint64_t *part);
+void mhlink_close(mhlink_machine machine);
+
+/* Numbers by name, and of a site's link by its key, which are looked up once. */
+uint32_t mhlink_site(mhlink_machine *machine, const uint8_t *name, size_t length, uint64_t *site);
+uint32_t mhlink_point(mhlink_machine *machine, const uint8_t *name, size_t length, uint64_t *point);
+uint32_t mhlink_link(mhlink_machine *machine, size_t site, const mhlink_value *key, const uint8_t *text, size_t length,
+                     uint64_t *link);
+
+/* A worker's call of a site. There is no bound on calls. `texts` has the bytes of the values that are Strings, in order. */
+uint32_t mhlink_call(mhlink_machine *machine, uint32_t worker, size_t site, const mhlink_value *values, size_t count,
+                     const uint8_t *texts, size_t length, mhlink_reply *reply);
+/* The text that the last call gave. */
+uint32_t mhlink_text(mhlink_machine *machine, uint8_t *buffer, size_t capacity, size_t *length);
+
+/* Hits of a worker go to the totals; a site gets another tree, in JSON; points become invalid for good. */
+uint32_t mhlink_flush(mhlink_machine *machine, uint32_t worker);
+uint32_t mhlink_target(mhlink_machine *machine, size_t site, const uint8_t *tree, size_t length);
+uint32_t mhlink_invalidate(mhlink_machine *machine, const uint32_t *points, size_t count);
+
+/* A snapshot of the totals; the best plan for one, made and published; a plan of the caller's, in JSON, published if the
+   checker accepts it; the newest plan is installed, which links so many sites. */
+uint32_t mhlink_snapshot(mhlink_machine *machine, uint64_t *snapshot);
+uint32_t mhlink_plan(mhlink_machine *machine, size_t snapshot, uint64_t *plan);
+uint32_t mhlink_offer(mhlink_machine *machine, size_t snapshot, const uint8_t *json, size_t length, uint64_t *plan);
+uint32_t mhlink_install(mhlink_machine *machine, size_t plan, uint64_t *linked);
+/* The best plan for a snapshot with the flow that shows it to be best, as JSON. */
+uint32_t mhlink_certificate(mhlink_machine *machine, size_t snapshot, uint8_t *buffer, size_t capacity, size_t *length);
+
+/* Unflushed hits of a link by a worker, its hits in the totals, and how many links a site holds. */
+uint32_t mhlink_hits(mhlink_machine *machine, uint32_t worker, size_t link, uint64_t *hits);
+uint32_t mhlink_total(mhlink_machine *machine, size_t link, uint64_t *total);
+uint32_t mhlink_linked(mhlink_machine *machine, size_t site, uint64_t *links);
+
+/* The planner alone: which links are worth most, of such the fewest, and what they are worth. Needs are numbers of points,
+   of each link ascending, at most 8. */
+uint32_t mhlink_plan_problem(const uint64_t *costs, size_t points, const mhlink_problem_link *links, size_t count,
+                             const uint32_t *needs, size_t all_needs, uint32_t *chosen, size_t capacity, size_t *length,
+                             int64_t *value);
+
+#ifdef __cplusplus
+}
+#endif
+
+#endif
