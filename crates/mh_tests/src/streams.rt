@@ -52,10 +52,29 @@ impl Write for SmallWriter<'_> {
     }
 }
 
+/// The script of examples/installed-caches.json: calls of two workers, plans, and installations.
 const SCRIPT: &str =
-    r#"{"definition":{"version":1,"points":[],"sites":[{"name":"f","type":"(int)int","target":["op","ineg"]}]},"workers":1,"events":[["call",0,"f",[7]],["invalidate",[]],["call",0,"g",[7]]]}"#;
+    r#"{"definition":{"version":1,"points":[{"name":"a","cost":5},{"name":"b","cost":7}],"sites":[{"name":"f","type":"(int)int","key":0,"target":["point","a",["guard",["insert",["op","ieq"],1,[1]],["drop",["const","int",100],0,["int"]],["insert",["op","iadd"],1,[1]]],["op","ineg"]],"links":[{"when":1,"weight":3,"needs":["a"]},{"when":2,"weight":1,"needs":["a","b"]}]}]},"workers":2,"events":[["install",1],["call",0,"f",[1]],["call",0,"f",[1]],["flush",0],["snapshot"],["plan",1],["install",1],["call",0,"f",[1]],["call",1,"f",[2]],["invalidate",["a"]],["call",0,"f",[1]],["install",1],["call",0,"f",[1]],["snapshot"],["plan",2],["install",1],["install",2]]}"#;
 
-const LINES: &str = "int -7\nok\nrefused 3 NoSite\n";
+/// Its lines.
+const LINES: &str = "refused 7 NoPlan
+int 100
+int 100
+ok
+snapshot 1
+plan 1 snapshot 1 links 0 points a value 1 flow 5
+install 1 linked 1 skipped 0
+int 100
+int 3
+ok
+int -1
+install 1 linked 0 skipped 0 invalid 0
+int -1
+snapshot 2
+plan 2 snapshot 2 links - points - value 0 flow 0
+refused 9 OldPlan 2
+install 2 linked 0 skipped 0
+";
 
 /// What a run answers whose reader fails after so many reads, what it wrote, and how many failures
 /// of reading there were.
@@ -105,13 +124,54 @@ fn a_failed_read_is_told_and_writes_nothing(rt: HostRuntime) -> Result<(), Fail>
     Ok(())
 }
 
-/// The number of the event in whose line a byte stands.
-fn event_of(place: usize) -> u64 {
-    match place {
-        0..=6 => 1,
-        7..=9 => 2,
-        _ => 3,
+/// The status of a request whose reader fails after so many reads, and what it wrote on both
+/// streams.
+fn command_from<T: Threads + Wait + Sync>(
+    rt: &T,
+    alloc: Global,
+    reads_left: usize,
+) -> (u8, Vec<u8>, Vec<u8>) {
+    let mut reader = Watched::new(FailingReader {
+        rest: SCRIPT.as_bytes(),
+        reads_left,
+    });
+    let mut out = Watched::new(Vec::new(alloc));
+    let mut err = Watched::new(Vec::new(alloc));
+    let words = ["mhlink", "run"];
+    let status = command(rt, alloc, &words, &mut reader, &mut out, &mut err);
+    (status, out.inner, err.inner)
+}
+
+/// The first number of reads after which the command tells a failed one otherwise, or writes.
+fn first_other_command_of_a_failed_read<T: Threads + Wait + Sync>(
+    rt: &T,
+    alloc: Global,
+) -> Option<usize> {
+    for reads_left in 0..SCRIPT.len() / 7 {
+        let (status, written, told) = command_from(rt, alloc, reads_left);
+        let is_told = told.as_slice() == "fault 10 ReadFailed at 0\n".as_bytes();
+        if status != 3 || !written.is_empty() || !is_told {
+            return Some(reads_left);
+        }
     }
+    None
+}
+
+#[test]
+fn a_failed_read_ends_the_command(rt: HostRuntime) -> Result<(), Fail> {
+    assert_eq!(rt; first_other_command_of_a_failed_read(&rt, rt.alloc()), None);
+    Ok(())
+}
+
+/// The number of the event in whose line the byte at a place stands.
+fn event_of(place: usize) -> u64 {
+    let mut event = 1u64;
+    for byte in LINES.as_bytes().iter().take(place) {
+        if *byte == b'\n' {
+            event = event.saturating_add(1);
+        }
+    }
+    event
 }
 
 /// What a run answers whose writer has this room, and how much of its lines it wrote.
@@ -162,6 +222,64 @@ fn a_failed_write_is_told_at_its_event(rt: HostRuntime) -> Result<(), Fail> {
     let failing = first_other_failed_write(&rt, rt.alloc(), false)?;
     assert_eq!(rt; failing, None);
     let taking_none = first_other_failed_write(&rt, rt.alloc(), true)?;
+    assert_eq!(rt; taking_none, None);
+    Ok(())
+}
+
+/// The status of a request whose writer has this room, what it wrote, and what it told.
+fn command_into<T: Threads + Wait + Sync>(
+    rt: &T,
+    alloc: Global,
+    room: usize,
+    takes_none: bool,
+) -> (u8, Vec<u8>, Vec<u8>) {
+    let mut held = Vec::new(alloc);
+    let mut reader = Watched::new(SCRIPT.as_bytes());
+    let mut out = Watched::new(SmallWriter {
+        held: &mut held,
+        room,
+        takes_none,
+    });
+    let mut err = Watched::new(Vec::new(alloc));
+    let words = ["mhlink", "run"];
+    let status = command(rt, alloc, &words, &mut reader, &mut out, &mut err);
+    drop(out);
+    (status, held, err.inner)
+}
+
+/// Whether the command ends with a failed write in the line of this event, with so many bytes of its
+/// lines written.
+fn ends_at_a_failed_write(
+    alloc: Global,
+    ended: (u8, Vec<u8>, Vec<u8>),
+    room: usize,
+) -> Result<bool, Fail> {
+    let (status, held, told) = ended;
+    let line = format!(in alloc; "fault 11 WriteFailed at {}\n", event_of(room))?;
+    let is_told = status == 3 && told.as_slice() == line.as_bytes();
+    Ok(is_told && held.len() == room && LINES.as_bytes().starts_with(held.as_slice()))
+}
+
+/// The first room at whose end the command ends otherwise.
+fn first_other_command_of_a_failed_write<T: Threads + Wait + Sync>(
+    rt: &T,
+    alloc: Global,
+    takes_none: bool,
+) -> Result<Option<usize>, Fail> {
+    for room in 0..LINES.len() {
+        let ended = command_into(rt, alloc, room, takes_none);
+        if !ends_at_a_failed_write(alloc, ended, room)? {
+            return Ok(Some(room));
+        }
+    }
+    Ok(None)
+}
+
+#[test]
+fn a_failed_write_ends_the_command(rt: HostRuntime) -> Result<(), Fail> {
+    let failing = first_other_command_of_a_failed_write(&rt, rt.alloc(), false)?;
+    assert_eq!(rt; failing, None);
+    let taking_none = first_other_command_of_a_failed_write(&rt, rt.alloc(), true)?;
     assert_eq!(rt; taking_none, None);
     Ok(())
 }
