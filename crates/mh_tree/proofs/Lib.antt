@@ -1,5 +1,6 @@
 mod FilterKinds
 mod LeadingOperands
+mod PlacesBehind
 mod PreparedParts
 mod Sound
 mod WorkedTrees

@@ -1,6 +1,6 @@
 //! Code that was made lately.
 
-ghost use Rattle.std.specs.Prelude.{◌≡◌, IsTrue, IfOk, IfSome};
+ghost use Rattle.std.specs.Prelude.{◌≡◌, IsTrue, IfSome};
 ghost use Rattle.std.specs.Arc.{arc_value};
 ghost use Rattle.mh_tree.specs.CodeOf.{code_of};
 ghost use Rattle.mh_tree.specs.Cached.{asked_code};
@@ -60,11 +60,11 @@ impl CachedCode {
             && same_tree(&self.node, node)
     }
 
-    // Another owner of the code.
-    fn code(&self) -> Result<Arc<Piece>, NoMemory>
-        ensures value { IfOk result (λ c. code_of (arc_value c) ≡ asked_code self.now) }
+    // Another owner of the code, unless it has as many as can be counted.
+    fn code(&self) -> Option<Arc<Piece>>
+        ensures value { IfSome result (λ c. code_of (arc_value c) ≡ asked_code self.now) }
     {
-        Arc::try_clone(&self.code).map_err(|_| NoMemory)
+        Arc::try_clone(&self.code).ok()
     }
 }
 
@@ -100,26 +100,27 @@ impl CodeCache {
         self.alloc
     }
 
-    // The code of a node's tree in this place of a call, where it is kept.
+    // The code of a node's tree in this place of a call, where it is kept and can be shared.
     pub(crate) fn find(
         &self,
         node: &Node,
         operands: &[Operand],
         depth: u32,
         before: u32,
-    ) -> Result<Option<Arc<Piece>>, NoMemory>
-        ensures value { IfOk result (λ o. IfSome o (λ c. code_of (arc_value c)
-            ≡ prepared (tree_of node.now) operands.now depth before)) }
+    ) -> Option<Arc<Piece>>
+        ensures value { IfSome result (λ c. code_of (arc_value c)
+            ≡ prepared (tree_of node.now) operands.now depth before) }
     {
         for kept in &self.kept {
             if kept.answers(node, operands, depth, before) {
-                return Ok(Some(kept.code()?));
+                return kept.code();
             }
         }
-        Ok(None)
+        None
     }
 
-    // Keeps code, in the room of the oldest where there is no more.
+    // Keeps code, in the room of the oldest where there is no more. Where there is no memory to keep
+    // it, it is not kept.
     pub(crate) fn keep(
         &mut self,
         node: &Arc<Node>,
@@ -127,19 +128,16 @@ impl CodeCache {
         depth: u32,
         before: u32,
         code: &Arc<Piece>,
-    ) -> Result<(), NoMemory>
+    )
         requires code { code_of (arc_value code.now) ≡ prepared
             (tree_of (arc_value node.now)) operands.now depth before }
     {
-        let kept = CachedCode {
-            node: Arc::try_clone(node).map_err(|_| NoMemory)?,
-            operands: copied(self.alloc, operands)?,
-            depth,
-            before,
-            code: Arc::try_clone(code).map_err(|_| NoMemory)?,
+        let Ok(kept) = cached(self.alloc, node, operands, depth, before, code) else {
+            return;
         };
         if self.kept.len() < MOST_KEPT {
-            return self.kept.push(kept).map_err(|_| NoMemory);
+            let _kept = self.kept.push(kept);
+            return;
         }
         if let Some(oldest) = self.kept.get_mut(self.next) {
             *oldest = kept;
@@ -149,6 +147,26 @@ impl CodeCache {
         } else {
             0
         };
-        Ok(())
     }
+}
+
+// Code with what it was made of.
+fn cached(
+    alloc: Global,
+    node: &Arc<Node>,
+    operands: &[Operand],
+    depth: u32,
+    before: u32,
+    code: &Arc<Piece>,
+) -> Result<CachedCode, NoMemory>
+    requires code { code_of (arc_value code.now) ≡ prepared
+        (tree_of (arc_value node.now)) operands.now depth before }
+{
+    Ok(CachedCode {
+        node: Arc::try_clone(node).map_err(|_| NoMemory)?,
+        operands: copied(alloc, operands)?,
+        depth,
+        before,
+        code: Arc::try_clone(code).map_err(|_| NoMemory)?,
+    })
 }

@@ -1,14 +1,15 @@
 //! Making the code of trees.
 
-ghost use Rattle.std.specs.Prelude.{◌≡◌, ◌+◌, ◌≤◌, ◌<◌, ◌∷◌, [], take, length, IfOk};
+ghost use Rattle.std.specs.Prelude.{◌≡◌, ◌+◌, ◌≤◌, ◌<◌, ◌∷◌, ℕ, List, [], take, length, IfOk};
 ghost use Rattle.std.specs.Arc.{arc_value};
 ghost use Rattle.mh_type.specs.Operations.{op_signature};
 ghost use Rattle.mh_tree.specs.Limits.{size, total_size, most_nodes};
-ghost use Rattle.mh_tree.specs.Tree.{filters_of};
+ghost use Rattle.mh_tree.specs.Tree.{Filters, filters_of};
 ghost use Rattle.mh_tree.specs.TreeOf.{tree_of, filter_trees};
 ghost use Rattle.mh_tree.specs.CodeOf.{code_of};
-ghost use Rattle.mh_tree.specs.Code.{leaf as leaf_code, apply as apply_code, bind as bind_code, branch as branch_code, switch as switch_code, call as call_code};
+ghost use Rattle.mh_tree.specs.Code.{Code, leaf as leaf_code, apply as apply_code, bind as bind_code, branch as branch_code, switch as switch_code, call as call_code};
 ghost use Rattle.mh_tree.specs.Prepared.{operand_at, prepared, prepared_filters};
+ghost use Rattle.mh_tree.specs.declared.operand.Operand.{Operand as OperandData};
 ghost use Rattle.mh_tree.specs.declared.operand.Operand.TheVariants.{Constant, Local};
 
 use crate::code_cache::CodeCache;
@@ -56,11 +57,11 @@ pub(crate) fn prepare_shared(
     ensures value { IfOk result (λ c. code_of (arc_value c) ≡ prepared
         (tree_of (arc_value node.now)) operands.now depth before) }
 {
-    if let Some(code) = cache.find(node, operands, depth, before)? {
+    if let Some(code) = cache.find(node, operands, depth, before) {
         return Ok(code);
     }
     let code = prepare_node(cache, node, operands, depth, before)?;
-    cache.keep(node, operands, depth, before, &code)?;
+    cache.keep(node, operands, depth, before, &code);
     Ok(code)
 }
 
@@ -217,10 +218,7 @@ fn prepare_filters(
     let Some((filter, rest)) = filters.split_first() else {
         return prepare(cache, target, operands, depth, steps);
     };
-    // No place is the last number: a typed tree names at most 16.
-    let Some(next) = position.checked_add(1) else {
-        return Err(NoMemory);
-    };
+    let next = after(operands, position);
     let Some(node) = filter else {
         return prepare_filters(cache, target, next, rest, operands, depth, steps);
     };
@@ -229,6 +227,18 @@ fn prepare_filters(
     let first = prepare(cache, node, &argument, depth, 0)?;
     let then = prepare_filters(cache, target, next, rest, &passed, depth + 1, 0)?;
     bind(cache.alloc(), first, then, steps)
+}
+
+// The next place. Behind the last operand one place is as another: none has an operand there.
+fn after(operands: &[Operand], place: usize) -> usize
+    ensures value { (fs : Filters) → (d : ℕ) → (s : ℕ) → (go : List OperandData → ℕ → ℕ → Code)
+        → (env : List OperandData) → length env ≡ length operands.now
+        → prepared_filters fs result env d s go ≡ prepared_filters fs (place + 1) env d s go }
+{
+    if place < operands.len() {
+        return place + 1;
+    }
+    place
 }
 
 // The filter, on the target's result.
