@@ -2,4 +2,5 @@ mod Linking
 mod Passing
 mod Serving
 mod StrippedFilters
+mod Unnamed
 mod Worked

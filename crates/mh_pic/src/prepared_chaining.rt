@@ -15,7 +15,7 @@ ghost use Rattle.mh_pic.specs.Limits.{most_needs, deepest_chain, most_chain_node
 use crate::entry::Entry;
 use crate::fault::expect_made;
 use crate::key_tests::key_test;
-use crate::specialising::specialise;
+use crate::specialising::specialise_changed;
 use mh_base::NoMemory;
 use mh_tree::{Handle, Prepared};
 use std::alloc::Global;
@@ -74,11 +74,30 @@ fn link(
     let handle = base.handle();
     let before = &handle.method_type().parameters()[..key_place];
     let test = prepare(&key_test(alloc, before, entry.key())?)?;
-    let target = specialise(alloc, handle, entry.needs(), key_place, entry.key())?;
-    let target = prepare(&target)?;
+    let target = specialised_base(alloc, base, key_place, entry)?;
     let target = points(alloc, entry.needs(), &target, base)?;
     let cache = expect_made(Prepared::guard(alloc, &test, &target, others))?;
     Ok(cache)
+}
+
+// The base specialised for an entry, with its code, which is the base's where that is the same tree.
+fn specialised_base(
+    alloc: Global,
+    base: &Prepared,
+    key_place: usize,
+    entry: &Entry,
+) -> Result<Prepared, NoMemory>
+    requires inside { key_place < length base.now.signature.parameters }
+    ensures value { IfOk result (λ p. p ≡ record {
+      tree = specialised entry.now.needs
+          (take key_place base.now.signature.parameters) entry.now.key base.now.tree;
+      signature = base.now.signature;
+    }) }
+{
+    match specialise_changed(alloc, base.handle(), entry.needs(), key_place, entry.key())? {
+        Some(made) => prepare(&made),
+        None => base.share().map_err(|_| NoMemory),
+    }
 }
 
 // A handle with its code.

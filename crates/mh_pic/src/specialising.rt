@@ -1,12 +1,15 @@
 //! Trees specialised for needs and a key.
 
-ghost use Rattle.std.specs.Prelude.{◌≡◌, ◌<◌, length, take, IfOk, IfErr};
+ghost use Rattle.std.specs.Prelude.{◌≡◌, ◌<◌, List, length, nat_lt, take, unwrap_or, IfOk, IfErr};
+ghost use Rattle.std.specs.List.{list_any};
 ghost use Rattle.std.specs.Arc.{arc_value};
 ghost use Rattle.mh_tree.specs.Handle.{IsSound};
 ghost use Rattle.mh_tree.specs.Tree.{guard as guard_tree};
 ghost use Rattle.mh_tree.specs.TreeOf.{tree_of};
 ghost use Rattle.mh_pic.specs.Specialised.{specialised, Serves};
 ghost use Rattle.mh_pic.specs.Outcomes.{made_or};
+ghost use Rattle.mh_type.specs.declared.kind.Kind.{Kind as KindData};
+ghost use Rattle.mh_type.specs.declared.value.Value.{Value as ValueData};
 
 use crate::keys::{decide_by_key, key_in};
 use crate::rebuilding::{guard, owner, point};
@@ -21,7 +24,8 @@ use std::sync::Arc;
 /// argument at the key place is. It has the handle's type and names no need. Where all needs are
 /// valid and the argument at the key place is the key, it gives what the handle gives, in at most
 /// as many steps. Parts that stay are shared. It takes time linear in the size, times the number of
-/// needs at each point.
+/// needs at each point; where no need is below `Handle::point_bound`, in that of the guards and
+/// points through which a key is looked for.
 pub fn specialise(
     alloc: Global,
     handle: &Handle,
@@ -39,27 +43,68 @@ pub fn specialise(
     ensures serves { IfOk result (λ h. Serves needs.now key_place key.now h.tree handle.now.tree
         handle.now.signature) }
 {
-    let before = &handle.method_type().parameters()[..key_place];
-    let made = specialise_node(alloc, handle.root(), needs, before, key);
-    let made = made.map_err(|_| NoMemory)?;
-    let made = rebuild(alloc, handle, made)?;
-    Ok(made)
+    match specialise_changed(alloc, handle, needs, key_place, key)? {
+        Some(made) => Ok(made),
+        None => handle.share().map_err(|_| NoMemory),
+    }
 }
 
-// The tree that was made, as a handle of the old one's type; the old one where none was made.
-fn rebuild(alloc: Global, old: &Handle, made: Option<Arc<Node>>) -> Result<Handle, NoMemory>
-    requires sound { IsSound (made_or made old.now.tree) old.now.signature }
+// The same; none where it is the handle itself.
+pub(crate) fn specialise_changed(
+    alloc: Global,
+    handle: &Handle,
+    needs: &[u32],
+    key_place: usize,
+    key: &Value,
+) -> Result<Option<Handle>, NoMemory>
+    requires inside { key_place < length handle.now.signature.parameters }
+    ensures value { IfOk result (λ o. unwrap_or o handle.now ≡ record {
+      tree = specialised needs.now
+          (take key_place handle.now.signature.parameters) key.now handle.now.tree;
+      signature
+          = handle.now.signature;
+    }) }
+    ensures serves { IfOk result (λ o. Serves needs.now key_place key.now
+        (unwrap_or o handle.now).tree handle.now.tree handle.now.signature) }
+{
+    let before = &handle.method_type().parameters()[..key_place];
+    let named = named(handle, needs);
+    let made = specialise_node(alloc, handle.root(), named, before, key);
+    match made.map_err(|_| NoMemory)? {
+        Some(root) => Ok(Some(rebuild(alloc, handle, root)?)),
+        None => Ok(None),
+    }
+}
+
+// The needs, or none where the handle names no point that is as small as they.
+fn named<'a>(handle: &Handle, needs: &'a [u32]) -> &'a [u32]
+    ensures value { (kinds : List KindData) → (key : ValueData)
+        → specialised result.now kinds key handle.now.tree
+        ≡ specialised needs.now kinds key handle.now.tree }
+{
+    if has_below(needs, handle.point_bound()) {
+        return needs;
+    }
+    &[]
+}
+
+// Whether a point is below a bound.
+fn has_below(points: &[u32], bound: usize) -> bool
+    ensures value { result ≡ list_any (λ p. nat_lt p bound) points.now }
+{
+    points.iter().any(|point| (*point as usize) < bound)
+}
+
+// The tree that was made, as a handle of the old one's type.
+fn rebuild(alloc: Global, old: &Handle, root: Arc<Node>) -> Result<Handle, NoMemory>
+    requires sound { IsSound (tree_of (arc_value root)) old.now.signature }
     ensures value { IfOk result (λ h. h ≡ record {
-      tree = made_or made old.now.tree;
+      tree = tree_of (arc_value root);
       signature
           = old.now.signature;
     }) }
 {
-    let handle = match made {
-        Some(root) => Handle::from_root(alloc, root, old.method_type()),
-        None => old.share(),
-    };
-    handle.map_err(|_| NoMemory)
+    Handle::from_root(alloc, root, old.method_type()).map_err(|_| NoMemory)
 }
 
 // The tree for needs that are valid and a key that the argument behind these kinds is; none where

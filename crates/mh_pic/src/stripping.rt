@@ -16,13 +16,17 @@ use std::sync::Arc;
 
 /// The tree without the needed points, each of which gives way to its target; none where it is the
 /// same, so that a caller keeps the old part. What is made shares the parts that stay. It takes
-/// time linear in the size, times the number of needs at each point. Refused with `NoMemory` alone.
+/// time linear in the size, times the number of needs at each point, and no time without needs.
+/// Refused with `NoMemory` alone.
 #[cycle(strips)]
 pub fn strip(alloc: Global, node: &Node, needs: &[u32]) -> Result<Option<Arc<Node>>, TreeFault>
     ensures value { IfOk result (λ o. made_or o (tree_of node.now) ≡ stripped needs.now
         (tree_of node.now)) }
     ensures refused { IfErr result (λ e. e ≡ TreeFault.NoMemory) }
 {
+    if needs.is_empty() {
+        return Ok(None);
+    }
     match node {
         Node::Constant(_) | Node::Identity(_) | Node::Operation(_) | Node::Invoke { .. } => Ok(
             None,

@@ -1,4 +1,5 @@
-use Rattle.std.proofs.Common.{◌≡◌, ◌++◌, [], ◌∷◌, refl, ap, sym, subst, ◌∙◌, arith, IfOk, List, Option, Some}
+use Rattle.std.proofs.Common.{length, ◌≡◌, ◌++◌, [], ◌∷◌, refl, ap, sym, subst, ◌∙◌, arith, IfOk, List, Option, Some}
+use Rattle.std.proofs.lemmas.Bool.Decides.{nat_tests}
 use Rattle.mh_pic.proofs.stripping.+strips.Goals.{strip_filters-in-None, strip_filters-in-Some+in_ok-made-in-Some+in_ok-owner-in-Some}
 use Rattle.std.specs.declared.alloc.Global.{Global}
 use Rattle.std.specs.declared.sync.Arc.{Arc}
@@ -10,6 +11,7 @@ use Rattle.mh_tree.specs.declared.node.Node.{Node}
 use Rattle.mh_pic.specs.Outcomes.{made_or}
 use Rattle.mh_pic.specs.Specialised.{stripped, stripped_filters}
 use Rattle.mh_pic.proofs.StrippedFilters.{member_size, pushed_at}
+use Rattle.mh_pic.proofs.Unnamed.{stripped_empty}
 use Rattle.mh_pic.proofs.stripping.+strips.Goals as goal
 
 pub strip-strip_filter-requires : goal.strip-strip_filter-requires
@@ -48,3 +50,8 @@ strip_filters-loop-filter-preserved t c =
           rw (w.filter-is, w.in-Some.is) (λ i. filters_of (Some (first i) ∷ []))
     ] in
     rw items (pushed_at c.args.needs.now c.loop-filter.stripped.items c.args.filters.now c.loop-filter.filter-index c.match-filter.filter c.filter-item.result c.loop-filter-test.true c.filter-item.is c.loop-filter.invariant step)
+
+pub strip-returns-then-is_empty-clause-value : goal.strip-returns-then-is_empty-clause-value
+strip-returns-then-is_empty-clause-value t c =
+    let nothing : length c.args.needs.now ≡ 0 = grind (arith, nat_tests, c.is_empty.ensures, c.if-is_empty.true) in
+    sym (stripped_empty c.args.needs.now (tree_of c.args.node.now) nothing)
