@@ -16,6 +16,7 @@ pub mod Snapshots
 pub mod Books
 pub mod Pending
 pub mod Standing
+pub mod State
 pub mod Codes
 pub mod BookViews
 pub mod MachineViews

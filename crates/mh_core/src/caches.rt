@@ -169,7 +169,7 @@ impl Book {
     }
 
     // Whether all points that a link needs are valid.
-    fn is_eligible(&self, link: usize) -> bool
+    pub(crate) fn is_eligible(&self, link: usize) -> bool
         requires inside { link < length (links_of self.now.definition) }
         ensures value { result ≡ is_eligible_after self.now.definition self.now.records link }
     {

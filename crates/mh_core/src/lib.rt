@@ -36,6 +36,7 @@ mod refusal;
 mod reply;
 mod runtime;
 mod snapshot;
+mod state;
 mod testing;
 
 pub use arguments::Arguments;
