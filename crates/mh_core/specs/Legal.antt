@@ -46,6 +46,13 @@ extended m e = record { setting = m.setting; history = e ∷ m.history }
 abbrev pub answer_of_call : DefinitionData → List Record → ℕ → List Value → Reply
 answer_of_call d r s a = answers.Called (mean (environment_of_bases d r) (base d r s).tree a) (steps (environment_of_links d r) (linked d r s).tree a)
 
+-- the tests of a call that no history decides: the worker, the site, the arguments
+abbrev pub callee_tests : DefinitionData → ℕ → ℕ → ℕ → List Value → Tests Refusal → Tests Refusal
+callee_tests d workers w s a later =
+    test (w < workers) (only NoWorker)
+    (test (s < length d.sites) (only NoSite)
+    (test (Fits (site_at d s).method_type a) (only WrongType) later))
+
 module _ (x : Setting) where
   -- the worker may count the hit of a call, if it hits a link
   abbrev pub HasRoom : List Event → ℕ → ℕ → List Value → Type 0
@@ -58,11 +65,9 @@ module _ (x : Setting) where
   -- the tests of an event after a history, in order
   abbrev pub tests : List Event → Event → Tests Refusal
   tests h (Call w s a) =
-      test (w < x.workers) (only NoWorker)
-      (test (s < length x.definition.sites) (only NoSite)
-      (test (Fits (site_at x.definition s).method_type a) (only WrongType)
+      callee_tests x.definition x.workers w s a
       (test (length h < x.limits.history) (only HistoryFull)
-      (test (HasRoom h w s a) (only LedgerFull) memory_last))))
+      (test (HasRoom h w s a) (only LedgerFull) memory_last))
   tests h (Flush w) = test (w < x.workers) (only NoWorker) (record_tests h (Flushed w (moved x.definition h w)))
   tests h (Target s tree) = record_tests h (Targeted s tree)
   tests h (Invalidate points) = record_tests h (Invalidated points)

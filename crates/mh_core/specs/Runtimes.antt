@@ -2,19 +2,19 @@
 use Rattle.std.specs.Prelude.{◌≡◌, ◌⊎◌, ℕ, ◌<◌, true, false, List, length, map, slice_set}
 use Rattle.std.specs.List.{range_with_len}
 use Rattle.mh_base.specs.Tests.{Tests, test, only}
-use Rattle.mh_type.specs.Fits.{Fits}
 use Rattle.mh_type.specs.declared.value.Value.{Value}
 use Rattle.mh_eval.specs.Entered.{EntersPlain}
 use Rattle.mh_ledger.specs.Ledgers.{AreHeld, LedgerState, at, ledger_at, opened_ledger, with_hit}
-use Rattle.mh_site.specs.Defined.{DefinitionData, site_at}
+use Rattle.mh_site.specs.Defined.{DefinitionData}
 use Rattle.mh_site.specs.Links.{links}
 use Rattle.mh_core.specs.declared.record.Record.{Record}
 use Rattle.mh_core.specs.declared.record.Record.TheVariants.{Flushed}
 use Rattle.mh_core.specs.declared.refusal.Refusal.{Refusal}
-use Rattle.mh_core.specs.declared.refusal.Refusal.TheVariants.{NoWorker, NoSite, WrongType, LedgerFull}
+use Rattle.mh_core.specs.declared.refusal.Refusal.TheVariants.{NoWorker, LedgerFull}
 use Rattle.mh_core.specs.Books.{BookState, MayRefuse, opened_book}
 use Rattle.mh_core.specs.Hits.{hits}
 use Rattle.mh_core.specs.Installations.{linked, linked_sites}
+use Rattle.mh_core.specs.Legal.{callee_tests}
 use Rattle.mh_core.specs.Limits.{LimitsData}
 use Rattle.mh_core.specs.Records.{hits_in}
 use Rattle.mh_core.specs.Refusals.{memory_last}
@@ -40,11 +40,7 @@ HasRoom r w s a = (j : ℕ) → hits r.book.definition s a j ≡ true → at (le
 
 -- the tests of a call, in order
 abbrev pub call_tests : RuntimeState → ℕ → ℕ → List Value → Tests Refusal
-call_tests r w s a =
-    test (w < length r.ledgers) (only NoWorker)
-    (test (s < length r.book.definition.sites) (only NoSite)
-    (test (Fits (site_at r.book.definition s).method_type a) (only WrongType)
-    (test (HasRoom r w s a) (only LedgerFull) memory_last)))
+call_tests r w s a = callee_tests r.book.definition (length r.ledgers) w s a (test (HasRoom r w s a) (only LedgerFull) memory_last)
 
 -- the worker's ledger has one hit more of the link that is hit, and of no other
 pub record CountsHit (d : DefinitionData) (w s : ℕ) (a : List Value) (old new : List LedgerState) : Type 0 where

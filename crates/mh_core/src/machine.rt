@@ -18,7 +18,7 @@ use crate::limits::Limits;
 use crate::record::Record;
 use crate::refusal::Refusal;
 use crate::reply::Reply;
-pub(crate) use call::{count_hit, evaluate_call};
+pub(crate) use call::{count_hit, evaluate_call, test_callee};
 use mh_base::NoMemory;
 use mh_eval::Stack;
 use mh_ledger::Ledger;

@@ -15,11 +15,11 @@ use crate::book::Book;
 use crate::hits::hit_link;
 use crate::install_report::InstallReport;
 use crate::limits::Limits;
-use crate::machine::{count_hit, evaluate_call};
+use crate::machine::{count_hit, evaluate_call, test_callee};
 use crate::plan::SharedPlan;
 use crate::refusal::Refusal;
 use mh_base::NoMemory;
-use mh_eval::{Stack, fits};
+use mh_eval::Stack;
 use mh_ledger::Ledger;
 use mh_site::{Definition, Listing};
 use mh_tree::Declared;
@@ -154,15 +154,7 @@ impl Runtime {
         ensures memory { IfErr result (λ told. told ≡ Refusal.NoMemory → ⊥) }
     {
         let definition = self.book.definition();
-        if worker as usize >= self.ledgers.len() {
-            return Err(Refusal::NoWorker);
-        }
-        if site >= definition.sites().len() {
-            return Err(Refusal::NoSite);
-        }
-        if !fits(definition.method_type(site), arguments) {
-            return Err(Refusal::WrongType);
-        }
+        test_callee(definition, self.ledgers.len(), worker, site, arguments)?;
         let Some(link) = hit_link(definition, site, arguments) else {
             return Ok(None);
         };

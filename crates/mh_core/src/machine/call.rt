@@ -13,10 +13,10 @@ ghost use Rattle.mh_core.specs.declared.event.Event.TheVariants.{Call};
 ghost use Rattle.mh_core.specs.declared.reply.Reply.TheVariants.{Called};
 ghost use Rattle.mh_core.specs.Hits.{IsHitLink, unflushed};
 ghost use Rattle.mh_core.specs.Installations.{linked as linked_of};
-ghost use Rattle.mh_core.specs.Legal.{tests, answer_of_call, HasRoom, TakesNoMemory};
+ghost use Rattle.mh_core.specs.Legal.{tests, answer_of_call, callee_tests, HasRoom, TakesNoMemory};
 ghost use Rattle.mh_core.specs.Steps.{IsAccepted, IsRefused};
 ghost use Rattle.mh_core.specs.Installations.{linked_sites};
-ghost use Rattle.mh_base.specs.Tests.{Passes, Refuses};
+ghost use Rattle.mh_base.specs.Tests.{Passes, Refuses, no_more, nothing};
 
 use crate::arguments::Arguments;
 use crate::book::Book;
@@ -27,6 +27,7 @@ use crate::refusal::Refusal;
 use mh_base::NoMemory;
 use mh_eval::{Here, Stack, fits, run};
 use mh_ledger::Ledger;
+use mh_site::Definition;
 use mh_type::{Outcome, Value};
 
 impl Machine {
@@ -83,15 +84,8 @@ impl Machine {
         ensures memory { IfErr result (λ told. told ≡ Refusal.NoMemory → ⊥) }
     {
         let definition = self.book.definition();
-        if worker >= self.workers {
-            return Err(Refusal::NoWorker);
-        }
-        if site >= definition.sites().len() {
-            return Err(Refusal::NoSite);
-        }
-        if !fits(definition.method_type(site), arguments.as_slice()) {
-            return Err(Refusal::WrongType);
-        }
+        let workers = self.workers as usize;
+        test_callee(definition, workers, worker, site, arguments.as_slice())?;
         if self.book.is_full(self.calls.len()) {
             return Err(Refusal::HistoryFull);
         }
@@ -114,6 +108,32 @@ impl Machine {
         let ledger = &self.ledgers[worker as usize];
         ledger.unflushed(link) >= ledger.limit()
     }
+}
+
+// The tests of a call that no history decides, of which the first that fails is reported.
+#[inline(always)]
+pub(crate) fn test_callee(
+    definition: &Definition,
+    workers: usize,
+    worker: u32,
+    site: usize,
+    arguments: &[Value],
+) -> Result<(), Refusal>
+    ensures passes { OnOk result (Passes (callee_tests definition.now workers worker site
+        arguments.now (no_more nothing))) }
+    ensures refuses { IfErr result (λ told. Refuses (callee_tests definition.now workers worker site
+        arguments.now (no_more nothing)) told) }
+{
+    if worker as usize >= workers {
+        return Err(Refusal::NoWorker);
+    }
+    if site >= definition.sites().len() {
+        return Err(Refusal::NoSite);
+    }
+    if !fits(definition.method_type(site), arguments) {
+        return Err(Refusal::WrongType);
+    }
+    Ok(())
 }
 
 // Counts the hit of a call in its worker's ledger, where it hits a link and the ledger has room.

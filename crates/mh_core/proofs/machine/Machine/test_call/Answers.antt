@@ -20,7 +20,7 @@ pub returns-then-is_full-clause-refuses : goal.returns-then-is_full-clause-refus
 returns-then-is_full-clause-refuses c =
     let x = c.args.self.now in
     let m = c.self.inside in
-    let worker : c.args.worker < x.setting.workers = omega (arith, c.if-worker-self.false, ap (λ (y : MachineState). y.setting.workers) c.self.view_is) in
+    let worker : c.args.worker < x.setting.workers = search rules in
     let site : c.args.site < length x.setting.definition.sites = search rules in
     let fits : Fits (site_at x.setting.definition c.args.site).method_type c.args.arguments.now = search rules in
     let full : m.book.limits.history ≤ length m.book.records + c.len.result = c.is_full.ensures.decides.0 c.if-is_full.true in
@@ -45,7 +45,7 @@ pub returns-in_default-clause-passes : goal.returns-in_default-clause-passes
 returns-in_default-clause-passes c =
     let x = c.args.self.now in
     let m = c.self.inside in
-    let worker : c.args.worker < x.setting.workers = omega (arith, c.if-worker-self.false, ap (λ (y : MachineState). y.setting.workers) c.self.view_is) in
+    let worker : c.args.worker < x.setting.workers = search rules in
     let site : c.args.site < length x.setting.definition.sites = search rules in
     let fits : Fits (site_at x.setting.definition c.args.site).method_type c.args.arguments.now = search rules in
     let room = room_left m.book m.calls m.workers c.len.result x c.self.view_is c.len.ensures.value (below c.is_full.result _ _ c.is_full.ensures.decides c.if-is_full.false) in
@@ -65,7 +65,7 @@ pub returns-then-is_ledger_full-clause-refuses : goal.returns-then-is_ledger_ful
 returns-then-is_ledger_full-clause-refuses c =
     let x = c.args.self.now in
     let m = c.self.inside in
-    let worker : c.args.worker < x.setting.workers = omega (arith, c.if-worker-self.false, ap (λ (y : MachineState). y.setting.workers) c.self.view_is) in
+    let worker : c.args.worker < x.setting.workers = search rules in
     let site : c.args.site < length x.setting.definition.sites = search rules in
     let fits : Fits (site_at x.setting.definition c.args.site).method_type c.args.arguments.now = search rules in
     let room = room_left m.book m.calls m.workers c.len.result x c.self.view_is c.len.ensures.value (below c.is_full.result _ _ c.is_full.ensures.decides c.if-is_full.false) in
@@ -77,7 +77,7 @@ pub returns-clause-passes : goal.returns-clause-passes
 returns-clause-passes c =
     let x = c.args.self.now in
     let m = c.self.inside in
-    let worker : c.args.worker < x.setting.workers = omega (arith, c.if-worker-self.false, ap (λ (y : MachineState). y.setting.workers) c.self.view_is) in
+    let worker : c.args.worker < x.setting.workers = search rules in
     let site : c.args.site < length x.setting.definition.sites = search rules in
     let fits : Fits (site_at x.setting.definition c.args.site).method_type c.args.arguments.now = search rules in
     let room = room_left m.book m.calls m.workers c.len.result x c.self.view_is c.len.ensures.value (below c.is_full.result _ _ c.is_full.ensures.decides c.if-is_full.false) in
