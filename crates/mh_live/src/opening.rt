@@ -1,6 +1,6 @@
 //! What an office and its passes are made of.
 
-ghost use Rattle.std.specs.Prelude.{◌≡◌, ◌+◌, ◌<◌, ◌≤◌, [], length, map, drop, IfOk};
+ghost use Rattle.std.specs.Prelude.{◌≡◌, ◌+◌, ◌<◌, ◌≤◌, [], length, map, drop, vec_capacity, IfOk, IfErr};
 ghost use Rattle.std.specs.List.{All};
 ghost use Rattle.mh_ledger.specs.Ledgers.{AreHeld};
 ghost use Rattle.mh_site.specs.Lawful.{IsDefinition};
@@ -110,8 +110,8 @@ impl Opening {
     /// The office, and a pass for each worker, in order. N names this opening: its book, its
     /// definition, its limits and how many workers it has.
     ///
-    /// Refused with `NoMemory`, and with `NoReader` where no reader of the published world can be
-    /// made.
+    /// Refused with `NoMemory`, which leaves nothing behind, and with `NoReader` where no reader of
+    /// the published world can be made, which leaks its two worlds.
     pub fn open<N: Name>(self) -> Result<(Live<N>, Vec<Pass<N>>), OpenFault>
         requires name { self.name ≡ N.book }
         requires definition { self.definition ≡ N.definition }
@@ -133,9 +133,12 @@ impl Opening {
             workers,
             alloc,
         } = self;
+        // What a pass takes is made before the published world, which nothing here could give back.
+        let seats = make_seats(alloc, ledgers, &definition)?;
+        let passes = Vec::with_capacity(alloc, seats.len())?;
         let (head, front) = list.with_name::<N>();
         let writer = desk(alloc, first, second, &front, workers as usize)?;
-        match seats(alloc, &writer, &front, ledgers, &definition) {
+        match seat_all(&writer, &front, seats, passes) {
             Ok(passes) => Ok((Live::new(Office::new(book, head, front, writer)), passes)),
             Err(fault) => {
                 leak(writer);
@@ -143,6 +146,14 @@ impl Opening {
             }
         }
     }
+}
+
+// What a pass is made of beside its reader.
+#[derive(Drop)]
+struct Seat {
+    ledger: Ledger,
+    stack: Stack,
+    definition: Definition,
 }
 
 // The writer of the published world, with no control.
@@ -172,27 +183,51 @@ fn desk<N: Name>(
     WorldWriter::<N>::new(alloc, first, second, workers)
 }
 
-// A pass for each ledger, in order.
-fn seats<N: Name>(
+// A seat for each ledger, in order.
+fn make_seats(
     alloc: Global,
-    writer: &WorldWriter<N>,
-    front: &Front<N>,
     ledgers: Vec<Ledger>,
     definition: &Definition,
+) -> Result<Vec<Seat>, OpenFault>
+    ensures ledgers { IfOk result (λ v. map (λ s. s.ledger) v.items ≡ ledgers.items) }
+    ensures definition { IfOk result (λ v. All (λ s. s.definition ≡ definition.now) v.items) }
+{
+    let mut seats = Vec::new(alloc);
+    for ledger in ledgers {
+        seats.push(Seat {
+            ledger,
+            stack: Stack::new(alloc)?,
+            definition: definition.share()?,
+        })?;
+    }
+    Ok(seats)
+}
+
+// A pass for each seat, in order, in the room that is there for them.
+fn seat_all<N: Name>(
+    writer: &WorldWriter<N>,
+    front: &Front<N>,
+    seats: Vec<Seat>,
+    mut passes: Vec<Pass<N>>,
 ) -> Result<Vec<Pass<N>>, OpenFault>
     requires front { front.now ≡ [] }
-    requires definition { definition.now ≡ N.definition }
-    requires ledgers { All (λ l. length l.unflushed ≡ length (links N.definition)) ledgers.items }
-    ensures passes { IfOk result (λ v. v.items ≡ map new_pass ledgers.items) }
+    requires definition { All (λ s. s.definition ≡ N.definition) seats.items }
+    requires links { All (λ s. length s.ledger.unflushed ≡ length (links N.definition)) seats.items }
+    requires empty { passes.items ≡ [] }
+    requires room { length seats.items ≤ vec_capacity passes }
+    ensures passes { IfOk result (λ v. v.items ≡ map (λ s. new_pass s.ledger) seats.items) }
+    ensures full { IfErr result (λ e. e ≡ OpenFault.NoReader) }
 {
-    let mut passes = Vec::new(alloc);
-    for ledger in ledgers {
+    for seat in seats {
         let Ok(reader) = writer.factory().reader() else {
             return Err(OpenFault::NoReader);
         };
-        let stack = Stack::new(alloc)?;
-        let definition = definition.share()?;
-        passes.push(Pass::new(reader, front.copy(), ledger, stack, definition))?;
+        let Seat {
+            ledger,
+            stack,
+            definition,
+        } = seat;
+        passes.push_reserved(Pass::new(reader, front.copy(), ledger, stack, definition));
     }
     Ok(passes)
 }

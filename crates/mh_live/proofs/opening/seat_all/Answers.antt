@@ -1,5 +1,5 @@
 use Rattle.mh_live.proofs.Ruling.{admits}
-use Rattle.mh_live.proofs.opening.seats.Goals as goal
+use Rattle.mh_live.proofs.opening.seat_all.Goals as goal
 
 pub reader-requires : goal.reader-requires
 reader-requires g c = admits g.N.Name.book g.N.Name.definition
