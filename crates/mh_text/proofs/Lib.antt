@@ -7,6 +7,7 @@ mod ProblemInputs
 mod Points
 mod Problems
 mod Reached
+mod Reports
 mod Runs
 mod Shapes
 mod SharedPairs

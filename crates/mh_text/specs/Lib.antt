@@ -9,6 +9,7 @@ pub mod PlanLines
 pub mod Planning
 pub mod Plans
 pub mod Problems
+pub mod Report
 pub mod Script
 pub mod Shape
 pub mod Shared

@@ -28,6 +28,7 @@ pub use json::script::{Script, read_script};
 pub use json::step::Step;
 pub use lines::plans::plan_line;
 pub use lines::render;
+pub use lines::report::{push_tables, report_lines};
 pub use lines::verdict::Verdict;
 pub use mh_core::{Definition, Event, Limits, Machine, Plan, Problem, Refusal, Reply, SharedPlan};
 pub use streams::check::check_bytes;

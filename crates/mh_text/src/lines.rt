@@ -7,6 +7,7 @@ ghost use Rattle.mh_text.specs.Steps.{number_named};
 ghost use Rattle.mh_text.specs.Lines.{names_text, published_text, installed_text, reply_text, line_of};
 
 pub(crate) mod plans;
+pub(crate) mod report;
 pub(crate) mod verdict;
 
 use crate::json::script::Script;
