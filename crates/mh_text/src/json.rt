@@ -44,7 +44,7 @@ fn parse(alloc: Global, input: &[u8]) -> Result<Value, InputFault>
 }
 
 /// The JSON value of an input, whose length comes first.
-pub(crate) fn read_json(alloc: Global, input: &[u8]) -> Result<Value, Fault>
+pub fn read_json(alloc: Global, input: &[u8]) -> Result<Value, Fault>
     ensures value { GivesAt view result (json_of_input input.now) }
     ensures kind { IfErr result (λ e. IsOfInput e.kind) }
 {

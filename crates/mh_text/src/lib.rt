@@ -1,8 +1,8 @@
 //! Scripts, problems and plans from JSON, and the lines of what they give.
 //!
 //! `json` reads and writes values of JSON, `lines` the lines of replies and plans, and `streams`
-//! takes an input to its end and writes what it gives. What the calls name of the crates below
-//! stands here too:
+//! takes an input to its end and writes what it gives. `readers` has the readers of each part of an
+//! input. What the calls name of the crates below stands here too:
 //!
 //! ```
 //! let script = read_script(alloc, input)?;
@@ -18,6 +18,7 @@
 mod fault;
 mod json;
 mod lines;
+pub mod readers;
 mod streams;
 
 pub use fault::{Fault, InputFault, TextFault};

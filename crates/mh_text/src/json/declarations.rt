@@ -16,14 +16,14 @@ pub struct Declarations {
 
 impl Declarations {
     /// The number of a site by its name: one past the last where no site has it.
-    pub(crate) fn site_number(&self, name: &str) -> usize
+    pub fn site_number(&self, name: &str) -> usize
         ensures value { result ≡ place_of self.now.scope.sites name.now }
     {
         self.scope.sites.place(name)
     }
 
     /// The parameters of a site, none past the last.
-    pub(crate) fn parameters(&self, site: usize) -> &[Kind]
+    pub fn parameters(&self, site: usize) -> &[Kind]
         ensures value { result.now ≡ parameters_at self.now.definition site }
     {
         if site < self.definition.sites().len() {

@@ -144,7 +144,8 @@ fn read_named(
     Ok(Step::Ask(event))
 }
 
-fn read_step(alloc: Global, declared: &Declarations, value: &Value) -> Result<Step, InputFault>
+/// A step of a script: a word, and what it heads.
+pub fn read_step(alloc: Global, declared: &Declarations, value: &Value) -> Result<Step, InputFault>
     ensures value { Gives (λ x. x) result (step_of declared.now (view value.now)) }
 {
     let [head, args @ ..] = list(value)? else {

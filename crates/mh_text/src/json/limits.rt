@@ -26,7 +26,8 @@ fn limits(history: u64, ledger: u64, total: u64) -> Result<Limits, InputFault>
     Limits::new(history, ledger, total).ok_or(InputFault::BadShape)
 }
 
-fn read_object(value: &Value) -> Result<Limits, InputFault>
+/// The limits of an object, each the greatest where it is absent.
+pub fn read_given_limits(value: &Value) -> Result<Limits, InputFault>
     ensures value { Gives (λ x. x) result (limits_in (view value.now)) }
 {
     if !value.is_object() {
@@ -39,11 +40,11 @@ fn read_object(value: &Value) -> Result<Limits, InputFault>
 }
 
 /// The limits of a script: `limits` may be absent.
-pub(crate) fn read_limits(script: &Value) -> Result<Limits, InputFault>
+pub fn read_limits(script: &Value) -> Result<Limits, InputFault>
     ensures value { Gives (λ x. x) result (limits_of (view script.now)) }
 {
     match script.get("limits") {
-        Some(given) => read_object(given),
+        Some(given) => read_given_limits(given),
         None => limits(LONGEST_HISTORY, LARGEST_LEDGER, LARGEST_TOTAL),
     }
 }

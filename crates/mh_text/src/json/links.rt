@@ -16,7 +16,7 @@ use serde_json::Value;
 use std::alloc::Global;
 
 /// A link: its key, read as of this kind, its weight, its charge and its needs.
-fn read_link(
+pub fn read_link(
     alloc: Global,
     version: Version,
     scope: &Scope,
@@ -39,7 +39,7 @@ fn read_link(
 }
 
 /// The links of a site, whose keys are of this kind: `links` may be absent.
-pub(crate) fn read_links(
+pub fn read_links(
     alloc: Global,
     version: Version,
     scope: &Scope,

@@ -17,7 +17,7 @@ use std::alloc::Global;
 const MOST_AMOUNT: u64 = u64::MAX;
 
 /// A whole number of 64 bits with a sign.
-fn read_signed(value: &Value) -> Result<i64, InputFault>
+pub fn read_signed(value: &Value) -> Result<i64, InputFault>
     ensures value { Gives (λ x. x) result (signed_of (view value.now)) }
 {
     value.as_i64().ok_or(InputFault::BadShape)
@@ -36,13 +36,15 @@ fn read_parts(parts: &[Value]) -> Result<(u32, u32, u64), InputFault>
     Ok((link, point, amount))
 }
 
-fn read_flow_row(value: &Value) -> Result<(u32, u32, u64), InputFault>
+/// A row of a flow: a link, a point, and an amount.
+pub fn read_flow_row(value: &Value) -> Result<(u32, u32, u64), InputFault>
     ensures value { Gives (λ x. x) result (flow_row_of (view value.now)) }
 {
     read_parts(list(value)?)
 }
 
-fn read_flow(alloc: Global, value: &Value) -> Result<Listing<(u32, u32, u64)>, InputFault>
+/// The rows of a flow.
+pub fn read_flow(alloc: Global, value: &Value) -> Result<Listing<(u32, u32, u64)>, InputFault>
     ensures value { Gives (λ x. x) result (flow_of (view value.now)) }
 {
     each(alloc, list(value)?, |row| read_flow_row(row))
@@ -60,7 +62,8 @@ fn read_charge_parts(parts: &[Value]) -> Result<(u32, u64), InputFault>
     Ok((link, amount))
 }
 
-fn read_charge_row(value: &Value) -> Result<(u32, u64), InputFault>
+/// What a link pays of its charge: the link, and the amount.
+pub fn read_charge_row(value: &Value) -> Result<(u32, u64), InputFault>
     ensures value { Gives (λ x. x) result (charge_row_of (view value.now)) }
 {
     read_charge_parts(list(value)?)
@@ -77,7 +80,7 @@ fn read_charges(alloc: Global, plan: &Value) -> Result<Listing<(u32, u64)>, Inpu
 }
 
 /// The plan that a value is.
-pub(crate) fn read_plan_value(alloc: Global, value: &Value) -> Result<Plan, InputFault>
+pub fn read_plan_value(alloc: Global, value: &Value) -> Result<Plan, InputFault>
     ensures value { Gives (λ x. x) result (plan_of (view value.now)) }
 {
     let links = read_numbers(alloc, member(value, "links")?)?;

@@ -11,7 +11,8 @@ use mh_site::{Listing, Name, Names, Point};
 use serde_json::Value;
 use std::alloc::{AllocError, Global};
 
-fn read_one(alloc: Global, value: &Value) -> Result<Point, InputFault>
+/// A point: its name, then its cost.
+pub fn read_point(alloc: Global, value: &Value) -> Result<Point, InputFault>
     ensures value { Gives (λ x. x) result (point_of (view value.now)) }
 {
     let name = Name::new(alloc, text(member(value, "name")?)?)?;
@@ -20,15 +21,15 @@ fn read_one(alloc: Global, value: &Value) -> Result<Point, InputFault>
 }
 
 /// The points of a definition, each its name and its cost.
-pub(crate) fn read_points(alloc: Global, definition: &Value) -> Result<Listing<Point>, InputFault>
+pub fn read_points(alloc: Global, definition: &Value) -> Result<Listing<Point>, InputFault>
     ensures value { Gives (λ x. x) result (points_of (view definition.now)) }
 {
     let points = list(member(definition, "points")?)?;
-    each(alloc, points, |point| read_one(alloc, point))
+    each(alloc, points, |point| read_point(alloc, point))
 }
 
 /// The names of the points, by number.
-pub(crate) fn point_names(alloc: Global, points: &[Point]) -> Result<Names, AllocError>
+pub fn point_names(alloc: Global, points: &[Point]) -> Result<Names, AllocError>
     ensures value { IfOk result (λ names. names ≡ point_names_of points.now) }
 {
     let mut names = Names::new(alloc);
@@ -38,14 +39,15 @@ pub(crate) fn point_names(alloc: Global, points: &[Point]) -> Result<Names, Allo
     Ok(names)
 }
 
-fn read_named_point(scope: &Scope, value: &Value) -> Result<u32, InputFault>
+/// The number of a point by its name: one past the last where no point has it.
+pub fn read_named_point(scope: &Scope, value: &Value) -> Result<u32, InputFault>
     ensures value { Gives (λ x. x) result (named_point_of scope.now.points (view value.now)) }
 {
     Ok(scope.point_number(text(value)?))
 }
 
 /// The numbers of points that are named in a list.
-pub(crate) fn read_named_points(
+pub fn read_named_points(
     alloc: Global,
     scope: &Scope,
     value: &Value,

@@ -27,13 +27,14 @@ pub struct ProblemRows {
 }
 
 /// The numbers of links or points in a list.
-pub(crate) fn read_numbers(alloc: Global, value: &Value) -> Result<Listing<u32>, InputFault>
+pub fn read_numbers(alloc: Global, value: &Value) -> Result<Listing<u32>, InputFault>
     ensures value { Gives (λ x. x) result (counts_of (2 ^ 32 - 1) (view value.now)) }
 {
     each(alloc, list(value)?, |item| number(item))
 }
 
-fn read_costs(alloc: Global, value: &Value) -> Result<Listing<u64>, InputFault>
+/// The costs of points.
+pub fn read_costs(alloc: Global, value: &Value) -> Result<Listing<u64>, InputFault>
     ensures value { Gives (λ x. x) result (counts_of (2 ^ 63 - 1) (view value.now)) }
 {
     each(alloc, list(value)?, |item| count(item, MOST))
@@ -50,7 +51,8 @@ fn read_eligible(link: &Value) -> Result<bool, InputFault>
     }
 }
 
-fn read_row(alloc: Global, version: Version, link: &Value) -> Result<LinkRow, InputFault>
+/// A link of a problem: its gain, whether it may be chosen, its needs and its charge.
+pub fn read_row(alloc: Global, version: Version, link: &Value) -> Result<LinkRow, InputFault>
     ensures value { Gives (λ x. x) result (row_of version (view link.now)) }
 {
     let gain = count(member(link, "gain")?, MOST)?;
@@ -65,7 +67,8 @@ fn read_row(alloc: Global, version: Version, link: &Value) -> Result<LinkRow, In
     })
 }
 
-fn read_rows(alloc: Global, problem: &Value) -> Result<ProblemRows, InputFault>
+/// The version, the costs and the links of a problem.
+pub fn read_rows(alloc: Global, problem: &Value) -> Result<ProblemRows, InputFault>
     ensures value { Gives (λ x. x) result (rows_of (view problem.now)) }
 {
     let version = version(problem)?;
@@ -107,7 +110,7 @@ fn make_lawful(alloc: Global, rows: &ProblemRows) -> Result<Problem, ProblemFaul
 }
 
 /// The problem of rows that were read.
-fn make(alloc: Global, rows: &ProblemRows) -> Result<Problem, Fault>
+pub fn make_problem(alloc: Global, rows: &ProblemRows) -> Result<Problem, Fault>
     ensures value { MakesProblem (Ok rows.now) result }
     ensures kind { IfErr result (λ e. IsOfInput e.kind) }
 {
@@ -128,7 +131,7 @@ pub(crate) fn read_problem_at(
     ensures kind { IfErr result (λ e. IsOfInput e.kind) }
 {
     let rows = read_rows_at(alloc, value, key)?;
-    make(alloc, &rows)
+    make_problem(alloc, &rows)
 }
 
 /// The problem of selection that an input is, or that its JSON object has at the key `member`.

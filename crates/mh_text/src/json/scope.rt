@@ -35,7 +35,7 @@ pub struct Scope {
 
 impl Scope {
     /// The points of these names, no shared tree and no site.
-    pub(crate) fn new(alloc: Global, points: Names) -> Scope
+    pub fn new(alloc: Global, points: Names) -> Scope
         ensures value { result ≡ without_shared points }
     {
         Scope {
@@ -48,7 +48,7 @@ impl Scope {
     }
 
     /// Puts a shared tree last.
-    pub(crate) fn add(&mut self, shared: Shared) -> Result<(), InputFault>
+    pub fn add(&mut self, shared: Shared) -> Result<(), InputFault>
         ensures value { OnOk result (self.new ≡ with_shared self.old shared) }
         ensures refused { IfErr result (λ e. e ≡ InputFault.NoMemory) }
     {
@@ -58,7 +58,7 @@ impl Scope {
     }
 
     /// Puts a site last, so that later trees may invoke it. Of one name, the first site stays.
-    pub(crate) fn add_site(&mut self, site: &Site) -> Result<(), InputFault>
+    pub fn add_site(&mut self, site: &Site) -> Result<(), InputFault>
         ensures value { OnOk result (self.new ≡ with_site self.old site.now) }
         ensures refused { IfErr result (λ e. e ≡ InputFault.NoMemory) }
     {
@@ -71,7 +71,7 @@ impl Scope {
     }
 
     /// The invocation of a site by its name, with the site's type.
-    pub(crate) fn invocation_named(&self, alloc: Global, name: &str) -> Result<Handle, InputFault>
+    pub fn invocation_named(&self, alloc: Global, name: &str) -> Result<Handle, InputFault>
         ensures value { Gives (λ x. x) result (invocation_named self.now name.now) }
     {
         let site = self.site_number(name);
@@ -89,14 +89,14 @@ impl Scope {
     }
 
     /// The number of a point by its name: one past the last where no point has it.
-    pub(crate) fn point_number(&self, name: &str) -> u32
+    pub fn point_number(&self, name: &str) -> u32
         ensures value { result ≡ point_place self.now.points name.now }
     {
         u32::try_from(self.points.place(name)).unwrap_or(u32::MAX)
     }
 
     /// Another owner of the shared tree of a name.
-    pub(crate) fn tree_named(&self, name: &str) -> Result<Handle, InputFault>
+    pub fn tree_named(&self, name: &str) -> Result<Handle, InputFault>
         ensures value { Gives (λ x. x) result (shared_named self.now name.now) }
     {
         match self.trees.as_slice().get(self.names.place(name)) {

@@ -42,7 +42,7 @@ pub struct Schedule {
 }
 
 /// What a script declares.
-fn read_declarations(alloc: Global, value: &Value) -> Result<Declarations, InputFault>
+pub fn read_declarations(alloc: Global, value: &Value) -> Result<Declarations, InputFault>
     ensures value { Gives (λ x. x) result (declarations_of (view value.now)) }
 {
     let definition = member(value, "definition")?;
@@ -55,7 +55,8 @@ fn read_declarations(alloc: Global, value: &Value) -> Result<Declarations, Input
     Ok(Declarations { definition, scope })
 }
 
-fn read_workers(value: &Value) -> Result<u32, InputFault>
+/// The number of workers: 1 to 64.
+pub fn read_workers(value: &Value) -> Result<u32, InputFault>
     ensures value { Gives (λ x. x) result (workers_of (view value.now)) }
 {
     let workers = count(member(value, "workers")?, MOST_WORKERS as u64)?;

@@ -21,7 +21,7 @@ const LAST_NUMBER: u64 = 0xffff_ffff;
 
 /// The items of an array.
 #[tactic(auto, using(crate::proofs::Shapes::list_of_array))]
-pub(crate) fn list(value: &Value) -> Result<&[Value], InputFault>
+pub fn list(value: &Value) -> Result<&[Value], InputFault>
     ensures value { Gives (λ x. map view x.now) result (list_of (view value.now)) }
 {
     match value {
@@ -31,21 +31,21 @@ pub(crate) fn list(value: &Value) -> Result<&[Value], InputFault>
 }
 
 /// A string.
-pub(crate) fn text(value: &Value) -> Result<&str, InputFault>
+pub fn text(value: &Value) -> Result<&str, InputFault>
     ensures value { Gives (λ x. x.now) result (text_of (view value.now)) }
 {
     value.as_str().ok_or(InputFault::BadShape)
 }
 
 /// What an object has at a key that has to be there.
-pub(crate) fn member<'a>(value: &'a Value, key: &str) -> Result<&'a Value, InputFault>
+pub fn member<'a>(value: &'a Value, key: &str) -> Result<&'a Value, InputFault>
     ensures value { Gives (λ x. view x.now) result (member_of key.now (view value.now)) }
 {
     value.get(key).ok_or(InputFault::BadShape)
 }
 
 /// A whole number from 0 to a bound.
-pub(crate) fn count(value: &Value, bound: u64) -> Result<u64, InputFault>
+pub fn count(value: &Value, bound: u64) -> Result<u64, InputFault>
     ensures value { Gives (λ x. x) result (count_of bound (view value.now)) }
 {
     match value.as_u64() {
@@ -55,7 +55,7 @@ pub(crate) fn count(value: &Value, bound: u64) -> Result<u64, InputFault>
 }
 
 /// A place in a list: 0 to 2^63 - 1.
-pub(crate) fn place(value: &Value) -> Result<usize, InputFault>
+pub fn place(value: &Value) -> Result<usize, InputFault>
     ensures value { Gives (λ x. x) result (count_of (2 ^ 63 - 1) (view value.now)) }
 {
     Ok(count(value, MOST)? as usize)
@@ -69,7 +69,7 @@ pub(crate) fn number(value: &Value) -> Result<u32, InputFault>
 }
 
 /// What each item of a list is read as, up to the first fault.
-pub(crate) fn each<T: Drop, F: Fn(&Value) -> Result<T, InputFault>>(
+pub fn each<T: Drop, F: Fn(&Value) -> Result<T, InputFault>>(
     alloc: Global,
     values: &[Value],
     read: F,

@@ -13,7 +13,7 @@ use serde_json::Value;
 use std::alloc::Global;
 
 /// A lawful name that no earlier shared tree has.
-fn read_new_name(alloc: Global, names: &Names, value: &Value) -> Result<Name, InputFault>
+pub fn read_new_name(alloc: Global, names: &Names, value: &Value) -> Result<Name, InputFault>
     ensures value { Gives (λ x. x) result (new_name names.now (view value.now)) }
 {
     let name = Name::new(alloc, text(value)?)?;
@@ -36,7 +36,7 @@ fn read_pair(alloc: Global, scope: &Scope, parts: &[Value]) -> Result<Shared, In
 }
 
 /// A shared tree, read over those before it.
-fn read_shared(alloc: Global, scope: &Scope, value: &Value) -> Result<Shared, InputFault>
+pub fn read_shared(alloc: Global, scope: &Scope, value: &Value) -> Result<Shared, InputFault>
     ensures value { Gives (λ x. x) result (shared_of scope.now (view value.now)) }
 {
     read_pair(alloc, scope, list(value)?)
@@ -44,11 +44,7 @@ fn read_shared(alloc: Global, scope: &Scope, value: &Value) -> Result<Shared, In
 
 /// The names that the trees of a definition may use, where its points have these: `shared` may be
 /// absent.
-pub(crate) fn read_scope(
-    alloc: Global,
-    points: Names,
-    definition: &Value,
-) -> Result<Scope, InputFault>
+pub fn read_scope(alloc: Global, points: Names, definition: &Value) -> Result<Scope, InputFault>
     ensures value { Gives (λ x. x) result (scope_of points (view definition.now)) }
 {
     let mut scope = Scope::new(alloc, points);

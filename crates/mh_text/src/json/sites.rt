@@ -16,7 +16,7 @@ use serde_json::Value;
 use std::alloc::Global;
 
 /// A place, or none where the value is null.
-fn read_place_or_none(value: &Value) -> Result<Option<usize>, InputFault>
+pub fn read_place_or_none(value: &Value) -> Result<Option<usize>, InputFault>
     ensures value { Gives (λ x. x) result (place_or_none (view value.now)) }
 {
     if value.is_null() {
@@ -26,7 +26,7 @@ fn read_place_or_none(value: &Value) -> Result<Option<usize>, InputFault>
 }
 
 /// The level of a site, which is 0 where it is absent.
-fn read_level(site: &Value) -> Result<u64, InputFault>
+pub fn read_level(site: &Value) -> Result<u64, InputFault>
     ensures value { Gives (λ x. x) result (level_of (view site.now)) }
 {
     match site.get("level") {
@@ -36,7 +36,7 @@ fn read_level(site: &Value) -> Result<u64, InputFault>
 }
 
 /// The key place of a site, which may be absent or null.
-fn read_key(site: &Value) -> Result<Option<usize>, InputFault>
+pub fn read_key(site: &Value) -> Result<Option<usize>, InputFault>
     ensures value { Gives (λ x. x) result (key_of (view site.now)) }
 {
     match site.get("key") {
@@ -46,13 +46,14 @@ fn read_key(site: &Value) -> Result<Option<usize>, InputFault>
 }
 
 /// The kind of the parameter at the key place, where there is one.
-fn key_kind(method_type: &MethodType, key: Option<usize>) -> Option<Kind>
+pub fn key_kind(method_type: &MethodType, key: Option<usize>) -> Option<Kind>
     ensures value { result ≡ kind_of_key method_type.now key }
 {
     kind_at(method_type.parameters(), key?)
 }
 
-fn read_one(
+/// A site: its name, its type, its level, its key place, its target and its links.
+pub fn read_site(
     alloc: Global,
     version: Version,
     scope: &Scope,
@@ -85,7 +86,7 @@ pub struct Sited {
 
 impl Sited {
     /// No site yet.
-    fn new(alloc: Global, scope: Scope) -> Sited
+    pub fn new(alloc: Global, scope: Scope) -> Sited
         ensures value { result ≡ none_sited scope }
     {
         Sited {
@@ -95,7 +96,7 @@ impl Sited {
     }
 
     /// Puts a site last.
-    fn add(&mut self, site: Site) -> Result<(), InputFault>
+    pub fn add(&mut self, site: Site) -> Result<(), InputFault>
         ensures value { OnOk result (self.new ≡ one_sited self.old site) }
         ensures refused { IfErr result (λ e. e ≡ InputFault.NoMemory) }
     {
@@ -107,7 +108,7 @@ impl Sited {
 
 /// The sites of a definition, each its name, its type, its level, its key place, its target, which
 /// may invoke those before it, and its links.
-pub(crate) fn read_sites(
+pub fn read_sites(
     alloc: Global,
     version: Version,
     scope: Scope,
@@ -118,7 +119,7 @@ pub(crate) fn read_sites(
     let sites = list(member(definition, "sites")?)?;
     let mut sited = Sited::new(alloc, scope);
     for site in sites {
-        let read = read_one(alloc, version, &sited.scope, site)?;
+        let read = read_site(alloc, version, &sited.scope, site)?;
         sited.add(read)?;
     }
     Ok(sited)

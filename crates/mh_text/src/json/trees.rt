@@ -79,8 +79,9 @@ fn read_filter(alloc: Global, scope: &Scope, args: &[Value]) -> Result<Handle, I
     Ok(Handle::filter(alloc, &target, position, filters.as_slice())?)
 }
 
+/// Filters in a list, none where an item is null.
 #[cycle(tree)]
-fn read_filters(
+pub fn read_filters(
     alloc: Global,
     scope: &Scope,
     value: &Value,
@@ -97,8 +98,9 @@ fn read_filters(
     Ok(Listing::from_vec(filters))
 }
 
+/// A filter, or none where the value is null.
 #[cycle(tree)]
-fn read_filter_or_none(
+pub fn read_filter_or_none(
     alloc: Global,
     scope: &Scope,
     value: &Value,
@@ -187,7 +189,7 @@ fn read_form(alloc: Global, scope: &Scope, word: &str, args: &[Value]) -> Result
 
 /// A tree by its form, over the names that it may use.
 #[cycle(tree)]
-pub(crate) fn read_tree(alloc: Global, scope: &Scope, value: &Value) -> Result<Handle, InputFault>
+pub fn read_tree(alloc: Global, scope: &Scope, value: &Value) -> Result<Handle, InputFault>
     ensures value { Gives (λ x. x) result (tree_of scope.now (view value.now)) }
 {
     let Value::Array(items) = value else {
@@ -200,11 +202,7 @@ pub(crate) fn read_tree(alloc: Global, scope: &Scope, value: &Value) -> Result<H
 }
 
 /// A tree within the limits of declared trees.
-pub(crate) fn read_declared(
-    alloc: Global,
-    scope: &Scope,
-    value: &Value,
-) -> Result<Declared, InputFault>
+pub fn read_declared(alloc: Global, scope: &Scope, value: &Value) -> Result<Declared, InputFault>
     ensures value { Gives (λ x. x) result (declared_of scope.now (view value.now)) }
 {
     Ok(Declared::new(&read_tree(alloc, scope, value)?)?)

@@ -12,21 +12,21 @@ use serde_json::Value as Json;
 use std::alloc::Global;
 
 /// The kind of a name.
-pub(crate) fn read_kind(value: &Json) -> Result<Kind, InputFault>
+pub fn read_kind(value: &Json) -> Result<Kind, InputFault>
     ensures value { Gives (λ x. x) result (kind_of (view value.now)) }
 {
     Kind::from_name(text(value)?).ok_or(InputFault::BadShape)
 }
 
 /// The method type of a text.
-pub(crate) fn read_type(value: &Json) -> Result<MethodType, InputFault>
+pub fn read_type(value: &Json) -> Result<MethodType, InputFault>
     ensures value { Gives (λ x. x) result (type_of (view value.now)) }
 {
     Ok(MethodType::parse(text(value)?)?)
 }
 
 /// The operation of a name.
-pub(crate) fn read_op(value: &Json) -> Result<Op, InputFault>
+pub fn read_op(value: &Json) -> Result<Op, InputFault>
     ensures value { Gives (λ x. x) result (op_of (view value.now)) }
 {
     Op::from_name(text(value)?).ok_or(InputFault::BadShape)
@@ -58,7 +58,7 @@ fn read_text(alloc: Global, bytes: &str) -> Result<Value, InputFault>
 }
 
 /// A value of a kind.
-pub(crate) fn read_constant(alloc: Global, kind: Kind, value: &Json) -> Result<Value, InputFault>
+pub fn read_constant(alloc: Global, kind: Kind, value: &Json) -> Result<Value, InputFault>
     ensures value { Gives (λ x. x) result (value_of_kind kind (view value.now)) }
 {
     match kind {
@@ -96,11 +96,7 @@ fn read_by_form(alloc: Global, value: &Json) -> Result<Value, InputFault>
 }
 
 /// A value of the kind that is wanted, where one is, and else by its own form.
-pub(crate) fn read_value(
-    alloc: Global,
-    kind: Option<Kind>,
-    value: &Json,
-) -> Result<Value, InputFault>
+pub fn read_value(alloc: Global, kind: Option<Kind>, value: &Json) -> Result<Value, InputFault>
     ensures value { Gives (λ x. x) result (value_for kind (view value.now)) }
 {
     let Some(kind) = kind else {
@@ -114,14 +110,14 @@ pub(crate) fn read_value(
 }
 
 /// The kind at a place, where there is one.
-pub(crate) fn kind_at(kinds: &[Kind], place: usize) -> Option<Kind>
+pub fn kind_at(kinds: &[Kind], place: usize) -> Option<Kind>
     ensures value { result ≡ slice_get kinds.now place }
 {
     kinds.get(place).copied()
 }
 
 /// Values for parameters of these kinds, in order; where there is no parameter, by their own form.
-pub(crate) fn read_values(
+pub fn read_values(
     alloc: Global,
     kinds: &[Kind],
     values: &[Json],

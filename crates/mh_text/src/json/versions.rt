@@ -10,7 +10,7 @@ use mh_site::Version;
 use serde_json::Value;
 
 /// The version of an object, 1 or 2.
-pub(crate) fn version(value: &Value) -> Result<Version, InputFault>
+pub fn version(value: &Value) -> Result<Version, InputFault>
     ensures value { Gives (λ x. x) result (version_of (view value.now)) }
 {
     match count(member(value, "version")?, 2)? {
@@ -21,7 +21,7 @@ pub(crate) fn version(value: &Value) -> Result<Version, InputFault>
 }
 
 /// The charge of a link, which may be absent. In version 1 the key means nothing.
-pub(crate) fn charge(version: Version, link: &Value) -> Result<u64, InputFault>
+pub fn charge(version: Version, link: &Value) -> Result<u64, InputFault>
     ensures value { Gives (λ x. x) result (charge_of version (view link.now)) }
 {
     let Version::Two = version else {
@@ -34,7 +34,7 @@ pub(crate) fn charge(version: Version, link: &Value) -> Result<u64, InputFault>
 }
 
 /// The most links of a problem.
-pub(crate) fn most_links(version: Version) -> usize
+pub fn most_links(version: Version) -> usize
     ensures value { result ≡ links_at_most version }
 {
     match version {
