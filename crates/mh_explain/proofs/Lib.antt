@@ -1,0 +1,6 @@
+mod Depths
+mod Faults
+mod Firsts
+mod Items
+mod Lists
+mod Whole
