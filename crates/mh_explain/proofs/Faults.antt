@@ -1,8 +1,7 @@
 -- What is kept of a reading, beside what the specification gives.
-use Rattle.std.proofs.Common.{◌≡◌, ◌⊎◌, inl, inr, Result, Ok, Err, Option, Some, None, IfOk, refl, sym, ◌∙◌, ap}
+use Rattle.std.proofs.Common.{◌≡◌, inl, inr, Result, Ok, Err, Option, Some, None, IfOk, refl, ap}
 use Rattle.mh_base.specs.declared.memory.NoMemory.{NoMemory}
 use Rattle.mh_text.specs.declared.fault.InputFault.{InputFault}
-use Rattle.mh_text.specs.declared.fault.InputFault.TheVariants as fault
 use Rattle.mh_text.specs.Gives.{Gives}
 use Rattle.mh_explain.specs.Closed.{ok_of}
 use Rattle.mh_explain.specs.Forms.{fault_in}

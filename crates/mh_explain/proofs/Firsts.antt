@@ -1,5 +1,5 @@
 -- The first part that has a fault, and paths from it.
-use Rattle.std.proofs.Common.{◌≡◌, ℕ, ◌+◌, ◌<◌, List, [], ◌∷◌, ◌++◌, length, drop, get_or, map, Option, Some, None, Result, Ok, Err, IfOk, refl, sym, ◌∙◌, ap, subst}
+use Rattle.std.proofs.Common.{◌≡◌, ℕ, ◌+◌, ◌<◌, List, [], ◌∷◌, length, drop, get_or, map, Option, Some, None, Result, Ok, Err, IfOk, refl, sym, ◌∙◌, ap, subst}
 use Rattle.std.proofs.lemmas.List.{drop_more}
 use Rattle.serde_json.specs.Data.{Data}
 use Rattle.mh_text.specs.declared.fault.InputFault.{InputFault}
@@ -11,8 +11,8 @@ use Rattle.mh_explain.specs.declared.walk.Place.{Place}
 use Rattle.mh_explain.specs.declared.key.Key.{Key}
 use Rattle.mh_explain.specs.Forms.{shape_fault}
 use Rattle.mh_explain.specs.Parts.{shape_parts}
-use Rattle.mh_explain.specs.Keys.{child, value_at}
-use Rattle.mh_explain.specs.Places.{Reading, over, Entry, entry, Faulty, Ends, LeadsFrom, Leads, IsPlace, fault_of, entries_of, faulty_or, or_rest, first_faulty}
+use Rattle.mh_explain.specs.Keys.{child}
+use Rattle.mh_explain.specs.Places.{Reading, over, Entry, entry, Faulty, LeadsFrom, Leads, IsPlace, fault_of, entries_of, faulty_or, or_rest, first_faulty}
 
 -- it stands at its key
 pub first_child : (d : Data) (ps : List Entry) (f : Faulty) → first_faulty d ps ≡ Some f → child f.key d ≡ Some f.value

@@ -1,8 +1,8 @@
 -- Lists of a script, item by item.
-use Rattle.std.proofs.Common.{◌≡◌, ℕ, zero, suc, ◌+◌, ◌<◌, ◌≤◌, List, [], ◌∷◌, ◌++◌, length, drop, get_or, map, Option, Some, None, is_some, Result, Ok, Err, IfOk, Vec, Global, refl, sym, ◌∙◌, ap, arith}
+use Rattle.std.proofs.Common.{◌≡◌, ℕ, zero, suc, ◌+◌, ◌<◌, ◌≤◌, List, [], ◌∷◌, length, drop, get_or, map, Option, Some, None, Result, Ok, Err, IfOk, Vec, Global, refl, ap, arith}
 use Rattle.std.proofs.lemmas.List.{at_drop_all}
 use Rattle.serde_json.specs.Data.{Data, null, boolean, number, string, array, object, Items, no_items, item}
-use Rattle.serde_json.specs.Find.{at, get_item}
+use Rattle.serde_json.specs.Find.{get_item}
 use Rattle.serde_json.specs.View.{view}
 use Rattle.serde_json.specs.declared.value.Value.{Value, Array}
 use Rattle.serde_json.proofs.Views.{view-Array}
@@ -26,7 +26,7 @@ use Rattle.mh_explain.specs.Closed.{declared_by, site_added, site_read}
 use Rattle.mh_explain.specs.Forms.{fault_in}
 use Rattle.mh_explain.specs.Keys.{child}
 use Rattle.mh_explain.specs.Looks.{IsLooked, IsLookedAt}
-use Rattle.mh_explain.specs.Places.{Reading, script, definition, script_entries, definition_entries, all_shared, all_sites, events, step, over, Entry, entry, entries_of, fault_of, steps_fault, events_fault, item_entry, step_entry, shared_entries, site_entries, event_entries, if_read, if_there, at_field, first_faulty, LeadsFrom}
+use Rattle.mh_explain.specs.Places.{Reading, script, definition, script_entries, definition_entries, all_shared, all_sites, events, step, Entry, entry, entries_of, fault_of, steps_fault, events_fault, item_entry, step_entry, shared_entries, site_entries, event_entries, if_read, if_there, at_field, first_faulty, LeadsFrom}
 use Rattle.mh_explain.specs.Trees.{items_in, step_parts}
 use Rattle.mh_explain.proofs.Firsts.{next_item, leads_alike}
 use Rattle.mh_explain.proofs.Items.{to_list-items_view}

@@ -1,5 +1,5 @@
 -- Forms whose parts are read as a whole.
-use Rattle.std.proofs.Common.{◌≡◌, List, [], Option, refl}
+use Rattle.std.proofs.Common.{◌≡◌, [], Option, refl}
 use Rattle.serde_json.specs.Data.{Data}
 use Rattle.mh_type.specs.declared.kind.Kind.{Kind}
 use Rattle.mh_site.specs.declared.version.Version.{Version}

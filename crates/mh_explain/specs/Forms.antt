@@ -3,7 +3,6 @@ use Rattle.std.specs.Prelude.{ℕ, ◌+◌, ◌-◌, ◌^◌, Bool, List, [], �
 use Rattle.std.specs.List.{slice_get}
 use Rattle.serde_json.specs.Data.{Data, null, boolean, number, string, array, object}
 use Rattle.serde_json.specs.Find.{as_bool}
-use Rattle.mh_type.specs.declared.kind.Kind.{Kind}
 use Rattle.mh_tree.specs.Handle.{TypedTree}
 use Rattle.mh_site.specs.declared.version.Version.{Version}
 use Rattle.mh_site.specs.declared.version.Version.TheVariants.{One, Two}

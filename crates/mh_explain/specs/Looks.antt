@@ -1,5 +1,5 @@
 -- What a look at parts finds.
-use Rattle.std.specs.Prelude.{◌≡◌, List, [], ◌∷◌, ◌++◌, Option, Some, None, map}
+use Rattle.std.specs.Prelude.{◌≡◌, List, ◌∷◌, ◌++◌, Option, Some, None, map}
 use Rattle.serde_json.specs.Data.{Data}
 use Rattle.serde_json.specs.View.{view}
 use Rattle.mh_text.specs.declared.fault.InputFault.{InputFault}
@@ -7,7 +7,7 @@ use Rattle.mh_text.specs.declared.json.scope.Scope.{Scope}
 use Rattle.mh_explain.specs.declared.form.Part.{Part}
 use Rattle.mh_explain.specs.declared.walk.Found.{Found}
 use Rattle.mh_explain.specs.declared.walk.Place.{Place}
-use Rattle.mh_explain.specs.Places.{Reading, over, Entry, Faulty, Ends, LeadsFrom, entry, first_faulty}
+use Rattle.mh_explain.specs.Places.{over, Entry, Ends, LeadsFrom, entry, first_faulty}
 
 -- the first part that has a fault has this one, or none has it first
 abbrev pub IsFirst : InputFault → Scope → Data → List Part → Option Found → Type 0

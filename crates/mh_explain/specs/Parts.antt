@@ -1,18 +1,16 @@
 -- The parts that a part is read by, in the order of reading.
-use Rattle.std.specs.Prelude.{ℕ, ◌+◌, List, [], ◌∷◌, ◌++◌, Option, Some, None, is_some, Result, Ok, Err, option_and_then, if◌then◌else◌}
-use Rattle.serde_json.specs.Data.{Data, null, boolean, number, string, array, object}
+use Rattle.std.specs.Prelude.{ℕ, ◌+◌, List, [], ◌∷◌, ◌++◌, Option, None, is_some, Result, Ok, Err, if◌then◌else◌}
+use Rattle.serde_json.specs.Data.{Data}
 use Rattle.serde_json.specs.Find.{get}
 use Rattle.mh_type.specs.declared.kind.Kind.{Kind}
 use Rattle.mh_type.specs.Signature.{Signature}
 use Rattle.mh_site.specs.declared.version.Version.{Version}
 use Rattle.mh_site.specs.declared.version.Version.TheVariants.{One, Two}
 use Rattle.mh_text.specs.declared.fault.InputFault.{InputFault}
-use Rattle.mh_text.specs.declared.json.declarations.Declarations.{Declarations}
 use Rattle.mh_text.specs.declared.json.scope.Scope.{Scope}
 use Rattle.mh_text.specs.Gives.{◌>>=◌}
-use Rattle.mh_text.specs.Script.{key_of, key_kind, parameters_at}
-use Rattle.mh_site.specs.NamesInOrder.{place_of}
-use Rattle.mh_text.specs.Shape.{to_list, text_of, member_of}
+use Rattle.mh_text.specs.Script.{key_of, key_kind}
+use Rattle.mh_text.specs.Shape.{member_of}
 use Rattle.mh_text.specs.Values.{type_of}
 use Rattle.mh_explain.specs.declared.form.Form.{Form}
 use Rattle.mh_explain.specs.declared.form.Form.TheVariants as form
@@ -21,11 +19,10 @@ use Rattle.mh_explain.specs.declared.form.Shape.{Shape}
 use Rattle.mh_explain.specs.declared.form.Shape.TheVariants as shape
 use Rattle.mh_explain.specs.declared.key.Field.{Field}
 use Rattle.mh_explain.specs.declared.key.Field.TheVariants as field
-use Rattle.mh_explain.specs.declared.key.Key.{Key}
-use Rattle.mh_explain.specs.declared.key.Key.TheVariants.{Member, Item}
+use Rattle.mh_explain.specs.declared.key.Key.TheVariants.{Member}
 use Rattle.mh_explain.specs.Forms.{form_at}
 use Rattle.mh_explain.specs.Keys.{field_name}
-use Rattle.mh_explain.specs.Trees.{one_part, list_part, three_arguments, two_arguments, one_argument, items_in, tree_parts}
+use Rattle.mh_explain.specs.Trees.{one_part, items_in, tree_parts}
 
 -- what an object has to have
 abbrev pub required : Field → Form → Part

@@ -13,7 +13,7 @@ use Rattle.mh_text.specs.declared.fault.TextFault.TheVariants.{Input, ReadFailed
 use Rattle.mh_text.specs.declared.json.declarations.Declarations.{Declarations}
 use Rattle.mh_text.specs.declared.json.scope.Scope.{Scope}
 use Rattle.mh_text.specs.Gives.{◌>>=◌, caused, of_definition}
-use Rattle.mh_text.specs.Script.{script_of, declarations_of, step_of, steps_of, points_of, point_names_of, sites_of, site_of, all_sites_of, none_sited}
+use Rattle.mh_text.specs.Script.{script_of, step_of, points_of, point_names_of, sites_of, all_sites_of, none_sited}
 use Rattle.mh_text.specs.declared.json.sites.Sited.{Sited}
 use Rattle.mh_text.specs.Shape.{list_of, to_list}
 use Rattle.mh_text.specs.Shared.{without_shared, with_shared, scope_of, shared_of, all_shared_of}

@@ -1,6 +1,5 @@
 -- The parts of trees and of steps of a script, behind the word that heads them.
-use Rattle.std.specs.Prelude.{ℕ, ◌^◌, ◌-◌, List, [], ◌∷◌, drop, Option, Result, Ok, Err, codes}
-use Rattle.std.specs.Str.{bytes_eq}
+use Rattle.std.specs.Prelude.{ℕ, ◌^◌, ◌-◌, List, [], ◌∷◌, drop, Result, Ok, Err, codes}
 use Rattle.serde_json.specs.Data.{Data, null, boolean, number, string, array, object}
 use Rattle.mh_base.specs.Words.{at_word}
 use Rattle.mh_type.specs.declared.kind.Kind.{Kind}
@@ -10,7 +9,6 @@ use Rattle.mh_site.specs.NamesInOrder.{place_of}
 use Rattle.mh_text.specs.declared.fault.InputFault.{InputFault}
 use Rattle.mh_text.specs.declared.json.declarations.Declarations.{Declarations}
 use Rattle.mh_text.specs.declared.json.scope.Scope.{Scope}
-use Rattle.mh_text.specs.Gives.{◌>>=◌}
 use Rattle.mh_text.specs.Script.{parameters_at}
 use Rattle.mh_text.specs.Shape.{to_list, text_of, count_of}
 use Rattle.mh_text.specs.Trees.{tree_of}

@@ -1,6 +1,3 @@
-use Rattle.std.proofs.Common.{map, ap, sym, ◌∙◌}
-use Rattle.serde_json.specs.View.{view}
-use Rattle.mh_explain.specs.Forms.{items_fault}
 use Rattle.mh_explain.proofs.Items.{list_fault_array}
 use Rattle.mh_explain.proofs.reading.fault_of_list.Goals as goal
 

@@ -1,7 +1,5 @@
 use Rattle.std.proofs.Common.{ap, sym, ◌∙◌, map}
 use Rattle.serde_json.specs.View.{view}
-use Rattle.serde_json.proofs.Views.{view-Array}
-use Rattle.mh_explain.specs.Trees.{items_in}
 use Rattle.mh_explain.proofs.Items.{items_in_array}
 use Rattle.mh_explain.proofs.reading.items.Goals as goal
 

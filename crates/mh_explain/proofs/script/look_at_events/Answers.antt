@@ -1,7 +1,7 @@
 use Rattle.std.proofs.Common.{[], ◌∷◌, Some, ap, sym, ◌∙◌}
 use Rattle.serde_json.specs.View.{view}
 use Rattle.mh_explain.specs.Places.{events_entry}
-use Rattle.mh_explain.proofs.Firsts.{ends_missing, ends_there, leads_on, passes}
+use Rattle.mh_explain.proofs.Firsts.{ends_there, leads_on, passes}
 use Rattle.mh_explain.proofs.Lists.{ends_alike, events_fault_of, under_ok}
 use Rattle.mh_explain.proofs.script.look_at_events.Goals as goal
 

@@ -1,9 +1,8 @@
-use Rattle.std.proofs.Common.{[], ◌∷◌, Some, refl, ap, sym, ◌∙◌}
+use Rattle.std.proofs.Common.{Some, refl, ap, sym, ◌∙◌}
 use Rattle.serde_json.specs.View.{view}
 use Rattle.mh_text.specs.Script.{point_names_of}
-use Rattle.mh_text.specs.Shared.{without_shared, scope_of}
+use Rattle.mh_text.specs.Shared.{without_shared}
 use Rattle.mh_explain.specs.declared.key.Field.TheVariants as field
-use Rattle.mh_explain.specs.Forms.{fault_in}
 use Rattle.mh_explain.specs.Places.{all_shared, at_field}
 use Rattle.mh_explain.proofs.Firsts.{ends_there, leads_on, passes}
 use Rattle.mh_explain.proofs.Lists.{is_there, not_there, shared_fault}

@@ -1,4 +1,4 @@
-use Rattle.std.proofs.Common.{[], ◌∷◌, Some, ap, sym, ◌∙◌}
+use Rattle.std.proofs.Common.{[], Some, ap, sym, ◌∙◌}
 use Rattle.serde_json.specs.View.{view}
 use Rattle.mh_explain.specs.Forms.{fault_in}
 use Rattle.mh_explain.specs.Places.{definition_entry}

@@ -1,4 +1,4 @@
-use Rattle.std.proofs.Common.{[], ◌∷◌, Result, List, sym, ap, ◌∙◌}
+use Rattle.std.proofs.Common.{◌∷◌, Result, List, sym, ap, ◌∙◌}
 use Rattle.serde_json.specs.View.{view}
 use Rattle.mh_site.specs.declared.point.Point.{Point}
 use Rattle.mh_text.specs.declared.fault.InputFault.{InputFault}

@@ -1,10 +1,10 @@
-use Rattle.std.proofs.Common.{◌≡◌, ◌+◌, [], ◌∷◌, drop, map, Some, ap, sym, ◌∙◌}
+use Rattle.std.proofs.Common.{◌+◌, [], ◌∷◌, drop, map, Some, ap, sym, ◌∙◌}
 use Rattle.serde_json.specs.View.{view}
 use Rattle.mh_explain.specs.declared.key.Key.TheVariants.{Item}
-use Rattle.mh_explain.specs.Places.{events, step, entries_of, event_entries, first_faulty, step_entry}
+use Rattle.mh_explain.specs.Places.{events, entries_of, event_entries, first_faulty, step_entry}
 use Rattle.mh_explain.proofs.Faults.{told}
 use Rattle.mh_explain.proofs.Firsts.{passes, leads_on, leads_alike, ends_there}
-use Rattle.mh_explain.proofs.Lists.{at_event, ends_alike, events_entries, item_child, no_more_events, step_fault, under_ok}
+use Rattle.mh_explain.proofs.Lists.{at_event, events_entries, item_child, step_fault, under_ok}
 use Rattle.mh_explain.proofs.script.place_in_events.Goals as goal
 
 pub loop-i-init : goal.loop-i-init

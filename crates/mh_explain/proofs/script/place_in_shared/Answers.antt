@@ -1,15 +1,13 @@
-use Rattle.std.proofs.Common.{◌≡◌, ◌+◌, [], ◌∷◌, drop, map, Ok, Err, Result, ap, sym, ◌∙◌}
+use Rattle.std.proofs.Common.{◌+◌, ◌∷◌, drop, map, Result, ap, sym, ◌∙◌}
 use Rattle.serde_json.specs.View.{view}
-use Rattle.mh_site.specs.declared.site.Site.{Site}
 use Rattle.mh_text.specs.declared.fault.InputFault.{InputFault}
 use Rattle.mh_text.specs.declared.json.scope.Shared.{Shared}
-use Rattle.mh_text.specs.Script.{none_sited, one_sited, site_of}
 use Rattle.mh_text.specs.Shared.{shared_of, with_shared}
 use Rattle.mh_explain.specs.declared.form.Form.TheVariants as form
-use Rattle.mh_explain.specs.Places.{all_shared, all_sites, entries_of, first_faulty, if_read, item_entry, shared_entries, site_entries}
+use Rattle.mh_explain.specs.Places.{all_shared, entries_of, first_faulty, if_read, item_entry, shared_entries}
 use Rattle.mh_explain.proofs.Faults.{known, unknown}
 use Rattle.mh_explain.proofs.Firsts.{leads_alike}
-use Rattle.mh_explain.proofs.Lists.{at_pair, at_site, ends_alike, shared_entries_of, site_entries_of}
+use Rattle.mh_explain.proofs.Lists.{at_pair, ends_alike, shared_entries_of}
 use Rattle.mh_explain.proofs.script.place_in_shared.Goals as goal
 
 pub loop-i-init : goal.loop-i-init

@@ -1,4 +1,4 @@
-use Rattle.std.proofs.Common.{[], ◌∷◌, ◌++◌, Result, sym, ap, ◌∙◌}
+use Rattle.std.proofs.Common.{[], ◌∷◌, Result, sym, ap, ◌∙◌}
 use Rattle.serde_json.specs.View.{view}
 use Rattle.mh_site.specs.declared.version.Version.{Version}
 use Rattle.mh_text.specs.declared.fault.InputFault.{InputFault}

@@ -1,6 +1,4 @@
-use Rattle.std.proofs.Common.{inl, inr, ap, sym, ◌∙◌}
-use Rattle.serde_json.specs.View.{view}
-use Rattle.mh_text.specs.Shared.{scope_of}
+use Rattle.std.proofs.Common.{inl, inr, sym}
 use Rattle.mh_explain.proofs.script.scope_of_sites.Goals as goal
 
 pub returns-in-Ok : goal.returns-in-Ok

@@ -1,6 +1,5 @@
 use Rattle.std.proofs.Common.{[], ◌∷◌, sym, ap, ◌∙◌}
 use Rattle.serde_json.specs.View.{view}
-use Rattle.mh_explain.specs.Closed.{declared_by}
 use Rattle.mh_explain.specs.Forms.{fault_in}
 use Rattle.mh_explain.specs.Places.{definition_entry, entries_of, if_read, first_faulty, schedule_entries, script}
 use Rattle.mh_explain.proofs.Firsts.{passes}
