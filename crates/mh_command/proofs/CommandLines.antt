@@ -1,5 +1,5 @@
 -- What words are taken for.
-use Rattle.std.proofs.Common.{◌≡◌, ◌⊎◌, inl, inr, ◌∙◌, sym, ap, subst, refl, ◌&&◌, ℕ, List, [], ◌∷◌, Option, true, codes}
+use Rattle.std.proofs.Common.{◌≡◌, ◌⊎◌, inl, inr, ◌∙◌, sym, ap, subst, refl, ◌&&◌, ℕ, List, [], ◌∷◌, Option, true, codes, Bool, false}
 use Rattle.clap.specs.Simple.{built, entered, names_of}
 use Rattle.clap.specs.Faults.{built_fault}
 use Rattle.clap.specs.Takes.{built_takes}
@@ -11,7 +11,7 @@ use Rattle.clap.specs.declared.error.kind.ErrorKind.{ErrorKind}
 use Rattle.clap.specs.declared.error.kind.ErrorKind.TheVariants.{DisplayHelp, DisplayVersion, OutOfMemory}
 use Rattle.clap.specs.declared.parser.matches.ArgMatches.{ArgMatches}
 use Rattle.clap.proofs.OnLiterals.{clap_on_literals}
-use Rattle.mh_command.specs.CommandLine.{program, AsksFor, AsksHelp, AsksVersion, IsNamed}
+use Rattle.mh_command.specs.CommandLine.{program, run_words, AsksFor, AsksHelp, AsksVersion, IsNamed}
 use Rattle.mh_command.specs.declared.request.Request.{Request}
 use Rattle.mh_command.specs.declared.request.Request.TheVariants.{Run, Check, Plan, Stress}
 
@@ -20,16 +20,17 @@ unfolding clap_on_literals
 is_plain = refl
 
 -- the words of `run` and `check` are taken
-taken_run : is_simple program && built_takes (built program) nothing_held (codes "run" ∷ []) ≡ true
+taken_run : (report : Bool) → is_simple program && built_takes (built program) nothing_held (run_words report) ≡ true
 unfolding clap_on_literals
-taken_run = refl
+taken_run true = refl
+taken_run false = refl
 
 taken_check : is_simple program && built_takes (built program) nothing_held (codes "check" ∷ []) ≡ true
 unfolding clap_on_literals
 taken_check = refl
 
 pub is_taken : (request : Request) (words : List (List ℕ)) → AsksFor request words → takes program words ≡ true
-is_taken Run words is = subst (λ after. is_simple program && built_takes (built program) nothing_held after ≡ true) (sym is) taken_run
+is_taken (Run options) words is = subst (λ after. is_simple program && built_takes (built program) nothing_held after ≡ true) (sym is) (taken_run options.report)
 is_taken Check words is = subst (λ after. is_simple program && built_takes (built program) nothing_held after ≡ true) (sym is) taken_check
 is_taken (Plan options) words is = is.0
 is_taken (Stress options) words is = is.0
@@ -37,16 +38,17 @@ is_taken (Stress options) words is = is.0
 abbrev entered_by : List (List ℕ) → Option (Text × List Row)
 entered_by after = entered (built program) (stop_after (built program).top.rules (names_of (built program)) after)
 
-named_run : IsNamed Run (entered_by (codes "run" ∷ []))
+named_run : (report : Bool) → IsNamed (Run (record { report = report })) (entered_by (run_words report))
 unfolding clap_on_literals
-named_run = refl
+named_run true = (refl, refl)
+named_run false = (refl, refl)
 
 named_check : IsNamed Check (entered_by (codes "check" ∷ []))
 unfolding clap_on_literals
 named_check = refl
 
 is_named : (request : Request) (words : List (List ℕ)) → AsksFor request words → IsNamed request (subcommand_of program words)
-is_named Run words is = subst (λ after. IsNamed Run (entered_by after)) (sym is) named_run
+is_named (Run options) words is = subst (λ after. IsNamed (Run options) (entered_by after)) (sym is) (named_run options.report)
 is_named Check words is = subst (λ after. IsNamed Check (entered_by after)) (sym is) named_check
 is_named (Plan options) words is = is.1
 is_named (Stress options) words is = is.1

@@ -15,6 +15,7 @@ use Rattle.mh_text.specs.declared.fault.InputFault.TheVariants.{NoMemory, TooLon
 use Rattle.mh_text.specs.declared.fault.TextFault.{TextFault}
 use Rattle.mh_text.specs.declared.fault.TextFault.TheVariants.{Input, ReadFailed, WriteFailed, NoReader}
 use Rattle.mh_text.specs.declared.json.script.Script.{Script}
+use Rattle.mh_text.specs.declared.streams.run.RunOptions.{RunOptions}
 use Rattle.mh_command.specs.Answers.{Answers, EndsIn, FailsIn, IsAnswerTo, Works, output_alone, turned_down}
 use Rattle.mh_command.specs.Statuses.{status_told}
 use Rattle.mh_command.specs.Streams.{IsDone, IsTold}
@@ -31,7 +32,7 @@ nothing_appended (Some xs) (Some ys) kept = kept ∙ sym (append-nil xs)
 
 -- a request that memory kept from its work
 pub nothing_done : (request : Request) (input old : Option (List ℕ)) (A B : Type 0) → FailsIn request input old old A B (outside no_memory)
-nothing_done Run input old A B = inl (Keeps-refl old, inl refl)
+nothing_done (Run options) input old A B = inl (Keeps-refl old, inl refl)
 nothing_done Check input old A B = inl (Keeps-refl old, inl refl)
 nothing_done (Plan options) input old A B = inl (Keeps-refl old, inl refl)
 nothing_done (Stress options) input old A B = inl (Keeps-refl old, inl (inl refl))
@@ -76,14 +77,21 @@ module _ (old mid new : Option (List ℕ)) (kept : Keeps mid new) where
   ends_kept m steps n (replies, reply, last, front, rest, count, left, run, line, written) =
       (replies, reply, last, front, rest, count, left, run, line, Appends-kept old mid new (lines_of m.setting.definition replies ++ front) written kept)
 
-  early_kept : (script : Script) (B : Type 0) (e : Fault) → EndsEarly script old mid B e → EndsEarly script old new B e
-  early_kept script B e (inl (same, memory)) = inl (Keeps-trans old mid new same kept, memory)
-  early_kept script B e (inr (end, ends)) = inr (end, ends_kept (first script) _ _ ends)
+  report_kept : (options : RunOptions) (m : MachineState) (before : Option (List ℕ)) (B : Type 0) (e : Fault)
+      → output.FailsReport options m before mid B e → output.FailsReport options m before new B e
+  report_kept options m before B e (asked, inl (same, memory)) = (asked, inl (Keeps-trans before mid new same kept, memory))
+  report_kept options m before B e (asked, inr (is, failed, (front, rest, left, split, begun))) =
+      (asked, inr (is, failed, (front, rest, left, split, Appends-kept before mid new front begun kept)))
+
+  early_kept : (options : RunOptions) (script : Script) (B : Type 0) (e : Fault) → EndsEarly options script old mid B e → EndsEarly options script old new B e
+  early_kept options script B e (inl (same, memory)) = inl (Keeps-trans old mid new same kept, memory)
+  early_kept options script B e (inr (inl (end, ends))) = inr (inl (end, ends_kept (first script) _ _ ends))
+  early_kept options script B e (inr (inr (last, between, runs, fails))) = inr (inr (last, between, runs, report_kept options last between B e fails))
 
   fails_kept : (request : Request) (input : Option (List ℕ)) (A B : Type 0) (e : Fault) → FailsIn request input old mid A B e → FailsIn request input old new A B e
-  fails_kept Run input A B e (inl (same, unread)) = inl (Keeps-trans old mid new same kept, unread)
-  fails_kept Run None A B e (inr known) = inr known
-  fails_kept Run (Some bytes) A B e (inr (script, is, early)) = inr (script, is, early_kept script B e early)
+  fails_kept (Run options) input A B e (inl (same, unread)) = inl (Keeps-trans old mid new same kept, unread)
+  fails_kept (Run options) None A B e (inr known) = inr known
+  fails_kept (Run options) (Some bytes) A B e (inr (script, is, early)) = inr (script, is, early_kept options script B e early)
   fails_kept Check input A B e (inl (same, unread)) = inl (Keeps-trans old mid new same kept, unread)
   fails_kept Check input A B e (inr (verdict, found, (is, failed, (front, rest, left, split, begun)))) =
       inr (verdict, found, (is, failed, (front, rest, left, split, Appends-kept old mid new front begun kept)))
@@ -111,13 +119,15 @@ module _ (old new : Option (List ℕ)) (A B : Type 0) (e : Fault) (small : statu
 
   refuses_input : (request : Request) (input : Option (List ℕ)) → FailsIn request input old new A B e → IfSome input (IsTurned old new e request)
   refuses_input request None fails = tt
-  refuses_input Run (Some bytes) (inl (kept, inl memory)) = absurd (not_outside no_memory (omega arith) memory)
-  refuses_input Run (Some bytes) (inl (kept, inr (inl (read, failed)))) = absurd (not_outside ReadFailed (omega arith) read)
-  refuses_input Run (Some bytes) (inl (kept, inr (inr (inl fault)))) = (inr (e, fault, refl), kept)
-  refuses_input Run (Some bytes) (inl (kept, inr (inr (inr (memory, reached))))) = absurd (not_of no_memory (omega arith) memory)
-  refuses_input Run (Some bytes) (inr (script, is, inl (kept, memory))) = absurd (not_outside no_memory (omega arith) memory)
-  refuses_input Run (Some bytes) (inr (script, is, inr (inl memory, ends))) = absurd (not_of no_memory (omega arith) memory)
-  refuses_input Run (Some bytes) (inr (script, is, inr (inr (write, failed), ends))) = absurd (not_of WriteFailed (omega arith) write)
+  refuses_input (Run options) (Some bytes) (inl (kept, inl memory)) = absurd (not_outside no_memory (omega arith) memory)
+  refuses_input (Run options) (Some bytes) (inl (kept, inr (inl (read, failed)))) = absurd (not_outside ReadFailed (omega arith) read)
+  refuses_input (Run options) (Some bytes) (inl (kept, inr (inr (inl fault)))) = (inr (e, fault, refl), kept)
+  refuses_input (Run options) (Some bytes) (inl (kept, inr (inr (inr (memory, reached))))) = absurd (not_of no_memory (omega arith) memory)
+  refuses_input (Run options) (Some bytes) (inr (script, is, inl (kept, memory))) = absurd (not_outside no_memory (omega arith) memory)
+  refuses_input (Run options) (Some bytes) (inr (script, is, inr (inl (inl memory, ends)))) = absurd (not_of no_memory (omega arith) memory)
+  refuses_input (Run options) (Some bytes) (inr (script, is, inr (inl (inr (write, failed), ends)))) = absurd (not_of WriteFailed (omega arith) write)
+  refuses_input (Run options) (Some bytes) (inr (script, is, inr (inr (last, between, runs, (asked, inl (kept, memory)))))) = absurd (not_outside no_memory (omega arith) memory)
+  refuses_input (Run options) (Some bytes) (inr (script, is, inr (inr (last, between, runs, (asked, inr (write, failed, begun)))))) = absurd (not_outside WriteFailed (omega arith) write)
   refuses_input Check (Some bytes) (inl (kept, inl memory)) = absurd (not_outside no_memory (omega arith) memory)
   refuses_input Check (Some bytes) (inl (kept, inr (inl (read, failed)))) = absurd (not_outside ReadFailed (omega arith) read)
   refuses_input Check (Some bytes) (inl (kept, inr (inr fault))) = (inr (e, fault, refl), kept)

@@ -5,8 +5,9 @@ use Rattle.clap.specs.Words.{ReadsOne, one_text, rows_of}
 use Rattle.clap.specs.declared.parser.matches.Found.{Found}
 use Rattle.clap.proofs.WalkLemmas.{one_text-rows}
 use Rattle.mh_text.specs.declared.streams.planning.PlanOptions.{PlanOptions}
+use Rattle.mh_text.specs.declared.streams.run.RunOptions.{RunOptions}
 use Rattle.mh_stress.specs.declared.stress.StressOptions.{StressOptions}
-use Rattle.mh_command.specs.CommandLine.{AreOptions, AreStressed, IsNumber, MayBeNumber, truth_text}
+use Rattle.mh_command.specs.CommandLine.{AreOptions, AreStressed, IsNumber, IsReported, MayBeNumber, truth_text}
 
 -- a number that has so many bits is read as what it is
 number_read : {E : Type 0} (bits : ℕ) (G : List ℕ → Result ℕ E → Type 0) → ((t : List ℕ) (x : Result ℕ E) → G t x → ParsesUnsigned bits 10 t x)
@@ -29,6 +30,11 @@ may_be_read bits G only (Some t) None r none reads number small = absurd number
 flag_read : (o : Option (List ℕ)) (b : Bool) (r : Bool) → (o ≡ Some (codes "true") → r ≡ true) → (o ≡ Some (codes "false") → r ≡ false) → o ≡ Some (truth_text b) → r ≡ b
 flag_read o true r on off is = on is
 flag_read o false r on off is = off is
+
+-- what the words after `run` say
+pub report_is : (f : Found) (options : RunOptions) → IsReported options (rows_of f) → (r : Bool) → (one_text f (codes "report") ≡ Some (codes "true") → r ≡ true)
+    → (one_text f (codes "report") ≡ Some (codes "false") → r ≡ false) → r ≡ options.report
+report_is f options is r on off = flag_read _ options.report r on off (one_text-rows f (codes "report") ∙ is)
 
 module _ (f : Found) (options : PlanOptions) (are : AreOptions options (rows_of f)) where
   pub workers_are : {E : Type 0} (G : List ℕ → Result ℕ E → Type 0) → ((t : List ℕ) (x : Result ℕ E) → G t x → ParsesUnsigned 8 10 t x)

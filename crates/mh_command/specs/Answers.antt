@@ -4,11 +4,11 @@ use Rattle.std.specs.Io.KnownBytes.{Appends}
 use Rattle.mh_core.specs.declared.event.Event.{Event}
 use Rattle.mh_text.specs.Checks.{IsClaimFault, IsVerdict, FailsCheck, verdict_line}
 use Rattle.mh_text.specs.Faults.{fault_line}
-use Rattle.mh_text.specs.Lines.{lines_of}
-use Rattle.mh_text.specs.Output.{script_of_input, first, outside, IsScriptFault, Failed}
+use Rattle.mh_text.specs.Output.{script_of_input, first, outside, run_text, IsScriptFault, Failed}
 use Rattle.mh_text.specs.declared.fault.Fault.{Fault}
 use Rattle.mh_text.specs.Planning.{IsPlanned, IsProblemFault, FailsPlan}
 use Rattle.mh_text.specs.declared.streams.planning.PlanOptions.{PlanOptions}
+use Rattle.mh_text.specs.declared.streams.run.RunOptions.{RunOptions}
 use Rattle.mh_text.specs.declared.json.script.Script.{Script}
 use Rattle.mh_text.specs.Steps.{Told, Run}
 use Rattle.mh_text.specs.declared.lines.verdict.Verdict.{Verdict}
@@ -32,11 +32,11 @@ output_alone status text = record { status = status; output = text; errors = [] 
 abbrev pub turned_down : Fault → Answer
 turned_down e = record { status = 1; output = []; errors = fault_line e }
 
--- a script: the lines of a legal run of it; else its first fault
-abbrev pub IsRunAnswer : List ℕ → Answer → Type 0
-IsRunAnswer input answer =
+-- a script: the lines of a legal run of it, and its report, where it is asked for; else its first fault
+abbrev pub IsRunAnswer : RunOptions → List ℕ → Answer → Type 0
+IsRunAnswer options input answer =
     ((script : Script) × (replies : List Told) × (last : List Event) × (script_of_input input ≡ Ok script)
-    × Run (first script).setting (first script).history script.steps replies last × (answer ≡ output_alone 0 (lines_of script.definition replies)))
+    × Run (first script).setting (first script).history script.steps replies last × (answer ≡ output_alone 0 (run_text options (first script).setting replies last)))
     ⊎ ((e : Fault) × IsScriptFault input e × (answer ≡ turned_down e))
 
 -- a problem with a plan: the line of what is found of the plan; else the first fault
@@ -59,7 +59,7 @@ IsStressAnswer options input answer =
 
 -- what a request is answered with where no stream fails and memory is to be had
 abbrev pub IsAnswerTo : Request → List ℕ → Answer → Type 0
-IsAnswerTo request.Run = IsRunAnswer
+IsAnswerTo (request.Run options) = IsRunAnswer options
 IsAnswerTo request.Check = IsCheckAnswer
 IsAnswerTo (request.Plan options) = IsPlanAnswer options
 IsAnswerTo (request.Stress options) = IsStressAnswer options
@@ -81,7 +81,7 @@ Works request input old new status =
 
 -- What the output is left with where a request ends in a fault of its own.
 abbrev pub FailsIn : Request → Option (List ℕ) → Option (List ℕ) → Option (List ℕ) → Type 0 → Type 0 → Fault → Type 0
-FailsIn request.Run = Failed
+FailsIn (request.Run options) = Failed options
 FailsIn request.Check = FailsCheck
 FailsIn (request.Plan options) = FailsPlan options
 FailsIn (request.Stress options) = FailsStress options

@@ -8,6 +8,7 @@ use Rattle.clap.specs.declared.builder.value_parser.ValueParser.TheVariants.{Sig
 use Rattle.clap.specs.declared.error.kind.ErrorKind.{ErrorKind}
 use Rattle.mh_text.specs.Script.{most_workers}
 use Rattle.mh_text.specs.declared.streams.planning.PlanOptions.{PlanOptions}
+use Rattle.mh_text.specs.declared.streams.run.RunOptions.{RunOptions}
 use Rattle.mh_stress.specs.Stress.{AreLawful, most_rounds}
 use Rattle.mh_stress.specs.declared.stress.StressOptions.{StressOptions}
 use Rattle.mh_command.specs.Statuses.{status_answered}
@@ -44,15 +45,18 @@ rounds_rule = record (new_rule (codes "rounds")) {
 abbrev pub flag_rule : List ℕ → Rule
 flag_rule name = record (new_rule name) { long = Some name; action = Some SetTrue }
 
+abbrev pub run_app : App
+run_app = with_rule (new_app (codes "run")) (flag_rule (codes "report"))
+
 abbrev pub plan_app : App
 plan_app = with_rule (with_rule (with_rule (new_app (codes "plan")) workers_rule) (flag_rule (codes "certificate"))) (flag_rule (codes "phases"))
 
 abbrev pub stress_app : App
 stress_app = with_rule (with_rule (new_app (codes "stress")) callers_rule) rounds_rule
 
--- the program with its subcommands that have no options
+-- the program with its first two subcommands
 abbrev pub plain_app : App
-plain_app = with_subcommand (with_subcommand root_app (new_app (codes "run")).top) (new_app (codes "check")).top
+plain_app = with_subcommand (with_subcommand root_app run_app.top) (new_app (codes "check")).top
 
 -- the program
 abbrev pub program : App
@@ -72,6 +76,10 @@ IsNumber None n = ⊥
 abbrev pub truth_text : Bool → List ℕ
 truth_text true = true_text
 truth_text false = false_text
+
+-- what was found after `run` says these options
+abbrev pub IsReported : RunOptions → List Row → Type 0
+IsReported options rows = one_of (codes "report") rows ≡ Some (truth_text options.report)
 
 -- what was found after `plan` says these options
 pub record AreOptions (options : PlanOptions) (rows : List Row) : Type 0 where
@@ -95,16 +103,21 @@ pub record AreStressed (options : StressOptions) (rows : List Row) : Type 0 wher
 
 -- the subcommand of a request, with what was found after it
 abbrev pub IsNamed : Request → Option (List ℕ × List Row) → Type 0
-IsNamed Run (Some (name, rows)) = name ≡ codes "run"
+IsNamed (Run options) (Some (name, rows)) = (name ≡ codes "run") × IsReported options rows
 IsNamed Check (Some (name, rows)) = name ≡ codes "check"
 IsNamed (Plan options) (Some (name, rows)) = (name ≡ codes "plan") × AreOptions options rows
 IsNamed (Stress options) (Some (name, rows)) = (name ≡ codes "stress") × AreStressed options rows
 IsNamed request None = ⊥
 
--- The words, the program's name first, are those of this request: `mhlink run`; or, in any order that clap takes,
--- `mhlink plan --workers 2 --certificate` and `mhlink stress --rounds 3`.
+-- `mhlink run`, with the report or without it
+abbrev pub run_words : Bool → List (List ℕ)
+run_words true = codes "run" ∷ codes "--report" ∷ []
+run_words false = codes "run" ∷ []
+
+-- The words, the program's name first, are those of this request: `mhlink run` and `mhlink check`; or, in any order that clap
+-- takes, `mhlink plan --workers 2 --certificate` and `mhlink stress --rounds 3`.
 abbrev pub AsksFor : Request → List (List ℕ) → Type 0
-AsksFor Run words = drop 1 words ≡ codes "run" ∷ []
+AsksFor (Run options) words = drop 1 words ≡ run_words options.report
 AsksFor Check words = drop 1 words ≡ codes "check" ∷ []
 AsksFor (Plan options) words = (takes program words ≡ true) × IsNamed (Plan options) (subcommand_of program words)
 AsksFor (Stress options) words = (takes program words ≡ true) × IsNamed (Stress options) (subcommand_of program words)

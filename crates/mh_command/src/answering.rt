@@ -42,8 +42,8 @@ pub(crate) fn work<T: Threads + Wait + Sync, R: Read, W: Write>(
         out.old.failures out.new.failures }
 {
     match request {
-        Request::Run => {
-            run_bytes(rt, alloc, reader, out)?;
+        Request::Run(options) => {
+            run_bytes(rt, alloc, options, reader, out)?;
             Ok(DONE)
         }
         Request::Check => {

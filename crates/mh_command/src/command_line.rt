@@ -54,13 +54,13 @@ fn perform<T: Threads + Wait + Sync, R: Read, W: Write, E: Write>(
 
 /// Runs one command line, of which the first word is the program's name, and answers the status.
 ///
-/// `mhlink run` reads a script from `reader`, and writes the line of each reply to `out`. `mhlink
-/// check` reads a problem and a plan, and writes to `out` whether the plan is accepted. `mhlink
-/// plan` reads a problem, and writes its best plan to `out`; it takes `--workers N`, N from 1 to
-/// 64, `--certificate` and `--phases`, and starts threads by `rt`. `mhlink stress` reads a script,
-/// runs its calls in threads, and writes the sums of their hits to `out`; it takes `--workers N`, N
-/// from 1 to 64, and `--rounds N`, N from 1 to 1,000,000. A fault is one line on `err`. The
-/// statuses: 0 done, also help and the version, which go to `out`; 1 the input is refused, or its
+/// `mhlink run` reads a script from `reader`, and writes the line of each reply to `out`; it takes
+/// `--report`. `mhlink check` reads a problem and a plan, and writes to `out` whether the plan is
+/// accepted. `mhlink plan` reads a problem, and writes its best plan to `out`; it takes `--workers
+/// N`, N from 1 to 64, `--certificate` and `--phases`, and starts threads by `rt`. `mhlink stress`
+/// reads a script, runs its calls in threads, and writes the sums of their hits to `out`; it takes
+/// `--workers N`, N from 1 to 64, and `--rounds N`, N from 1 to 1,000,000. A fault is one line on
+/// `err`. The statuses: 0 done, also help and the version, which go to `out`; 1 the input is refused, or its
 /// plan; 2 the command line is wrong, and nothing is read; 3 a read, a write or a flush failed; 4
 /// memory ran out outside an event, or readers of a published world.
 pub fn command<T: Threads + Wait + Sync, S: AsStr, R: Read, W: Write, E: Write>(

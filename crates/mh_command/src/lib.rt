@@ -13,6 +13,6 @@ mod status;
 
 pub use command_line::command;
 pub use mh_stress::StressOptions;
-pub use mh_text::{PlanOptions, Watched};
+pub use mh_text::{PlanOptions, RunOptions, Watched};
 pub use request::Request;
 pub use status::{COMMAND_LINE, DONE, IO_FAILED, NO_MEMORY, REFUSED};

@@ -4,13 +4,14 @@ ghost use Rattle.clap.specs.Words.{app_of, fault_of, found_of, kind_of, new_app,
 ghost use Rattle.clap.specs.declared.builder.command.Command.TheViews.{out-Command};
 ghost use Rattle.clap.specs.declared.error.kind.ErrorKind.{ErrorKind};
 ghost use Rattle.mh_text.specs.Script.{most_workers};
+ghost use Rattle.mh_text.specs.declared.streams.run.RunOptions.{RunOptions};
 ghost use Rattle.mh_stress.specs.Stress.{AreLawful};
 ghost use Rattle.mh_stress.specs.declared.stress.StressOptions.{StressOptions};
-ghost use Rattle.mh_command.specs.CommandLine.{root_app, plain_app, plan_app, stress_app, program, workers_rule, callers_rule, rounds_rule, flag_rule, AreOptions, AreStressed, AsksFor, HasWorkers, IsNamed};
+ghost use Rattle.mh_command.specs.CommandLine.{root_app, plain_app, run_app, plan_app, stress_app, program, workers_rule, callers_rule, rounds_rule, flag_rule, AreOptions, AreStressed, AsksFor, IsReported, HasWorkers, IsNamed};
 
 use clap::{Arg, ArgAction, ArgMatches, Command, Error, value_parser};
 use mh_stress::{MOST_ROUNDS, StressOptions};
-use mh_text::PlanOptions;
+use mh_text::{PlanOptions, RunOptions};
 use std::alloc::{AllocError, Global};
 use std::convert::AsStr;
 
@@ -18,7 +19,7 @@ use std::convert::AsStr;
 #[derive(Clone, Copy, Debug, PartialEq, Eq)]
 pub enum Request {
     /// `mhlink run`: the lines of a script.
-    Run,
+    Run(RunOptions),
     /// `mhlink check`: whether a plan is best for its problem.
     Check,
     /// `mhlink plan`: the best plan of a problem.
@@ -46,7 +47,7 @@ trees, sites), a number of workers, and events. Each event gets one line on stan
 output. A fault in the script runs nothing, and is one line on standard error.
 
 Example:
-  mhlink run < examples/first-calls.json";
+  mhlink run --report < examples/first-calls.json";
 
 /// What `mhlink check --help` ends with.
 const AFTER_CHECK: &str = "\
@@ -72,15 +73,6 @@ events but flushes are made once. Then the hits of all links are added up.
 
 Example:
   mhlink stress --workers 2 --rounds 1000 < examples/stress-calls.json";
-
-fn run_command<'a>(alloc: Global) -> Command<'a>
-    ensures app { app_of result ≡ new_app (codes "run") }
-    ensures local { (out-Command result).has_globals ≡ false }
-{
-    Command::new(alloc, "run")
-        .about("Runs the script on standard input, and writes a line for each event")
-        .after_help(AFTER_RUN)
-}
 
 fn check_command<'a>(alloc: Global) -> Command<'a>
     ensures app { app_of result ≡ new_app (codes "check") }
@@ -124,6 +116,21 @@ fn flag<'a>(alloc: Global, name: &'a str, help: &'a str) -> Arg<'a>
         .long(name)
         .action(ArgAction::SetTrue)
         .help(help)
+}
+
+fn run_command<'a>(alloc: Global) -> Result<Command<'a>, AllocError>
+    ensures app { IfOk result (λ c. app_of c ≡ run_app) }
+    ensures local { IfOk result (λ c. (out-Command c).has_globals ≡ false) }
+{
+    let command = Command::new(alloc, "run")
+        .about("Runs the script on standard input, and writes a line for each event")
+        .after_help(AFTER_RUN);
+    let report = flag(
+        alloc,
+        "report",
+        "Writes what stands at each point, site and link in the end",
+    );
+    with_option(command, report)
 }
 
 fn plan_command<'a>(alloc: Global) -> Result<Command<'a>, AllocError>
@@ -197,12 +204,12 @@ fn root_command<'a>(alloc: Global) -> Command<'a>
         .subcommand_required(true)
 }
 
-/// The program with its subcommands that have no options.
+/// The program with its first two subcommands.
 fn plain_command<'a>(alloc: Global) -> Result<Command<'a>, AllocError>
     ensures app { IfOk result (λ c. app_of c ≡ plain_app) }
 {
     root_command(alloc)
-        .subcommand(run_command(alloc))?
+        .subcommand(run_command(alloc)?)?
         .subcommand(check_command(alloc))
 }
 
@@ -213,6 +220,16 @@ fn build<'a>(alloc: Global) -> Result<Command<'a>, AllocError>
     plain_command(alloc)?
         .subcommand(plan_command(alloc)?)?
         .subcommand(stress_command(alloc)?)
+}
+
+/// The options of the words after `run`.
+fn run_options_of(matches: &ArgMatches) -> RunOptions
+    ensures value { (options : RunOptions) → IsReported options (rows_of (found_of matches.now))
+        → result ≡ options }
+{
+    RunOptions {
+        report: matches.get_flag("report"),
+    }
 }
 
 /// The options of the words after `plan`; none where there are not from 1 to 64 workers, which clap
@@ -279,7 +296,7 @@ fn request_of(matches: &ArgMatches) -> Option<Request>
     ensures bounded { IfSome result HasWorkers }
 {
     match matches.subcommand()? {
-        ("run", _) => Some(Request::Run),
+        ("run", options) => Some(Request::Run(run_options_of(options))),
         ("check", _) => Some(Request::Check),
         ("plan", options) => Some(Request::Plan(options_of(options)?)),
         ("stress", options) => Some(Request::Stress(stress_options_of(options)?)),

@@ -1,6 +1,6 @@
 //! Readers and writers that fail in mid-stream.
 use mh_command::command;
-use mh_text::{Fault, TextFault, Watched, run_bytes};
+use mh_text::{Fault, RunOptions, TextFault, Watched, run_bytes};
 use std::alloc::Global;
 use std::io::{self, ErrorKind, Read, Write};
 use std::sync::Wait;
@@ -76,6 +76,9 @@ refused 9 OldPlan 2
 install 2 linked 0 skipped 0
 ";
 
+/// A run without a report.
+const PLAIN: RunOptions = RunOptions { report: false };
+
 /// What a run answers whose reader fails after so many reads, what it wrote, and how many failures
 /// of reading there were.
 fn run_from<T: Threads + Sync>(
@@ -88,7 +91,7 @@ fn run_from<T: Threads + Sync>(
         reads_left,
     });
     let mut writer = Watched::new(Vec::new(alloc));
-    let answer = run_bytes(rt, alloc, &mut reader, &mut writer);
+    let answer = run_bytes(rt, alloc, PLAIN, &mut reader, &mut writer);
     let failed = reader.failures() != 0 || writer.failures() != 0;
     (answer, writer.inner, failed)
 }
@@ -188,7 +191,7 @@ fn run_into<T: Threads + Sync>(
         room,
         takes_none,
     });
-    let answer = run_bytes(rt, alloc, &mut reader, &mut writer);
+    let answer = run_bytes(rt, alloc, PLAIN, &mut reader, &mut writer);
     drop(writer);
     if LINES.as_bytes().starts_with(held.as_slice()) {
         Ok((answer, held.len()))

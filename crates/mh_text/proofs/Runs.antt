@@ -1,6 +1,6 @@
 -- Runs, and the bytes that they write.
-use Rattle.std.proofs.Common.{◌≡◌, ℕ, ◌+◌, ◌<◌, List, [], ◌∷◌, ◌++◌, length, take, get_or, Option, Some, None, Result, Ok, Err, Bool, true, false, refl, sym, ap, ◌∙◌, subst, inr, IfErr, MatchResult, rules}
-use Rattle.std.proofs.lemmas.List.{take_more, flat_map_more}
+use Rattle.std.proofs.Common.{◌≡◌, ℕ, ◌+◌, ◌<◌, List, [], ◌∷◌, ◌++◌, length, take, get_or, Option, Some, None, Result, Ok, Err, Bool, true, false, refl, sym, ap, ◌∙◌, subst, inl, inr, IfErr, OnOk, MatchResult, rules}
+use Rattle.std.proofs.lemmas.List.{append-nil, take_more, flat_map_more}
 use Rattle.std.proofs.Math.Seq.{take-length}
 use Rattle.std.proofs.lemmas.Str.{is_utf8-from_IsUtf8, IsUtf8-from_is_utf8}
 use Rattle.std.proofs.KnownBytes.{Appends-trans}
@@ -16,10 +16,12 @@ use Rattle.mh_site.specs.Defined.{DefinitionData}
 use Rattle.mh_text.specs.declared.fault.Fault.{Fault}
 use Rattle.mh_text.specs.declared.json.script.Script.{Script}
 use Rattle.mh_text.specs.declared.json.step.Step.{Step}
-use Rattle.mh_text.specs.Bytes.{AppendsFront}
+use Rattle.mh_text.specs.Bytes.{AppendsFront, HasFailed}
 use Rattle.mh_text.specs.Inputs.{json_in}
 use Rattle.mh_text.specs.Steps.{Told, Takes, Run}
-use Rattle.mh_text.specs.Output.{first, EndsIn, EndsEarly, IsEnd}
+use Rattle.mh_text.specs.declared.streams.run.RunOptions.{RunOptions}
+use Rattle.mh_text.specs.Output.{first, report_where, with_report, AppendsRun, EndsIn, EndsEarly, FailsReport, IsEnd, RunsTo}
+use Rattle.mh_text.specs.Report.{report_text}
 
 run_push : (x : Setting) (h : List Event) (steps : List Step) (replies : List Told) (mid : List Event) (step : Step) (told : Told) (new : List Event)
     → Run x h steps replies mid → Takes x mid step told new → Run x h (steps ++ step ∷ []) (replies ++ told ∷ []) new
@@ -74,10 +76,36 @@ json_absent_at bytes false e none = rw e refl
 pub json_absent : (bytes : List ℕ) → (IsUtf8 bytes → read bytes ≡ None) → json_in bytes ≡ Err fault.NotJson
 json_absent bytes none = json_absent_at bytes (is_utf8 bytes) refl none
 
--- a run that ended in the line of a step ended early
-pub ends_early : {X : Type 0} (script : Script) (machine : MachineState) (steps : List Step) (r : Result X Fault) (old new : Option (List ℕ)) (WriteHasFailed : Type 0)
-    → machine ≡ first script → steps ≡ script.steps → IfErr r (λ e. IsEnd WriteHasFailed e.kind) → IfErr r (λ e. EndsIn machine steps e.at old new)
-    → IfErr r (EndsEarly script old new WriteHasFailed)
-ends_early script machine steps (Ok x) old new WriteHasFailed opened same kind ends = search rules
-ends_early script machine steps (Err e) old new WriteHasFailed opened same kind ends =
-    inr (kind, subst (λ m. EndsIn m script.steps e.at old new) opened (subst (λ ss. EndsIn machine ss e.at old new) same ends))
+-- lines, and the report behind them, where it is asked for
+report_behind : (b : Bool) (x : Setting) (last : MachineState) (lines : List ℕ) (o p q : Option (List ℕ)) → last.setting ≡ x → Appends o p lines → Appends p q (report_where b last)
+    → Appends o q (with_report b lines (record { setting = x; history = last.history }))
+report_behind true x last lines o p q same before report =
+    subst (λ (y : Setting). Appends o q (lines ++ report_text (record { setting = y; history = last.history }))) same (Appends-trans o p q lines (report_text last) before report)
+report_behind false x last lines o p q same before report =
+    subst (Appends o q) (append-nil lines) (Appends-trans o p q lines [] before report)
+
+-- a script's machine and steps, as they were opened
+module _ (options : RunOptions) (script : Script) (machine : MachineState) (steps : List Step) (opened : machine ≡ first script) (same : steps ≡ script.steps) where
+  runs_script : (last : MachineState) (old new : Option (List ℕ)) → RunsTo machine steps last old new → RunsTo (first script) script.steps last old new
+  runs_script last old new runs =
+      subst (λ (m : MachineState). RunsTo m script.steps last old new) opened (subst (λ (ss : List Step). RunsTo machine ss last old new) same runs)
+
+  -- a whole run, with its report
+  pub run_written : {X : Type 0} (r : Result X Fault) (last : MachineState) (o p q : Option (List ℕ)) → RunsTo machine steps last o p → OnOk r (Appends p q (report_where options.report last))
+      → OnOk r (AppendsRun options (first script) script.steps o q)
+  run_written (Err e) last o p q runs report = search rules
+  run_written (Ok x) last o p q runs report =
+      let (replies, run, setting, lines) = runs_script last o p runs in
+      (replies, last.history, run, report_behind options.report (first script).setting last (lines_of script.definition replies) o p q setting lines report)
+
+  -- a run that ended in the line of a step ended early
+  pub early_in_line : (old new : Option (List ℕ)) (WriteHasFailed : Type 0) (e : Fault) → IsEnd WriteHasFailed e.kind → EndsIn machine steps e.at old new → EndsEarly options script old new WriteHasFailed e
+  early_in_line old new WriteHasFailed e kind ends =
+      inr (inl (kind, subst (λ (m : MachineState). EndsIn m script.steps e.at old new) opened (subst (λ (ss : List Step). EndsIn machine ss e.at old new) same ends)))
+
+  -- and so did one that ended in its report
+  pub early_in_report : {X : Type 0} (r : Result X Fault) (last : MachineState) (o p q : Option (List ℕ)) (before between after : ℕ) → between ≡ before → RunsTo machine steps last o p
+      → IfErr r (FailsReport options last p q (HasFailed between after)) → IfErr r (EndsEarly options script o q (HasFailed before after))
+  early_in_report (Ok x) last o p q before between after quiet runs fails = search rules
+  early_in_report (Err e) last o p q before between after quiet runs fails =
+      inr (inr (last, p, runs_script last o p runs, subst (λ (n : ℕ). FailsReport options last p q (HasFailed n after) e) quiet fails))

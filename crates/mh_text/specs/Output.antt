@@ -1,5 +1,5 @@
 -- What is written for an input.
-use Rattle.std.specs.Prelude.{◌≡◌, ◌⊎◌, ℕ, ◌+◌, ◌<◌, List, [], ◌∷◌, ◌++◌, length, take, Option, Result, Ok, Err, IfSome}
+use Rattle.std.specs.Prelude.{◌≡◌, ◌⊎◌, ℕ, ◌+◌, ◌<◌, Bool, true, false, List, [], ◌∷◌, ◌++◌, length, take, Option, Result, Ok, Err, IfSome}
 use Rattle.std.specs.Io.KnownBytes.{Appends, Keeps}
 use Rattle.serde_json.specs.Data.{Data}
 use Rattle.mh_text.specs.declared.fault.Fault.{Fault}
@@ -8,11 +8,14 @@ use Rattle.mh_text.specs.declared.fault.TextFault.TheVariants as fault
 use Rattle.mh_core.specs.declared.event.Event.{Event}
 use Rattle.mh_text.specs.declared.json.script.Script.{Script}
 use Rattle.mh_text.specs.declared.json.step.Step.{Step}
+use Rattle.mh_text.specs.declared.streams.run.RunOptions.{RunOptions}
+use Rattle.mh_text.specs.Bytes.{AppendsFront}
 use Rattle.mh_text.specs.Steps.{Told, Run}
 use Rattle.mh_text.specs.Gives.{◌>>=◌, no_memory}
 use Rattle.mh_text.specs.Inputs.{json_of_input}
 use Rattle.mh_text.specs.Lines.{line_of, lines_of}
-use Rattle.mh_core.specs.Legal.{MachineState, opened_machine}
+use Rattle.mh_core.specs.Legal.{MachineState, Setting, opened_machine}
+use Rattle.mh_text.specs.Report.{report_text}
 use Rattle.mh_text.specs.Script.{script_of, IsReached}
 
 -- the script of an input
@@ -21,10 +24,29 @@ script_of_input input = do
   value ← json_of_input input
   script_of value
 
--- the lines of a whole run of these steps were appended
-abbrev pub AppendsRun : MachineState → List Step → Option (List ℕ) → Option (List ℕ) → Type 0
-AppendsRun first steps old new =
-    (replies : List Told) × (last : List Event) × Run first.setting first.history steps replies last × Appends old new (lines_of first.setting.definition replies)
+-- the report of a machine, where it is asked for
+abbrev pub report_where : Bool → MachineState → List ℕ
+report_where true m = report_text m
+report_where false m = []
+
+-- the same behind lines
+abbrev pub with_report : Bool → List ℕ → MachineState → List ℕ
+with_report true lines m = lines ++ report_text m
+with_report false lines m = lines
+
+-- what is written of a run that tells this and ends with this history
+abbrev pub run_text : RunOptions → Setting → List Told → List Event → List ℕ
+run_text options x replies last = with_report options.report (lines_of x.definition replies) (record { setting = x; history = last })
+
+-- the text of a whole run of these steps was appended
+abbrev pub AppendsRun : RunOptions → MachineState → List Step → Option (List ℕ) → Option (List ℕ) → Type 0
+AppendsRun options first steps old new =
+    (replies : List Told) × (last : List Event) × Run first.setting first.history steps replies last × Appends old new (run_text options first.setting replies last)
+
+-- a whole run of these steps ends with this machine, and its lines were appended
+abbrev pub RunsTo : MachineState → List Step → MachineState → Option (List ℕ) → Option (List ℕ) → Type 0
+RunsTo first steps last old new =
+    (replies : List Told) × Run first.setting first.history steps replies last.history × (last.setting ≡ first.setting) × Appends old new (lines_of first.setting.definition replies)
 
 -- The run ended in step n: the lines of the steps before it were appended, and a beginning of its own line, of which bytes are
 -- left. So where the writer fails at the end of a line, n is the next step.
@@ -65,13 +87,26 @@ abbrev pub IsUnread : (List ℕ → Fault → Type 0) → Option (List ℕ) → 
 IsUnread IsFault input ReadHasFailed e =
     (e ≡ outside no_memory) ⊎ ((e ≡ outside fault.ReadFailed) × ReadHasFailed) ⊎ IfSome input (λ bytes. IsFault bytes e)
 
--- a fault of a run: memory before its first event, and else one that ends it in the line of an event
-abbrev pub EndsEarly : Script → Option (List ℕ) → Option (List ℕ) → Type 0 → Fault → Type 0
-EndsEarly script old new WriteHasFailed e =
-    (Keeps old new × (e ≡ outside no_memory)) ⊎ (IsEnd WriteHasFailed e.kind × EndsIn (first script) script.steps e.at old new)
+-- a report that is asked for fails: memory ran out before it, or a write failed after a beginning of it
+abbrev pub FailsReport : RunOptions → MachineState → Option (List ℕ) → Option (List ℕ) → Type 0 → Fault → Type 0
+FailsReport options m old new WriteHasFailed e =
+    (options.report ≡ true)
+    × ((Keeps old new × (e ≡ outside no_memory)) ⊎ ((e ≡ outside fault.WriteFailed) × WriteHasFailed × AppendsFront old new (report_text m)))
+
+-- the report behind a whole run of these steps fails, whose lines were appended
+abbrev pub EndsInReport : RunOptions → MachineState → List Step → Option (List ℕ) → Option (List ℕ) → Type 0 → Fault → Type 0
+EndsInReport options first steps old new WriteHasFailed e =
+    (last : MachineState) × (between : Option (List ℕ)) × RunsTo first steps last old between × FailsReport options last between new WriteHasFailed e
+
+-- a fault of a run: memory before its first event, one that ends it in the line of an event, or one that ends it in its report
+abbrev pub EndsEarly : RunOptions → Script → Option (List ℕ) → Option (List ℕ) → Type 0 → Fault → Type 0
+EndsEarly options script old new WriteHasFailed e =
+    (Keeps old new × (e ≡ outside no_memory))
+    ⊎ (IsEnd WriteHasFailed e.kind × EndsIn (first script) script.steps e.at old new)
+    ⊎ EndsInReport options (first script) script.steps old new WriteHasFailed e
 
 -- Where a fault leaves the writer: as it was, where the script was not read, and else where its run ended.
-abbrev pub Failed : Option (List ℕ) → Option (List ℕ) → Option (List ℕ) → Type 0 → Type 0 → Fault → Type 0
-Failed input old new ReadHasFailed WriteHasFailed e =
+abbrev pub Failed : RunOptions → Option (List ℕ) → Option (List ℕ) → Option (List ℕ) → Type 0 → Type 0 → Fault → Type 0
+Failed options input old new ReadHasFailed WriteHasFailed e =
     (Keeps old new × IsUnread EndsReading input ReadHasFailed e)
-    ⊎ IfSome input (λ bytes. (script : Script) × (script_of_input bytes ≡ Ok script) × EndsEarly script old new WriteHasFailed e)
+    ⊎ IfSome input (λ bytes. (script : Script) × (script_of_input bytes ≡ Ok script) × EndsEarly options script old new WriteHasFailed e)

@@ -34,6 +34,6 @@ pub use lines::verdict::Verdict;
 pub use mh_core::{Definition, Event, Limits, Machine, Plan, Problem, Refusal, Reply, SharedPlan};
 pub use streams::check::check_bytes;
 pub use streams::planning::{PlanOptions, plan_bytes, write_lines};
-pub use streams::run::{read_script_from, run_bytes};
+pub use streams::run::{RunOptions, read_script_from, run_bytes};
 pub use streams::stepping::best_plan;
 pub use streams::watched::Watched;

@@ -1,18 +1,20 @@
 //! Bytes in, lines out.
-ghost use Rattle.std.specs.Prelude.{◌≡◌, Ok, IfOk, IfErr, OnOk, IfSome, MatchResult};
-ghost use Rattle.std.specs.Io.KnownBytes.{Appends};
+ghost use Rattle.std.specs.Prelude.{◌≡◌, true, Ok, IfOk, IfErr, OnOk, IfSome, MatchResult};
+ghost use Rattle.std.specs.Io.KnownBytes.{Appends, Keeps};
 ghost use Rattle.mh_text.specs.declared.json.script.Script.{Script};
 ghost use Rattle.mh_text.specs.Bytes.{AppendsFront, HasFailed};
 ghost use Rattle.mh_text.specs.Gives.{IsHonest, IsHonestReading};
 ghost use Rattle.mh_text.specs.Lines.{line_of};
 ghost use Rattle.mh_text.specs.Steps.{Told, Takes};
-ghost use Rattle.mh_text.specs.Output.{script_of_input, first, AppendsRun, EndsIn, EndsEarly, EndsReading, IsUnread, Failed, IsEnd};
+ghost use Rattle.mh_text.specs.Output.{script_of_input, first, report_where, AppendsRun, EndsIn, EndsEarly, EndsReading, FailsReport, IsUnread, Failed, IsEnd, RunsTo};
 
 use crate::fault::{Fault, InputFault, TextFault};
 use crate::json::script::{Script, read_script};
 use crate::json::step::Step;
 use crate::lines::line;
+use crate::lines::report::report_lines;
 use crate::streams::input::read_input;
+use crate::streams::planning::write_lines;
 use crate::streams::stepping::answer;
 use crate::streams::watched::Watched;
 use mh_core::{Machine, Reply};
@@ -20,6 +22,13 @@ use mh_site::Definition;
 use std::alloc::Global;
 use std::io::{Read, Write};
 use std::thread::Threads;
+
+/// What is written of a run beside the lines of its replies.
+#[derive(Clone, Copy, Debug, PartialEq, Eq)]
+pub struct RunOptions {
+    /// Whether a report of the machine stands behind them (see `report_lines`).
+    pub report: bool,
+}
 
 /// The line of a reply to the step of this number, which names this number.
 fn write_line<W: Write>(
@@ -77,16 +86,16 @@ fn write_step<T: Threads + Sync, W: Write>(
     write_line(alloc, definition, named, &reply, at, writer)
 }
 
-/// Runs the steps, and writes the line of each.
+/// Runs the steps, writes the line of each, and gives the machine behind them.
 fn run_steps<T: Threads + Sync, W: Write>(
     rt: &T,
     alloc: Global,
     machine: Machine,
     steps: Vec<Step>,
     writer: &mut Watched<W>,
-) -> Result<(), Fault>
-    ensures ok { OnOk result (AppendsRun machine steps.items (W.contents writer.old.inner)
-        (W.contents writer.new.inner)) }
+) -> Result<Machine, Fault>
+    ensures ok { IfOk result (λ last. RunsTo machine steps.items last
+        (W.contents writer.old.inner) (W.contents writer.new.inner)) }
     ensures kind { IfErr result (λ e. IsEnd (HasFailed writer.old.failures writer.new.failures)
         e.kind) }
     ensures kept { OnOk result (writer.new.failures ≡ writer.old.failures) }
@@ -98,6 +107,25 @@ fn run_steps<T: Threads + Sync, W: Write>(
     for step in steps {
         at += 1;
         write_step(rt, alloc, &mut machine, step, at, writer)?;
+    }
+    Ok(machine)
+}
+
+/// Writes the report of a machine, where it is asked for.
+fn write_report<W: Write>(
+    alloc: Global,
+    options: RunOptions,
+    machine: &Machine,
+    writer: &mut Watched<W>,
+) -> Result<(), Fault>
+    ensures ok { OnOk result (Appends (W.contents writer.old.inner) (W.contents writer.new.inner)
+        (report_where options.report machine.now)) }
+    ensures kept { OnOk result (writer.new.failures ≡ writer.old.failures) }
+    ensures failed { IfErr result (FailsReport options machine.now (W.contents writer.old.inner)
+        (W.contents writer.new.inner) (HasFailed writer.old.failures writer.new.failures)) }
+{
+    if options.report {
+        write_lines(report_lines(alloc, machine)?, writer)?;
     }
     Ok(())
 }
@@ -117,17 +145,18 @@ pub fn read_script_from<R: Read>(alloc: Global, reader: &mut Watched<R>) -> Resu
     read_script(alloc, &input)
 }
 
-/// Runs a script, and writes the line of each reply.
+/// Runs a script, and writes the line of each reply, and what the options ask for.
 fn run_script<T: Threads + Sync, W: Write>(
     rt: &T,
     alloc: Global,
+    options: RunOptions,
     script: Script,
     writer: &mut Watched<W>,
 ) -> Result<(), Fault>
-    ensures ok { OnOk result (AppendsRun (first script) script.steps (W.contents writer.old.inner)
-        (W.contents writer.new.inner)) }
+    ensures ok { OnOk result (AppendsRun options (first script) script.steps
+        (W.contents writer.old.inner) (W.contents writer.new.inner)) }
     ensures kept { OnOk result (writer.new.failures ≡ writer.old.failures) }
-    ensures failed { IfErr result (EndsEarly script (W.contents writer.old.inner)
+    ensures failed { IfErr result (EndsEarly options script (W.contents writer.old.inner)
         (W.contents writer.new.inner) (HasFailed writer.old.failures writer.new.failures)) }
 {
     let Script {
@@ -137,26 +166,30 @@ fn run_script<T: Threads + Sync, W: Write>(
         steps,
     } = script;
     let machine = Machine::open(alloc, &definition, workers, limits)?;
-    run_steps(rt, alloc, machine, steps.into_vec(), writer)
+    let last = run_steps(rt, alloc, machine, steps.into_vec(), writer)?;
+    write_report(alloc, options, &last, writer)
 }
 
-/// Runs the script that the reader gives, and writes the line of each reply.
+/// Runs the script that the reader gives, and writes the line of each reply; then the report of the
+/// machine, where it is asked for (see `report_lines`).
 ///
 /// The input is read to its end, or to the first byte past 1,048,576, before the first event. A
 /// fault in it writes nothing. A run that memory or a failing write ends leaves the lines of the
 /// events before that one whole, and a beginning of its own. A plan that is asked for is made with
-/// as many workers as the script has.
+/// as many workers as the script has. Where memory or a failing write ends the report, that is
+/// reported at 0; the lines of all events stand, and a beginning of the report.
 pub fn run_bytes<T: Threads + Sync, R: Read, W: Write>(
     rt: &T,
     alloc: Global,
+    options: RunOptions,
     reader: &mut Watched<R>,
     writer: &mut Watched<W>,
 ) -> Result<(), Fault>
     ensures ok { OnOk result (IfSome (R.remaining reader.old.inner) (λ input. (script : Script)
         × (script_of_input input ≡ Ok script)
-        × AppendsRun (first script) script.steps (W.contents writer.old.inner)
+        × AppendsRun options (first script) script.steps (W.contents writer.old.inner)
         (W.contents writer.new.inner))) }
-    ensures failed { IfErr result (λ e. Failed (R.remaining reader.old.inner)
+    ensures failed { IfErr result (λ e. Failed options (R.remaining reader.old.inner)
         (W.contents writer.old.inner) (W.contents writer.new.inner)
         (HasFailed reader.old.failures reader.new.failures)
         (HasFailed writer.old.failures writer.new.failures) e) }
@@ -164,5 +197,5 @@ pub fn run_bytes<T: Threads + Sync, R: Read, W: Write>(
         writer.old.failures writer.new.failures }
 {
     let script = read_script_from(alloc, reader)?;
-    run_script(rt, alloc, script, writer)
+    run_script(rt, alloc, options, script, writer)
 }

@@ -41,4 +41,4 @@ returns-clause-ok g c =
     let made = c.into_iter-step-iterator.ensures.into_iter_gives in
     let t = YieldsList-end (YieldsList-from_vec c.args.steps.items made.0 (made.1 ∙ vec_length c.args.steps)) c.loop-step.yielded c.loop-step.step-iterator c.loop-step.yielded_by c.next.result c.next.new.self c.in-None.is c.next.ensures.steps in
     let (replies, count, run, written) = c.loop-step.invariant.told in
-    (replies, _, run_whole c.args.machine.setting c.args.machine.history _ _ replies _ (omega (arith, t.1, c.loop-step.invariant.count)) run, written)
+    (replies, run_whole c.args.machine.setting c.args.machine.history _ _ replies _ (omega (arith, t.1, c.loop-step.invariant.count)) run, c.loop-step.invariant.setting, written)
