@@ -40,11 +40,14 @@ pub(crate) struct Case<'a> {
     pub(crate) err: Option<&'a str>,
     /// The exit status.
     pub(crate) status: u64,
+    /// The path to the least part that has the fault of a script, or `None` where none is wanted.
+    pub(crate) place: Option<&'a str>,
 }
 
 impl<'a> Case<'a> {
     /// Reads an object with the keys `id`, `words`, `stdin`, `stdout`, `stderr` and `status`. With
-    /// a key `length` its input has spaces put behind it up to that number of bytes.
+    /// a key `length` its input has spaces put behind it up to that number of bytes, and a key
+    /// `where` has the place of its fault.
     pub(crate) fn read(alloc: Global, value: &'a Value) -> Result<Case<'a>, CaseFault> {
         let mut words = Vec::new(alloc);
         for word in member(value, "words")?
@@ -63,6 +66,7 @@ impl<'a> Case<'a> {
             status: member(value, "status")?
                 .as_u64()
                 .ok_or(CaseFault::BadShape)?,
+            place: value.get("where").and_then(Value::as_str),
         })
     }
 }

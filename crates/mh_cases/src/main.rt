@@ -3,9 +3,11 @@
 #![tactic(auto)]
 
 mod case;
+mod placed;
 mod ran;
 
 use crate::case::Case;
+use crate::placed::is_elsewhere;
 use crate::ran::Ran;
 use anyhow::Context;
 use serde_json::Value;
@@ -44,7 +46,8 @@ fn run_case<T: Print + Threads + Wait + Sync>(
     value: &Value,
 ) -> anyhow::Result<()> {
     let case = Case::read(alloc, value)?;
-    let wrong = Ran::of(rt, alloc, &case).differs_from(&case);
+    let elsewhere = is_elsewhere(alloc, &case)?;
+    let wrong = Ran::of(rt, alloc, &case).differs_from(&case).or(elsewhere);
     println!(rt; "{} {}", wrong.unwrap_or("holds"), case.id)?;
     Ok(())
 }

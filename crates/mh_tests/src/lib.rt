@@ -5,8 +5,6 @@
 #[cfg(test)]
 mod beginnings;
 #[cfg(test)]
-mod places;
-#[cfg(test)]
 mod planning;
 #[cfg(test)]
 mod problems;
