@@ -109,6 +109,8 @@ uint32_t mhlink_certificate(mhlink_machine *machine, size_t snapshot, uint8_t *b
 uint32_t mhlink_hits(mhlink_machine *machine, uint32_t worker, size_t link, uint64_t *hits);
 uint32_t mhlink_total(mhlink_machine *machine, size_t link, uint64_t *total);
 uint32_t mhlink_linked(mhlink_machine *machine, size_t site, uint64_t *links);
+/* A line for each point, site and link, as `mhlink run --report` writes them (docs/FORMATS.md). */
+uint32_t mhlink_report(mhlink_machine *machine, uint8_t *buffer, size_t capacity, size_t *length);
 
 /* The planner alone: which links are worth most, of such the fewest, and what they are worth. Needs are numbers of points,
    of each link ascending, at most 8. */

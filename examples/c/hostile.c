@@ -117,6 +117,23 @@ static void texts(void) {
     free(longest);
 }
 
+/* So does the report, which changes nothing. */
+static void reports(void) {
+    static const char wanted[] =
+        "point a cost 5 valid links 0\n"
+        "site f type (int)int retargeted 0 installed 0\n"
+        "site twice type (String)String retargeted 0 installed 0\n"
+        "site all type (long,boolean,String)long retargeted 0 installed 0\n"
+        "link 0 site f when int 1 weight 3 hits 0 flushed 0 unflushed 0 gain 0 installed no\n";
+    uint8_t buffer[sizeof wanted];
+    size_t length = 0;
+    expect("no room", mhlink_report(&machine, NULL, 0, &length), MHLINK_SHORT);
+    if (length != strlen(wanted)) wrong++;
+    expect("short", mhlink_report(&machine, buffer, length - 1, &length), MHLINK_SHORT);
+    expect("report", mhlink_report(&machine, buffer, sizeof buffer, &length), MHLINK_OK);
+    if (length != strlen(wanted) || memcmp(buffer, wanted, length)) wrong++;
+}
+
 static void cut_json(void) {
     uint64_t out, part;
     mhlink_machine other = {NULL};
@@ -183,6 +200,7 @@ int main(void) {
     wrong_numbers();
     wrong_values();
     texts();
+    reports();
     cut_json();
     wrong_openings();
     wrong_problems();

@@ -1,14 +1,17 @@
 //! How a host answers each request.
 
-ghost use Rattle.std.specs.Prelude.{◌≡◌, IfOk, OnErr};
+ghost use Rattle.std.specs.Prelude.{◌≡◌, ◌≤◌, ◌^◌, ℕ, List, length, string_bytes, IfOk, OnErr};
+ghost use Rattle.std.specs.List.{All};
+ghost use Rattle.mh_core.specs.Links.{links};
+ghost use Rattle.mh_text.specs.Report.{tables_text};
 ghost use Rattle.mh_core.specs.Ledgers.{at, ledger_at};
 
 use crate::fault::Fault;
 use crate::host::Host;
-use crate::texts::target_script;
-use mh_core::{Declared, Event, Listing, Plan, SharedPlan};
+use crate::texts::read_target;
+use mh_core::{Book, Declared, Ledger, Listing, Plan, SharedPlan};
 use mh_plan::plan_alone;
-use mh_text::{Step, plan_json, read_plan, read_script};
+use mh_text::{plan_json, push_tables, read_plan};
 use std::alloc::Global;
 
 impl Host {
@@ -27,20 +30,12 @@ impl Host {
         Ok(0)
     }
 
-    // The tree that a text of JSON gives a site. The definition is read again with it, since a tree
-    // is read over what is declared.
+    // The tree that a text of JSON gives a site, over what is declared.
     fn read_tree(&self, alloc: Global, site: usize, tree: &[u8]) -> Result<Declared, Fault> {
-        let definition = self.runtime.book().definition();
-        if site >= definition.sites().len() {
+        if site >= self.runtime.book().definition().sites().len() {
             return Err(Fault::Unknown);
         }
-        let name = definition.site_name(site);
-        let text = target_script(alloc, &self.definition, name, tree)?;
-        let mut steps = read_script(alloc, &text)?.steps.into_vec();
-        match steps.pop() {
-            Some(Step::Ask(Event::Target { tree, .. })) => Ok(tree),
-            _ => Err(Fault::Unknown),
-        }
+        read_target(alloc, &self.scope, tree)
     }
 
     pub(crate) fn invalidate(&mut self, alloc: Global, points: &[u32]) -> Result<u64, Fault>
@@ -101,6 +96,18 @@ impl Host {
         Ok(plan_json(alloc, &plan)?)
     }
 
+    /// A line for each point, site and link, with the hits that the workers have not flushed.
+    pub(crate) fn report(&self, alloc: Global) -> Result<String, Fault>
+        ensures tables { IfOk result (λ text. (unflushed : List ℕ) × (string_bytes text
+            ≡ tables_text self.now.book.definition self.now.book.records unflushed)) }
+    {
+        let book = self.runtime.book();
+        let unflushed = unflushed_hits(alloc, book, self.runtime.ledgers())?;
+        let mut text = String::new(alloc);
+        push_tables(&mut text, alloc, book, &unflushed)?;
+        Ok(text)
+    }
+
     pub(crate) fn hits(&self, worker: u32, link: usize) -> Result<u64, Fault>
         ensures value { IfOk result (λ n. n ≡ at (ledger_at self.now.ledgers worker).unflushed link) }
     {
@@ -133,3 +140,31 @@ impl Host {
         Ok(book.world().kept(site).len() as u64)
     }
 }
+
+// The hits of each link in these ledgers.
+fn unflushed_hits(alloc: Global, book: &Book, ledgers: &[Ledger]) -> Result<Vec<u128>, Fault>
+    ensures links { IfOk result (λ hits. length hits.items ≡ length (links book.now.definition)) }
+    ensures few { IfOk result (λ hits. All (λ n. n ≤ 2 ^ 126) hits.items) }
+{
+    let mut hits = Vec::new(alloc);
+    for link in 0..book.definition().link_count() {
+        hits.push(unflushed(ledgers, link))?;
+    }
+    Ok(hits)
+}
+
+// The hits of a link in these ledgers.
+fn unflushed(ledgers: &[Ledger], link: usize) -> u128
+    ensures few { result ≤ 2 ^ 126 }
+{
+    let mut sum: u128 = 0;
+    for ledger in ledgers {
+        if link < ledger.links() {
+            sum = sum.saturating_add(u128::from(ledger.unflushed(link)));
+        }
+    }
+    sum.min(MOST_HITS)
+}
+
+// More hits than all workers can hold.
+const MOST_HITS: u128 = 1 << 126;

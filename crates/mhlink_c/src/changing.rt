@@ -19,7 +19,7 @@ pub extern "C" fn mhlink_flush(alloc: Global, machine: &mut MhlinkMachine, worke
 }
 
 /// Gives a site another tree, as JSON over the points, the shared trees and the sites of the
-/// definition. The definition is read again with it.
+/// definition.
 #[unsafe(no_mangle)]
 pub extern "C" fn mhlink_target(
     alloc: Global,

@@ -104,9 +104,17 @@ impl<T: Drop> From<AllocFailed<T>> for Fault {
 impl From<TextualFault> for Fault {
     fn from(fault: TextualFault) -> Fault {
         match fault.kind {
-            TextFault::Input(InputFault::NoMemory) => Fault::Refused(Refusal::NoMemory),
-            TextFault::Input(cause) => Fault::Input(cause),
+            TextFault::Input(cause) => Fault::from(cause),
             _ => Fault::Refused(Refusal::NoMemory),
+        }
+    }
+}
+
+impl From<InputFault> for Fault {
+    fn from(fault: InputFault) -> Fault {
+        match fault {
+            InputFault::NoMemory => Fault::Refused(Refusal::NoMemory),
+            _ => Fault::Input(fault),
         }
     }
 }

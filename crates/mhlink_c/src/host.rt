@@ -1,5 +1,5 @@
-//! What a handle leads to: a runtime, the text of its definition, and the text that the last call
-//! gave.
+//! What a handle leads to: a runtime, the names that its definition declares, and the text that the
+//! last call gave.
 
 ghost use Rattle.std.specs.Prelude.{◌≡◌, ◌∷◌, [], ℤ, IfOk, OnErr, OnOk};
 ghost use Rattle.mh_core.specs.Legal.{answer_of_call};
@@ -10,10 +10,10 @@ ghost use Rattle.mhlink_c.specs.Crossing.{IsReply, Tells, int};
 use crate::fault::Fault;
 use crate::finding::{link_number, point_number, site_number};
 use crate::request::{Change, Question};
-use crate::texts::{MhlinkLimits, definition_script};
+use crate::texts::{MhlinkLimits, read_definition};
 use crate::value::{MhlinkReply, MhlinkValue, reply_of, value, values};
 use mh_core::{NoMemory, Outcome, Runtime, Text, Value};
-use mh_text::read_script;
+use mh_text::readers::{Declarations, Scope};
 use std::alloc::Global;
 use std::marker::Model;
 
@@ -24,7 +24,7 @@ const MOST_WORKERS: u32 = 64;
 #[derive(Drop)]
 pub(crate) struct Host {
     pub(crate) runtime: Runtime,
-    pub(crate) definition: Vec<u8>,
+    pub(crate) scope: Scope,
     given: Option<Text>,
 }
 
@@ -51,13 +51,11 @@ impl Host {
         if workers == 0 || workers > MOST_WORKERS {
             return Err(Fault::BadLimits);
         }
-        let text = definition_script(alloc, definition)?;
-        let script = read_script(alloc, &text)?;
-        let runtime = Runtime::open(alloc, &script.definition, workers, limits)?;
-        let definition = Vec::from_slice(alloc, definition)?;
+        let Declarations { definition, scope } = read_definition(alloc, definition)?;
+        let runtime = Runtime::open(alloc, &definition, workers, limits)?;
         Ok(Host {
             runtime,
-            definition,
+            scope,
             given: None,
         })
     }

@@ -175,3 +175,33 @@ pub extern "C" fn mhlink_certificate(
         Err(fault) => fault.number(),
     }
 }
+
+// The report of a machine.
+fn report_held(machine: MhlinkMachine, alloc: Global) -> (MhlinkMachine, Result<String, Fault>)
+    requires full { machine.full ≡ true }
+    ensures full { result.0.full ≡ true }
+    ensures same { result.0.value ≡ machine.value }
+{
+    let host = machine.into_box();
+    let report = host.report(alloc);
+    (MhlinkMachine::of(host), report)
+}
+
+/// Copies a line for each point, site and link, as `mhlink run --report` writes them, and tells in
+/// `length` how many bytes they have, also where the buffer is too short.
+#[unsafe(no_mangle)]
+pub extern "C" fn mhlink_report(
+    alloc: Global,
+    machine: &mut MhlinkMachine,
+    buffer: &mut [u8],
+    length: &mut usize,
+) -> u32
+    requires full { machine.old.full ≡ true }
+    ensures full { machine.new.full ≡ true }
+    ensures same { machine.new.value ≡ machine.old.value }
+{
+    match replace_with(machine, alloc, report_held) {
+        Ok(text) => status(copy(text.as_bytes(), buffer, length)),
+        Err(fault) => fault.number(),
+    }
+}

@@ -1,8 +1,9 @@
-//! Scripts in JSON around what C passes, for the readers of mh_text.
+//! What C passes in JSON, for the readers of mh_text.
 
 use crate::fault::Fault;
-use mh_core::Limits;
+use mh_core::{Declared, Limits};
 use mh_text::InputFault;
+use mh_text::readers::{Declarations, Scope, read_declarations, read_declared, read_json};
 use serde_json::Value;
 use std::alloc::{AllocError, Global};
 
@@ -26,37 +27,21 @@ impl MhlinkLimits {
     }
 }
 
-/// The script of a definition, without events.
-pub(crate) fn definition_script(alloc: Global, definition: &[u8]) -> Result<Vec<u8>, Fault> {
-    script(alloc, definition, &[])
-}
-
-/// The script of a definition with one event, which gives the site of this name a tree.
-pub(crate) fn target_script(
-    alloc: Global,
-    definition: &[u8],
-    site: &str,
-    tree: &[u8],
-) -> Result<Vec<u8>, Fault> {
-    is_json(alloc, tree)?;
-    let mut event = Vec::new(alloc);
-    event.extend_from_slice(b"[\"target\",\"")?;
-    event.extend_from_slice(site.as_bytes())?;
-    event.extend_from_slice(b"\",")?;
-    event.extend_from_slice(tree)?;
-    event.extend_from_slice(b"]")?;
-    script(alloc, definition, &event)
-}
-
-fn script(alloc: Global, definition: &[u8], events: &[u8]) -> Result<Vec<u8>, Fault> {
+/// What a definition in JSON declares.
+pub(crate) fn read_definition(alloc: Global, definition: &[u8]) -> Result<Declarations, Fault> {
     is_json(alloc, definition)?;
     let mut text = Vec::new(alloc);
     text.extend_from_slice(b"{\"definition\":")?;
     text.extend_from_slice(definition)?;
-    text.extend_from_slice(b",\"workers\":1,\"events\":[")?;
-    text.extend_from_slice(events)?;
-    text.extend_from_slice(b"]}")?;
-    Ok(text)
+    text.extend_from_slice(b"}")?;
+    let value = read_json(alloc, &text)?;
+    Ok(read_declarations(alloc, &value)?)
+}
+
+/// A tree in JSON, over the names that a definition declares.
+pub(crate) fn read_target(alloc: Global, scope: &Scope, tree: &[u8]) -> Result<Declared, Fault> {
+    let value = read_json(alloc, tree)?;
+    Ok(read_declared(alloc, scope, &value)?)
 }
 
 // A value of JSON by itself can stand in a text of JSON, and nothing else gets into it.
