@@ -1,9 +1,8 @@
 //! The problem of selection that a snapshot is.
 
-ghost use Rattle.std.specs.Prelude.{◌≡◌, ◌<◌, ◌≤◌, ◌^◌, ◌↔◌, length, map, false, slice_index_or, IfOk, IfErr, IsTrue};
+ghost use Rattle.std.specs.Prelude.{◌≡◌, ◌<◌, ◌≤◌, ◌^◌, ◌↔◌, length, map, false, slice_index_or, IfOk, IsTrue};
 ghost use Rattle.std.specs.List.{All, sum_by};
-ghost use Rattle.mh_network.specs.Problems.{kept_gain, problem_of, problem_tests};
-ghost use Rattle.mh_base.specs.Tests.{Passes};
+ghost use Rattle.mh_network.specs.Problems.{kept_gain, problem_of};
 ghost use Rattle.mh_ledger.specs.Ledgers.{at};
 ghost use Rattle.mh_site.specs.Lawful.{IsDefinition};
 ghost use Rattle.mh_site.specs.Limits.{greatest_weight};
@@ -14,7 +13,7 @@ ghost use Rattle.mh_core.specs.Records.{numbers};
 ghost use Rattle.mh_core.specs.Tables.{are_valid, row_in};
 
 use mh_base::NoMemory;
-use mh_network::{GREATEST_SUM, LinkRow, Listing, Problem, ProblemFault};
+use mh_network::{GREATEST_SUM, LinkRow, Listing, Problem};
 use mh_site::{Definition, Link};
 use std::alloc::Global;
 
@@ -37,16 +36,7 @@ pub(crate) fn make_problem(
 {
     let rows = make_rows(alloc, definition, totals, valid)?;
     let costs = make_costs(alloc, definition)?;
-    assemble(alloc, &rows, &costs).map_err(|_| NoMemory)
-}
-
-// The problem of rows and costs that pass all tests, so that only memory can be wanting.
-fn assemble(alloc: Global, rows: &[LinkRow], costs: &[u64]) -> Result<Problem, ProblemFault>
-    requires passes { Passes (problem_tests rows.now costs.now) }
-    ensures value { IfOk result (λ p. p ≡ problem_of rows.now costs.now) }
-    ensures refused { IfErr result (λ fault. fault ≡ ProblemFault.NoMemory) }
-{
-    Problem::new(alloc, rows, costs)
+    Ok(Problem::of_lawful(rows, costs))
 }
 
 // A row for each link.
@@ -62,7 +52,7 @@ fn make_rows(
         ≡ map (row_in definition.now totals.now valid.now)
         (numbers (length (links_of definition.now)))) }
 {
-    let mut rows = Vec::new(alloc);
+    let mut rows = Vec::with_capacity(alloc, definition.link_count())?;
     for link in 0..definition.link_count() {
         rows.push(make_row(alloc, definition, totals, valid, link)?)?;
     }
@@ -94,7 +84,7 @@ fn make_row(
 fn make_costs(alloc: Global, definition: &Definition) -> Result<Vec<u64>, NoMemory>
     ensures value { IfOk result (λ v. v.items ≡ map (λ p. p.cost) definition.now.points) }
 {
-    let mut costs = Vec::new(alloc);
+    let mut costs = Vec::with_capacity(alloc, definition.points().len())?;
     for point in definition.points() {
         costs.push(point.cost)?;
     }

@@ -52,7 +52,7 @@ fn part_rows(
     ensures value { IfOk result (λ rows. rows ≡ map
         (row_in_part problem.now part.now) part.now.links) }
 {
-    let mut rows = Vec::new(alloc);
+    let mut rows = Vec::with_capacity(alloc, part.links.as_slice().len())?;
     for link in part.links.as_slice() {
         let row = part_row(alloc, problem, part, places, *link as usize)?;
         rows.push(row)?;
@@ -73,7 +73,7 @@ fn part_row(
     requires inside { member part.now.links link ≡ true }
     ensures value { IfOk result (λ row. row ≡ row_in_part problem.now part.now link) }
 {
-    let mut needs = Vec::new(alloc);
+    let mut needs = Vec::with_capacity(alloc, problem.needs(link).len())?;
     for point in problem.needs(link) {
         needs.push(places[*point as usize])?;
     }
@@ -89,7 +89,7 @@ fn part_costs(alloc: Global, problem: &Problem, points: &[u32]) -> Result<Listin
     requires inside { All (λ p. p < length problem.now.costs) points.now }
     ensures value { IfOk result (λ costs. costs ≡ map (cost_of problem.now) points.now) }
 {
-    let mut costs = Vec::new(alloc);
+    let mut costs = Vec::with_capacity(alloc, points.len())?;
     for point in points {
         costs.push(problem.cost(*point as usize))?;
     }
