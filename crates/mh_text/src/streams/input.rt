@@ -12,8 +12,10 @@ use std::io::Read;
 /// The most bytes that an input may have.
 pub(crate) const LIMIT: usize = 1_048_576;
 
-/// The input to its end, or up to the first byte past the limit.
-pub(crate) fn read_input<R: Read>(
+/// The input to its end, or up to the first byte past 1,048,576.
+///
+/// Fails if it has more bytes than that, if a read fails, or if memory runs out.
+pub fn read_input<R: Read>(
     alloc: Global,
     reader: &mut Watched<R>,
 ) -> Result<Vec<u8>, TextFault>
