@@ -15,10 +15,7 @@ pub(crate) const LIMIT: usize = 1_048_576;
 /// The input to its end, or up to the first byte past 1,048,576.
 ///
 /// Fails if it has more bytes than that, if a read fails, or if memory runs out.
-pub fn read_input<R: Read>(
-    alloc: Global,
-    reader: &mut Watched<R>,
-) -> Result<Vec<u8>, TextFault>
+pub fn read_input<R: Read>(alloc: Global, reader: &mut Watched<R>) -> Result<Vec<u8>, TextFault>
     ensures ok { IfOk result (λ input. IfSome (R.remaining reader.old.inner) (λ bytes. input.items
         ≡ bytes)) }
     ensures short { IfOk result (λ input. length input.items ≤ most_bytes) }
