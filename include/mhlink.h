@@ -73,6 +73,8 @@ typedef struct mhlink_problem_link {
 } mhlink_problem_link;
 
 uint32_t mhlink_version(void);
+/* What a status means, as `mhlink` words it (docs/FAULTS.md), with `part` behind it where that is not 0; no ending byte. */
+uint32_t mhlink_fault_text(uint32_t status, uint64_t part, uint8_t *buffer, size_t capacity, size_t *length);
 
 /* A machine of a definition in JSON (docs/FORMATS.md), with 1 to 64 workers. `part` gets the number of the fault's cause. */
 uint32_t mhlink_open(const uint8_t *definition, size_t length, uint32_t workers, const mhlink_limits *limits,

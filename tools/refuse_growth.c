@@ -1,6 +1,6 @@
 // Preloaded below a program: the growth whose number stands in REFUSE_AT, from 1, is refused. Growths are counted from the
 // line `opened`, or from the start where REFUSE_FROM_START is set, up to the line `worked`. When the program ends, the last
-// line of standard error has their number.
+// line of standard error has how many blocks it then took and did not give back, and the number of growths.
 typedef unsigned long size;
 extern void *dlsym(void *, const char *);
 extern char *getenv(const char *);
@@ -11,7 +11,7 @@ extern int dprintf(int, const char *, ...);
 #define NEXT ((void *)-1L)
 
 static int opened;
-static long growths;
+static long growths, blocks;
 
 __attribute__((constructor)) static void begin(void) { opened = getenv("REFUSE_FROM_START") != 0; }
 
@@ -20,16 +20,29 @@ static int is_refused(void) {
     return opened && __sync_add_and_fetch(&growths, 1) == (at ? atol(at) : 0);
 }
 
+static void *taken(void *block) {
+    if (opened && block) __sync_add_and_fetch(&blocks, 1);
+    return block;
+}
+
 void *malloc(size bytes) {
     static void *(*next)(size);
     if (!next) next = (void *(*)(size))dlsym(NEXT, "malloc");
-    return is_refused() ? 0 : next(bytes);
+    return is_refused() ? 0 : taken(next(bytes));
+}
+
+void free(void *block) {
+    static void (*next)(void *);
+    if (!next) next = (void (*)(void *))dlsym(NEXT, "free");
+    if (opened && block) __sync_sub_and_fetch(&blocks, 1);
+    next(block);
 }
 
 void *realloc(void *block, size bytes) {
     static void *(*next)(void *, size);
     if (!next) next = (void *(*)(void *, size))dlsym(NEXT, "realloc");
-    return is_refused() ? 0 : next(block, bytes);
+    if (is_refused()) return 0;
+    return block ? next(block, bytes) : taken(next(block, bytes));
 }
 
 long write(int file, const void *bytes, size count) {
@@ -40,7 +53,7 @@ long write(int file, const void *bytes, size count) {
     return next(file, bytes, count);
 }
 
-__attribute__((destructor)) static void tell(void) { dprintf(2, "%ld\n", growths); }
+__attribute__((destructor)) static void tell(void) { dprintf(2, "%ld %ld\n", blocks, growths); }
 
 // (a program that may start threads ends by this call, past all destructors)
 void _exit(int status) {

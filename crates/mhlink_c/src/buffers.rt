@@ -1,6 +1,6 @@
 //! Bytes and numbers into buffers of the caller's.
 
-ghost use Rattle.std.specs.Prelude.{◌≡◌, ◌<◌, length, OnErr};
+ghost use Rattle.std.specs.Prelude.{◌≡◌, ◌<◌, length, take, OnErr, OnOk};
 
 use crate::fault::Fault;
 
@@ -9,6 +9,7 @@ use crate::fault::Fault;
 /// Refused with `Short` where the buffer is shorter, which then is left alone.
 pub(crate) fn copy<T: Copy>(from: &[T], buffer: &mut [T], count: &mut usize) -> Result<(), Fault>
     ensures count { count.new ≡ length from.now }
+    ensures copied { OnOk result (take count.new buffer.new ≡ from.now) }
     ensures short { OnErr result (length buffer.old < length from.now) }
     ensures same { OnErr result (buffer.new ≡ buffer.old) }
 {

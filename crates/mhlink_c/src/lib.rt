@@ -21,3 +21,4 @@ mod reading;
 mod request;
 mod texts;
 mod value;
+mod wording;

@@ -1,6 +1,8 @@
 //! The planner over arrays, without a machine.
 
-ghost use Rattle.std.specs.Prelude.{◌≡◌};
+ghost use Rattle.std.specs.Prelude.{◌≡◌, ◌≢◌, take, IfOk, OnErr, OnOk};
+ghost use Rattle.mh_network.specs.Problems.{problem_of};
+ghost use Rattle.mhlink_c.specs.Problems.{IsChoice, needs_of as its_needs, row_of, rows_of};
 
 use crate::buffers::copy;
 use crate::fault::{Fault, status};
@@ -38,7 +40,11 @@ pub extern "C" fn mhlink_plan_problem(
     chosen: &mut [u32],
     count: &mut usize,
     value: &mut i64,
-) -> u32 {
+) -> u32
+    ensures chosen { result ≡ 0 → IsChoice (problem_of (rows_of needs.now links.now) costs.now)
+        (take count.new chosen.new) value.new }
+    ensures kept { result ≢ 0 → value.new ≡ value.old }
+{
     status(choose(alloc, costs, links, needs, chosen, count, value))
 }
 
@@ -50,7 +56,11 @@ fn choose(
     chosen: &mut [u32],
     count: &mut usize,
     value: &mut i64,
-) -> Result<(), Fault> {
+) -> Result<(), Fault>
+    ensures chosen { OnOk result (IsChoice (problem_of (rows_of needs.now links.now) costs.now)
+        (take count.new chosen.new) value.new) }
+    ensures kept { OnErr result (value.new ≡ value.old) }
+{
     let rows = rows(alloc, links, needs)?;
     let problem = Problem::new(alloc, &rows, costs)?;
     let plan = plan_alone(alloc, &problem)?;
@@ -59,21 +69,32 @@ fn choose(
     Ok(())
 }
 
-fn rows(alloc: Global, links: &[MhlinkLink], needs: &[u32]) -> Result<Vec<LinkRow>, Fault> {
+fn rows(alloc: Global, links: &[MhlinkLink], needs: &[u32]) -> Result<Vec<LinkRow>, Fault>
+    ensures value { IfOk result (λ rows. rows.items ≡ rows_of needs.now links.now) }
+{
     let mut rows = Vec::new(alloc);
     for link in links {
-        let its = needs_of(link, needs)?;
-        rows.push(LinkRow {
-            gain: link.gain,
-            eligible: link.eligible != 0,
-            needs: Listing::from_vec(Vec::from_slice(alloc, its)?),
-            charge: link.charge,
-        })?;
+        let row = row(alloc, link, needs)?;
+        rows.push(row)?;
     }
     Ok(rows)
 }
 
-fn needs_of<'a>(link: &MhlinkLink, needs: &'a [u32]) -> Result<&'a [u32], Fault> {
+fn row(alloc: Global, link: &MhlinkLink, needs: &[u32]) -> Result<LinkRow, Fault>
+    ensures value { IfOk result (λ row. row ≡ row_of needs.now link.now) }
+{
+    let its = needs_of(link, needs)?;
+    Ok(LinkRow {
+        gain: link.gain,
+        eligible: link.eligible != 0,
+        needs: Listing::from_vec(Vec::from_slice(alloc, its)?),
+        charge: link.charge,
+    })
+}
+
+fn needs_of<'a>(link: &MhlinkLink, needs: &'a [u32]) -> Result<&'a [u32], Fault>
+    ensures value { IfOk result (λ its. its.now ≡ its_needs needs.now link.now) }
+{
     if link.first > needs.len() || link.count > needs.len() - link.first {
         return Err(Fault::Unknown);
     }
