@@ -3,4 +3,5 @@ mod Faults
 mod Firsts
 mod Items
 mod Lists
+mod Unreads
 mod Whole

@@ -6,3 +6,4 @@ pub mod Parts
 pub mod Places
 pub mod Told
 pub mod Trees
+pub mod Unread

@@ -12,6 +12,7 @@ use Rattle.mh_text.specs.Gives.{◌>>=◌}
 use Rattle.mh_text.specs.Script.{key_of, key_kind}
 use Rattle.mh_text.specs.Shape.{member_of}
 use Rattle.mh_text.specs.Values.{type_of}
+use Rattle.mh_text.specs.Versions.{version_of}
 use Rattle.mh_explain.specs.declared.form.Form.{Form}
 use Rattle.mh_explain.specs.declared.form.Form.TheVariants as form
 use Rattle.mh_explain.specs.declared.form.Part.{Part}
@@ -20,7 +21,7 @@ use Rattle.mh_explain.specs.declared.form.Shape.TheVariants as shape
 use Rattle.mh_explain.specs.declared.key.Field.{Field}
 use Rattle.mh_explain.specs.declared.key.Field.TheVariants as field
 use Rattle.mh_explain.specs.declared.key.Key.TheVariants.{Member}
-use Rattle.mh_explain.specs.Forms.{form_at}
+use Rattle.mh_explain.specs.Forms.{form_at, version_or_two}
 use Rattle.mh_explain.specs.Keys.{field_name}
 use Rattle.mh_explain.specs.Trees.{one_part, items_in, tree_parts}
 
@@ -88,6 +89,21 @@ abbrev pub charge_row_parts : List Data → List Part
 charge_row_parts (link ∷ amount ∷ []) = one_part 0 form.Number ∷ one_part 1 form.Amount ∷ []
 charge_row_parts _ = []
 
+-- a link of a problem
+abbrev pub row_parts : Version → Data → List Part
+row_parts version d =
+    required field.Gain form.Count
+    ∷ (optional field.Eligible (shape.One form.Truth) d ++ (required_list field.Needs form.Number ∷ []) ++ charge_part version d)
+
+-- a problem: the version says whether the charges of its links are read
+abbrev pub problem_parts : Data → List Part
+problem_parts d =
+    required field.Version form.VersionNumber ∷ required_list field.Costs form.Count
+    ∷ required_list field.Links (form.Row (version_or_two (version_of d))) ∷ []
+
+abbrev pub claim_parts : List Part
+claim_parts = required field.Problem form.Problem ∷ required field.Plan form.Plan ∷ []
+
 -- the parts of a part that is read by a form, none where it is read as a whole
 unfoldable pub form_parts : Scope → Form → Data → List Part
 form_parts scope form.Limits d = limits_parts d
@@ -101,6 +117,9 @@ form_parts scope (form.Site version) d = site_parts version d
 form_parts scope form.Plan d = plan_parts d
 form_parts scope form.FlowRow d = flow_row_parts (items_in d)
 form_parts scope form.ChargeRow d = charge_row_parts (items_in d)
+form_parts scope (form.Row version) d = row_parts version d
+form_parts scope form.Problem d = problem_parts d
+form_parts scope form.Claim d = claim_parts
 form_parts scope _ d = []
 
 -- the items of a list, from item n on

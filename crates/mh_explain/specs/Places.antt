@@ -229,6 +229,14 @@ LeadsFrom e d parts (key ∷ rest) = (part : Faulty)
 abbrev pub Leads : InputFault → Reading → Data → List Key → Type 0
 Leads e reading d path = LeadsFrom e d (entries_of reading d) path
 
+-- a problem by itself
+abbrev pub problem : Reading
+problem = over no_names (shape.One form.Problem)
+
+-- a problem with a plan by itself
+abbrev pub claim : Reading
+claim = over no_names (shape.One form.Claim)
+
 -- The place of a fault: the path leads to a value of the input; its reading gives this very fault; and none of its parts,
 -- in the order of reading, gives it first.
 abbrev pub IsPlace : InputFault → Data → List Key → Type 0

@@ -62,6 +62,12 @@ pub enum Form {
     FlowRow,
     /// Link, amount.
     ChargeRow,
+    /// A link of a problem.
+    Row(Version),
+    /// A problem: its version, its costs and its links, and not what they make together.
+    Problem,
+    /// A problem and a plan.
+    Claim,
 }
 
 /// One form, or a list.

@@ -1,12 +1,12 @@
 //! The parts that a part is read by, in the order of reading.
 ghost use Rattle.std.specs.Prelude.{◌≡◌, ◌∷◌, ◌++◌, [], map, IfOk, OnOk};
 ghost use Rattle.serde_json.specs.View.{view};
-ghost use Rattle.mh_explain.specs.Parts.{required, required_list, optional, charge_part, point_parts as parts_of_point, link_parts as parts_of_link, kind_of_keys, site_parts as parts_of_site, limits_parts as parts_of_limits, plan_parts as parts_of_plan, pair_parts, flow_row_parts, charge_row_parts, form_parts as parts_of_form, item_parts, shape_parts as parts_of_shape};
+ghost use Rattle.mh_explain.specs.Parts.{required, required_list, optional, charge_part, point_parts as parts_of_point, link_parts as parts_of_link, kind_of_keys, site_parts as parts_of_site, limits_parts as parts_of_limits, plan_parts as parts_of_plan, row_parts as parts_of_row, problem_parts as parts_of_problem, claim_parts as parts_of_claim, pair_parts, flow_row_parts, charge_row_parts, form_parts as parts_of_form, item_parts, shape_parts as parts_of_shape};
 ghost use Rattle.mh_explain.specs.Trees.{one_part, list_part};
 
 use crate::form::{Form, Part, Shape};
 use crate::key::{Field, Key};
-use crate::reading::{items, known};
+use crate::reading::{items, known, version_or_later};
 use crate::trees::tree_parts;
 use mh_base::NoMemory;
 use mh_site::{Listing, Version};
@@ -153,6 +153,37 @@ fn plan_parts(alloc: Global, value: &Value) -> Result<Listing<Part>, NoMemory>
     Ok(parts)
 }
 
+fn row_parts(alloc: Global, version: Version, value: &Value) -> Result<Listing<Part>, NoMemory>
+    ensures value { IfOk result (λ parts. parts ≡ parts_of_row version (view value.now)) }
+{
+    let mut parts = no_parts(alloc);
+    require(&mut parts, Field::Gain, Form::Count)?;
+    allow(&mut parts, Field::Eligible, Shape::One(Form::Truth), value)?;
+    require_list(&mut parts, Field::Needs, Form::Number)?;
+    allow_charge(&mut parts, version, value)?;
+    Ok(parts)
+}
+
+fn problem_parts(alloc: Global, value: &Value) -> Result<Listing<Part>, NoMemory>
+    ensures value { IfOk result (λ parts. parts ≡ parts_of_problem (view value.now)) }
+{
+    let version = version_or_later(value)?;
+    let mut parts = no_parts(alloc);
+    require(&mut parts, Field::Version, Form::VersionNumber)?;
+    require_list(&mut parts, Field::Costs, Form::Count)?;
+    require_list(&mut parts, Field::Links, Form::Row(version))?;
+    Ok(parts)
+}
+
+fn claim_parts(alloc: Global) -> Result<Listing<Part>, NoMemory>
+    ensures value { IfOk result (λ parts. parts ≡ parts_of_claim) }
+{
+    let mut parts = no_parts(alloc);
+    require(&mut parts, Field::Problem, Form::Problem)?;
+    require(&mut parts, Field::Plan, Form::Plan)?;
+    Ok(parts)
+}
+
 /// An item of this form.
 fn push_item(parts: &mut Listing<Part>, item: usize, form: Form) -> Result<(), NoMemory>
     ensures value { OnOk result (parts.new ≡ parts.old ++ one_part item form ∷ []) }
@@ -217,6 +248,9 @@ fn form_parts(
         Form::Plan => plan_parts(alloc, value),
         Form::FlowRow => parts_of_flow_row(alloc, items(value)),
         Form::ChargeRow => parts_of_charge_row(alloc, items(value)),
+        Form::Row(version) => row_parts(alloc, version, value),
+        Form::Problem => problem_parts(alloc, value),
+        Form::Claim => claim_parts(alloc),
         _ => Ok(no_parts(alloc)),
     }
 }

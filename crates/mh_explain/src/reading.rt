@@ -3,20 +3,21 @@ ghost use Rattle.std.specs.Prelude.{◌≡◌, map, IfOk, true, false};
 ghost use Rattle.std.specs.List.{slice_get};
 ghost use Rattle.serde_json.specs.View.{view};
 ghost use Rattle.mh_text.specs.Gives.{Gives};
-ghost use Rattle.mh_explain.specs.Forms.{version_in, workers_in, truth_in, shared_in, site_in, form_at, form_fault, items_fault, list_fault, shape_fault};
+ghost use Rattle.mh_text.specs.Versions.{version_of};
+ghost use Rattle.mh_explain.specs.Forms.{claim_in, version_in, version_or_two, workers_in, truth_in, shared_in, site_in, form_at, form_fault, items_fault, list_fault, shape_fault};
 ghost use Rattle.mh_explain.specs.Told.{Told, Known};
 ghost use Rattle.mh_explain.specs.Trees.{items_in};
 
 use crate::form::{Form, Shape};
 use mh_base::NoMemory;
 use mh_site::Version;
-use mh_text::InputFault;
 use mh_text::readers::{
-    Scope, count, kind_at, read_charge_row, read_constant, read_declared, read_filter_or_none,
-    read_flow_row, read_given_limits, read_kind, read_link, read_new_name, read_op,
-    read_place_or_none, read_plan_value, read_point, read_shared, read_signed, read_site,
-    read_tree, read_type, read_value, text,
+    Scope, count, kind_at, member, read_charge_row, read_constant, read_declared,
+    read_filter_or_none, read_flow_row, read_given_limits, read_kind, read_link, read_new_name,
+    read_op, read_place_or_none, read_plan_value, read_point, read_row, read_rows, read_shared,
+    read_signed, read_site, read_tree, read_type, read_value, text, version,
 };
+use mh_text::{InputFault, Plan};
 use mh_tree::Handle;
 use serde_json::Value;
 use std::alloc::Global;
@@ -99,6 +100,25 @@ fn read_site_name(alloc: Global, scope: &Scope, value: &Value) -> Result<Handle,
     scope.invocation_named(alloc, text(value)?)
 }
 
+/// The plan of a problem, which is read before it.
+fn read_claim(alloc: Global, value: &Value) -> Result<Plan, InputFault>
+    ensures value { Gives (λ x. x) result (claim_in (view value.now)) }
+{
+    let _rows = read_rows(alloc, member(value, "problem")?)?;
+    read_plan_value(alloc, member(value, "plan")?)
+}
+
+/// The version of an object, and 2 where none is read.
+pub(crate) fn version_or_later(value: &Value) -> Result<Version, NoMemory>
+    ensures value { IfOk result (λ v. v ≡ version_or_two (version_of (view value.now))) }
+{
+    match version(value) {
+        Ok(version) => Ok(version),
+        Err(InputFault::NoMemory) => Err(NoMemory),
+        Err(_) => Ok(Version::Two),
+    }
+}
+
 /// The fault of a part that is read by a form over the names of a scope.
 pub(crate) fn fault_by_form(
     alloc: Global,
@@ -137,6 +157,9 @@ pub(crate) fn fault_by_form(
         Form::Plan => fault(read_plan_value(alloc, value)),
         Form::FlowRow => fault(read_flow_row(value)),
         Form::ChargeRow => fault(read_charge_row(value)),
+        Form::Row(version) => fault(read_row(alloc, version, value)),
+        Form::Problem => fault(read_rows(alloc, value)),
+        Form::Claim => fault(read_claim(alloc, value)),
     }
 }
 

@@ -66,7 +66,7 @@ fn declared_by(alloc: Global, value: &Value) -> Result<Result<Declarations, Inpu
 }
 
 /// Puts a shared tree last.
-fn add_shared(scope: &mut Scope, shared: Shared) -> Result<(), NoMemory>
+pub(crate) fn add_shared(scope: &mut Scope, shared: Shared) -> Result<(), NoMemory>
     ensures value { OnOk result (scope.new ≡ with_shared scope.old shared) }
 {
     match scope.add(shared) {
@@ -100,7 +100,7 @@ fn place_in_shared(
 }
 
 /// Puts a site last.
-fn add_site(sited: &mut Sited, site: Site) -> Result<(), NoMemory>
+pub(crate) fn add_site(sited: &mut Sited, site: Site) -> Result<(), NoMemory>
     ensures value { OnOk result (sited.new ≡ site_added sited.old site) }
 {
     match sited.add(site) {

@@ -7,6 +7,7 @@ ghost use Rattle.mh_explain.specs.Places.{Leads, LeadsFrom, at_field, entry, ite
 use crate::form::{Form, Part, Shape};
 use crate::key::{Field, Key};
 use crate::parts::shape_parts;
+use crate::path::Path;
 use crate::reading::{fault_by_shape, is_same};
 use mh_base::NoMemory;
 use mh_site::Listing;
@@ -49,18 +50,10 @@ impl Place {
 impl fmt::Display for Place {
     /// The keys with a dot, and the numbers of items in brackets: `definition.sites[3].target[1]`.
     fn fmt<W: fmt::Write>(&self, f: &mut fmt::Formatter<W>) -> fmt::Result {
-        for (i, key) in self.path.as_slice().iter().enumerate() {
-            match key {
-                Key::Member(field) => {
-                    if i > 0 {
-                        write!(f, ".")?;
-                    }
-                    write!(f, "{}", field.name())?;
-                }
-                Key::Item(item) => write!(f, "[{item}]")?,
-            }
-        }
-        Ok(())
+        let path = Path {
+            keys: self.path.as_slice(),
+        };
+        write!(f, "{path}")
     }
 }
 

@@ -48,8 +48,20 @@ pub returns-in-ChargeRow : goal.returns-in-ChargeRow
 unfolding form_parts
 returns-in-ChargeRow c = record { value = rw (c.in-ChargeRow.is, ← c.items-in-ChargeRow.ensures.value) c.parts_of_charge_row.ensures.value }
 
+pub returns-in-Row : goal.returns-in-Row
+unfolding form_parts
+returns-in-Row c = record { value = rw c.in-Row.is c.row_parts.ensures.value }
+
+pub returns-in-Problem : goal.returns-in-Problem
+unfolding form_parts
+returns-in-Problem c = record { value = rw c.in-Problem.is c.problem_parts.ensures.value }
+
+pub returns-in-Claim : goal.returns-in-Claim
+unfolding form_parts
+returns-in-Claim c = record { value = rw c.in-Claim.is c.claim_parts.ensures.value }
+
 pub returns-in_default : goal.returns-in_default
 returns-in_default c = record {
   value = c.no_parts.ensures.value ∙ sym (read_whole c.args.scope.now c.args.form (view c.args.value.now) c.in_default.not-Limits c.in_default.not-SharedPair c.in_default.not-Tree c.in_default.not-Declared c.in_default.not-Filter
-      c.in_default.not-Point c.in_default.not-Link c.in_default.not-Site c.in_default.not-Plan c.in_default.not-FlowRow c.in_default.not-ChargeRow);
+      c.in_default.not-Point c.in_default.not-Link c.in_default.not-Site c.in_default.not-Plan c.in_default.not-FlowRow c.in_default.not-ChargeRow c.in_default.not-Row c.in_default.not-Problem c.in_default.not-Claim);
 }

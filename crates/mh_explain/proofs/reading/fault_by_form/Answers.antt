@@ -113,3 +113,15 @@ returns-in-FlowRow c = record { value = rw c.in-FlowRow.is (told_ok _ _ _ _ c.re
 pub returns-in-ChargeRow : goal.returns-in-ChargeRow
 unfolding form_fault
 returns-in-ChargeRow c = record { value = rw c.in-ChargeRow.is (told_ok _ _ _ _ c.read_charge_row.ensures.value c.fault-in-ChargeRow.ensures.value) }
+
+pub returns-in-Row : goal.returns-in-Row
+unfolding form_fault
+returns-in-Row c = record { value = rw c.in-Row.is (told_ok _ _ _ _ c.read_row.ensures.value c.fault-in-Row.ensures.value) }
+
+pub returns-in-Problem : goal.returns-in-Problem
+unfolding form_fault
+returns-in-Problem c = record { value = rw c.in-Problem.is (told_ok _ _ _ _ c.read_rows.ensures.value c.fault-in-Problem.ensures.value) }
+
+pub returns-in-Claim : goal.returns-in-Claim
+unfolding form_fault
+returns-in-Claim c = record { value = rw c.in-Claim.is (told_ok _ _ _ _ c.read_claim.ensures.value c.fault-in-Claim.ensures.value) }

@@ -1,0 +1,26 @@
+//! The known word that an unknown one is most likely meant for.
+use mh_base::NoMemory;
+use std::alloc::Global;
+use strsim::levenshtein;
+
+/// The most edits between a word and the one that it is meant for.
+const MOST_EDITS: usize = 2;
+
+/// The nearest of the words within two edits, the first where several are as near. A word of two
+/// letters or fewer is meant for none, since each is near to each.
+pub(crate) fn nearest<'a>(
+    alloc: Global,
+    word: &str,
+    known: &[&'a str],
+) -> Result<Option<&'a str>, NoMemory> {
+    let mut found: Option<&'a str> = None;
+    let mut least = MOST_EDITS + 1;
+    for name in known {
+        let edits = levenshtein(alloc, word, *name)?;
+        if edits < least && edits < word.len() {
+            least = edits;
+            found = Some(*name);
+        }
+    }
+    Ok(found)
+}

@@ -1,0 +1,427 @@
+//! The keys of an input that nothing reads.
+ghost use Rattle.std.specs.Prelude.{◌≡◌, ◌∷◌, [], map, option_map, Some, None, if◌then◌else◌, IfOk, OnOk};
+ghost use Rattle.serde_json.specs.View.{view, members_view};
+ghost use Rattle.mh_explain.specs.declared.unread.Step.TheVariants.{At};
+ghost use Rattle.mh_explain.specs.Unread.{first_along, first_in, first_of, first_unread, first_unread_in, first_where, has_other, is_read as is_among, offered_in, or_later, version_in, version_at as version_where, objects_of, script_objects, problem_objects, claim_objects};
+
+use crate::input::InputForm;
+use crate::key::{Field, Key};
+use crate::near::nearest;
+use crate::path::{Path, longer};
+use crate::reading::{items, version_or_later};
+use crate::tables::{
+    CLAIM_KEYS, DEFINITION_KEYS, LIMIT_KEYS, PLAN_KEYS, POINT_KEYS, PROBLEM_KEYS, SCRIPT_KEYS,
+    SITE_KEYS, link_keys, row_keys,
+};
+use mh_base::NoMemory;
+use mh_site::Version;
+use mh_text::readers::read_json;
+use mh_text::{InputFault, TextFault};
+use serde_json::{Map, Value};
+use std::alloc::Global;
+
+/// A step from a value to values inside it.
+#[derive(Clone, Copy, Debug, PartialEq, Eq)]
+pub(crate) enum Step {
+    /// To what an object has at a key.
+    At(Field),
+    /// To each item of a list.
+    Each,
+    /// To the plan of each event that offers one.
+    Offered,
+}
+
+/// The keys of an input that nothing reads.
+#[derive(Drop)]
+pub struct UnreadKeys {
+    /// A line for each, as `note: definition.sites[9].lnks is not read; is "links" meant?`.
+    pub notes: String,
+    /// The number of the event that the first one stands in, from 1, or 0 outside the events;
+    /// none where each key is read.
+    pub first: Option<u64>,
+}
+
+/// Whether a key is one of those that are read.
+pub(crate) fn is_read(keys: &[Field], key: &str) -> bool
+    ensures value { result ≡ is_among keys.now key.now }
+{
+    for known in keys {
+        if key == known.name() {
+            return true;
+        }
+    }
+    false
+}
+
+/// The plan that an event offers.
+fn offered(event: &Value) -> Option<&Value>
+    ensures value { option_map (λ v. view v.now) result ≡ offered_in (view event.now) }
+{
+    match event.get(0).and_then(Value::as_str) {
+        Some("offer") => event.get(2),
+        _ => None,
+    }
+}
+
+/// What is looked for, and where: the keys that are read of objects of one kind, the keys that lead
+/// to a value, and the number of the event that it stands in, or 0.
+#[derive(Clone, Copy)]
+struct Look<'a> {
+    keys: &'a [Field],
+    path: &'a [Key],
+    event: u64,
+}
+
+impl UnreadKeys {
+    /// None yet.
+    fn new(alloc: Global) -> UnreadKeys
+        ensures first { result.first ≡ None }
+    {
+        UnreadKeys {
+            notes: String::new(alloc),
+            first: None,
+        }
+    }
+
+    /// Adds a key that an object has there.
+    fn add(&mut self, alloc: Global, look: &Look<'_>, key: &str) -> Result<(), NoMemory>
+        ensures first { OnOk result (self.new.first ≡ or_later self.old.first
+            (Some look.now.event)) }
+    {
+        let note = note(alloc, look, key)?;
+        self.notes.push_str(note.as_str())?;
+        if self.first.is_none() {
+            self.first = Some(look.event);
+        }
+        Ok(())
+    }
+
+    /// Adds the keys of an object that nothing reads.
+    fn add_members(
+        &mut self,
+        alloc: Global,
+        look: &Look<'_>,
+        members: &Map<String, Value>,
+    ) -> Result<(), NoMemory>
+        ensures first { OnOk result (self.new.first ≡ or_later self.old.first
+            (if has_other look.now.keys.now (members_view members.now.entries)
+            then Some look.now.event else None)) }
+    {
+        for (key, _member) in members.iter() {
+            if !is_read(look.keys, key.as_str()) {
+                self.add(alloc, look, key.as_str())?;
+            }
+        }
+        Ok(())
+    }
+
+    /// Adds the keys of a value, where it is an object, that nothing reads.
+    fn add_here(&mut self, alloc: Global, look: &Look<'_>, value: &Value) -> Result<(), NoMemory>
+        ensures first { OnOk result (self.new.first ≡ or_later self.old.first
+            (first_along look.now.keys.now [] look.now.event (view value.now))) }
+    {
+        match value {
+            Value::Object(members) => self.add_members(alloc, look, members),
+            _ => Ok(()),
+        }
+    }
+
+    /// Adds the keys of the objects at the end of these steps that nothing reads.
+    #[cycle(along)]
+    fn add_along(
+        &mut self,
+        alloc: Global,
+        look: &Look<'_>,
+        steps: &[Step],
+        value: &Value,
+    ) -> Result<(), NoMemory>
+        ensures first { OnOk result (self.new.first ≡ or_later self.old.first
+            (first_along look.now.keys.now steps.now look.now.event (view value.now))) }
+    {
+        let [step, rest @ ..] = steps else {
+            return self.add_here(alloc, look, value);
+        };
+        match step {
+            Step::At(field) => self.add_at(alloc, look, *field, rest, value),
+            Step::Each => self.add_each(alloc, look, rest, items(value)),
+            Step::Offered => self.add_offered(alloc, look, rest, items(value)),
+        }
+    }
+
+    /// The same from what a value has at a key.
+    #[cycle(along)]
+    fn add_at(
+        &mut self,
+        alloc: Global,
+        look: &Look<'_>,
+        field: Field,
+        steps: &[Step],
+        value: &Value,
+    ) -> Result<(), NoMemory>
+        ensures first { OnOk result (self.new.first ≡ or_later self.old.first
+            (first_along look.now.keys.now (At field ∷ steps.now) look.now.event (view value.now))) }
+    {
+        let Some(inner) = value.get(field.name()) else {
+            return Ok(());
+        };
+        let path = longer(alloc, look.path, Key::Member(field))?;
+        let look = Look {
+            keys: look.keys,
+            path: &path,
+            event: look.event,
+        };
+        self.add_along(alloc, &look, steps, inner)
+    }
+
+    /// The same from each item of a list.
+    #[cycle(along)]
+    fn add_each(
+        &mut self,
+        alloc: Global,
+        look: &Look<'_>,
+        steps: &[Step],
+        items: &[Value],
+    ) -> Result<(), NoMemory>
+        ensures first { OnOk result (self.new.first ≡ or_later self.old.first
+            (first_in (λ _. first_along look.now.keys.now steps.now look.now.event) 1 (map view items.now))) }
+    {
+        for (i, item) in items.iter().enumerate() {
+            let path = longer(alloc, look.path, Key::Item(i))?;
+            let look = Look {
+                keys: look.keys,
+                path: &path,
+                event: look.event,
+            };
+            self.add_along(alloc, &look, steps, item)?;
+        }
+        Ok(())
+    }
+
+    /// The same from the plan of each event that offers one.
+    #[cycle(along)]
+    fn add_offered(
+        &mut self,
+        alloc: Global,
+        look: &Look<'_>,
+        steps: &[Step],
+        events: &[Value],
+    ) -> Result<(), NoMemory>
+        ensures first { OnOk result (self.new.first ≡ or_later self.old.first
+            (first_in (λ i event. first_where (first_along look.now.keys.now steps.now i) (offered_in event)) 1 (map view events.now))) }
+    {
+        for (i, event) in events.iter().enumerate() {
+            let Some(plan) = offered(event) else {
+                continue;
+            };
+            let mut path = longer(alloc, look.path, Key::Item(i))?;
+            path.push(Key::Item(2))?;
+            let look = Look {
+                keys: look.keys,
+                path: &path,
+                event: i as u64 + 1,
+            };
+            self.add_along(alloc, &look, steps, plan)?;
+        }
+        Ok(())
+    }
+
+    /// The same of objects of one kind of an input.
+    fn add_objects(
+        &mut self,
+        alloc: Global,
+        steps: &[Step],
+        keys: &[Field],
+        value: &Value,
+    ) -> Result<(), NoMemory>
+        ensures first { OnOk result (self.new.first ≡ or_later self.old.first
+            (first_along keys.now steps.now 0 (view value.now))) }
+    {
+        let look = Look {
+            keys,
+            path: &[],
+            event: 0,
+        };
+        self.add_along(alloc, &look, steps, value)
+    }
+}
+
+/// The note of a key that nothing reads.
+fn note(alloc: Global, look: &Look<'_>, key: &str) -> Result<String, NoMemory> {
+    let mut note = String::new(alloc);
+    let place = Path { keys: look.path };
+    write!(note, "note: {place}")?;
+    push_key(alloc, &mut note, look.path.is_empty(), key)?;
+    note.push_str(" is not read")?;
+    let names = names(alloc, look.keys)?;
+    if let Some(meant) = nearest(alloc, key, &names)? {
+        write!(note, "; is \"{meant}\" meant?")?;
+    }
+    note.push('\n')?;
+    Ok(note)
+}
+
+/// The names of keys.
+fn names(alloc: Global, keys: &[Field]) -> Result<Vec<&'static str>, NoMemory> {
+    let mut names = Vec::new(alloc);
+    for key in keys {
+        names.push(key.name())?;
+    }
+    Ok(names)
+}
+
+/// A key behind a path, in brackets where it is no name.
+fn push_key(alloc: Global, text: &mut String, is_first: bool, key: &str) -> Result<(), NoMemory> {
+    if !is_plain(key) {
+        let quoted = Value::String(String::from_str(alloc, key)?);
+        write!(text, "[{quoted}]")?;
+        return Ok(());
+    }
+    if !is_first {
+        text.push('.')?;
+    }
+    text.push_str(key)?;
+    Ok(())
+}
+
+/// Whether a key has letters, digits, `_` and `-` alone.
+pub(crate) fn is_plain(key: &str) -> bool {
+    for byte in key.as_bytes() {
+        if !byte.is_ascii_alphanumeric() && *byte != b'_' && *byte != b'-' {
+            return false;
+        }
+    }
+    !key.is_empty()
+}
+
+/// The version of what a value has at a key, and 2 where none is read.
+fn version_at(value: Option<&Value>) -> Result<Version, NoMemory>
+    ensures value { IfOk result (λ v. v ≡ version_where (option_map (λ v. view v.now) value.entry)) }
+{
+    match value {
+        Some(value) => version_or_later(value),
+        None => Ok(Version::Two),
+    }
+}
+
+/// The version of an input, which says whether charges are read.
+fn version_of_input(form: InputForm, value: &Value) -> Result<Version, NoMemory>
+    ensures value { IfOk result (λ v. v ≡ version_in form (view value.now)) }
+{
+    match form {
+        InputForm::Script => version_at(value.get("definition")),
+        InputForm::Problem => version_or_later(value),
+        InputForm::Claim => version_at(value.get("problem")),
+    }
+}
+
+impl UnreadKeys {
+    /// Adds the keys of a script that nothing reads.
+    fn add_script(
+        &mut self,
+        alloc: Global,
+        version: Version,
+        script: &Value,
+    ) -> Result<(), NoMemory>
+        ensures first { OnOk result (self.new.first ≡ or_later self.old.first
+            (first_of (script_objects version) (view script.now))) }
+    {
+        let definition = Step::At(Field::Definition);
+        let (points, sites) = (Step::At(Field::Points), Step::At(Field::Sites));
+        let (links, limits) = (Step::At(Field::Links), Step::At(Field::Limits));
+        let events = Step::At(Field::Events);
+        self.add_objects(alloc, &[], &SCRIPT_KEYS, script)?;
+        self.add_objects(alloc, &[definition], &DEFINITION_KEYS, script)?;
+        self.add_objects(
+            alloc,
+            &[definition, points, Step::Each],
+            &POINT_KEYS,
+            script,
+        )?;
+        self.add_objects(alloc, &[definition, sites, Step::Each], &SITE_KEYS, script)?;
+        let to_links = [definition, sites, Step::Each, links, Step::Each];
+        self.add_objects(alloc, &to_links, link_keys(version), script)?;
+        self.add_objects(alloc, &[limits], &LIMIT_KEYS, script)?;
+        self.add_objects(alloc, &[events, Step::Offered], &PLAN_KEYS, script)?;
+        Ok(())
+    }
+
+    /// Adds the keys of a problem that nothing reads.
+    fn add_problem(
+        &mut self,
+        alloc: Global,
+        version: Version,
+        problem: &Value,
+    ) -> Result<(), NoMemory>
+        ensures first { OnOk result (self.new.first ≡ or_later self.old.first
+            (first_of (problem_objects version) (view problem.now))) }
+    {
+        let links = Step::At(Field::Links);
+        self.add_objects(alloc, &[], &PROBLEM_KEYS, problem)?;
+        self.add_objects(alloc, &[links, Step::Each], row_keys(version), problem)
+    }
+
+    /// Adds the keys of a problem and a plan that nothing reads.
+    fn add_claim(&mut self, alloc: Global, version: Version, claim: &Value) -> Result<(), NoMemory>
+        ensures first { OnOk result (self.new.first ≡ or_later self.old.first
+            (first_of (claim_objects version) (view claim.now))) }
+    {
+        let problem = Step::At(Field::Problem);
+        let (links, plan) = (Step::At(Field::Links), Step::At(Field::Plan));
+        self.add_objects(alloc, &[], &CLAIM_KEYS, claim)?;
+        self.add_objects(alloc, &[problem], &PROBLEM_KEYS, claim)?;
+        self.add_objects(
+            alloc,
+            &[problem, links, Step::Each],
+            row_keys(version),
+            claim,
+        )?;
+        self.add_objects(alloc, &[plan], &PLAN_KEYS, claim)
+    }
+
+    /// Adds the keys of an input that nothing reads.
+    fn add_input(
+        &mut self,
+        alloc: Global,
+        form: InputForm,
+        version: Version,
+        input: &Value,
+    ) -> Result<(), NoMemory>
+        ensures first { OnOk result (self.new.first ≡ or_later self.old.first
+            (first_of (objects_of form version) (view input.now))) }
+    {
+        match form {
+            InputForm::Script => self.add_script(alloc, version, input),
+            InputForm::Problem => self.add_problem(alloc, version, input),
+            InputForm::Claim => self.add_claim(alloc, version, input),
+        }
+    }
+}
+
+/// The keys of a value of JSON that nothing reads.
+fn unread_in(alloc: Global, form: InputForm, value: &Value) -> Result<UnreadKeys, NoMemory>
+    ensures first { IfOk result (λ unread. unread.first ≡ first_unread_in form (view value.now)) }
+{
+    let version = version_of_input(form, value)?;
+    let mut unread = UnreadKeys::new(alloc);
+    unread.add_input(alloc, form, version, value)?;
+    Ok(unread)
+}
+
+/// The keys of an input that nothing reads.
+///
+/// An input that is no JSON, or too long, has none; nor has a part of it that is of another form
+/// than the one that is read there. Fails only if memory runs out.
+#[tactic(auto, using(crate::proofs::Unreads::unread_of_json, crate::proofs::Unreads::unread_of_none))]
+pub fn unread_keys(alloc: Global, form: InputForm, input: &[u8]) -> Result<UnreadKeys, NoMemory>
+    ensures first { IfOk result (λ unread. unread.first ≡ first_unread form input.now) }
+{
+    match read_json(alloc, input) {
+        Ok(value) => unread_in(alloc, form, &value),
+        Err(fault) => {
+            if fault.kind == TextFault::Input(InputFault::NoMemory) {
+                return Err(NoMemory);
+            }
+            Ok(UnreadKeys::new(alloc))
+        }
+    }
+}

@@ -1,0 +1,43 @@
+//! Why a part of an input has a fault, in a sentence.
+mod definitions;
+mod names;
+mod problems;
+mod shapes;
+mod trees;
+mod types;
+mod values;
+
+use crate::key::Field;
+use crate::spot::Spot;
+use mh_base::NoMemory;
+use mh_text::InputFault;
+use serde_json::Value;
+use std::alloc::Global;
+
+/// The sentence for a fault that this part of an input has.
+pub(crate) fn why(
+    alloc: Global,
+    input: &Value,
+    fault: InputFault,
+    spot: &Spot<'_>,
+) -> Result<String, NoMemory> {
+    match fault {
+        InputFault::BadShape => shapes::why_bad(alloc, input, spot),
+        InputFault::BadValue => values::why_bad(alloc, spot),
+        InputFault::UnknownShared => names::why_unknown_shared(alloc, input, spot.value),
+        InputFault::UnknownSite => names::why_unknown_site(alloc, input, spot.value),
+        InputFault::Tree(cause) => trees::why_refused(alloc, cause, spot),
+        InputFault::Definition(cause) => definitions::why_definition(alloc, cause, spot.value),
+        InputFault::Problem(cause) => problems::why_none(alloc, cause, problem_of(input)),
+        InputFault::BadType(_) => types::why_none(alloc, spot.value),
+        InputFault::NoMemory | InputFault::TooLong | InputFault::NotJson => Ok(String::new(alloc)),
+    }
+}
+
+/// The problem of an input: what it has at that key, or else the input itself.
+fn problem_of(input: &Value) -> &Value {
+    match input.get(Field::Problem.name()) {
+        Some(problem) => problem,
+        None => input,
+    }
+}

@@ -1,0 +1,120 @@
+//! Names that stand nowhere, or where they may not.
+use crate::key::Field;
+use crate::spot::items_at;
+use crate::words::{meant, quoted, wanted};
+use mh_base::NoMemory;
+use serde_json::Value;
+use std::alloc::Global;
+
+/// The names of the shared trees of a script.
+fn shared_names(alloc: Global, script: &Value) -> Result<Vec<&str>, NoMemory> {
+    let mut names = Vec::new(alloc);
+    let Some(definition) = script.get(Field::Definition.name()) else {
+        return Ok(names);
+    };
+    for pair in items_at(definition, Field::Shared) {
+        if let Some(name) = pair.get(0).and_then(Value::as_str) {
+            names.push(name)?;
+        }
+    }
+    Ok(names)
+}
+
+/// The names of the sites of a script.
+fn site_names(alloc: Global, script: &Value) -> Result<Vec<&str>, NoMemory> {
+    let mut names = Vec::new(alloc);
+    let Some(definition) = script.get(Field::Definition.name()) else {
+        return Ok(names);
+    };
+    for site in items_at(definition, Field::Sites) {
+        if let Some(name) = site.get(Field::Name.name()).and_then(Value::as_str) {
+            names.push(name)?;
+        }
+    }
+    Ok(names)
+}
+
+/// Whether a name is among some.
+fn is_among(name: &str, names: &[&str]) -> bool {
+    for other in names {
+        if name == *other {
+            return true;
+        }
+    }
+    false
+}
+
+/// Why a name stands for no shared tree.
+pub(crate) fn why_unknown_shared(
+    alloc: Global,
+    script: &Value,
+    value: &Value,
+) -> Result<String, NoMemory> {
+    let name = value.as_str().unwrap_or("");
+    let names = shared_names(alloc, script)?;
+    let shown = quoted(alloc, name)?;
+    if is_among(name, &names) {
+        return Ok(format!(in alloc; "the shared tree {shown} stands no earlier than this tree")?);
+    }
+    let question = meant(alloc, name, &names)?;
+    Ok(format!(in alloc; "no shared tree has the name {shown}{question}")?)
+}
+
+/// Why a name is that of no site that a tree may invoke.
+pub(crate) fn why_unknown_site(
+    alloc: Global,
+    script: &Value,
+    value: &Value,
+) -> Result<String, NoMemory> {
+    let name = value.as_str().unwrap_or("");
+    let names = site_names(alloc, script)?;
+    let shown = quoted(alloc, name)?;
+    if is_among(name, &names) {
+        return Ok(format!(in alloc; "the site {shown} stands no earlier than this tree")?);
+    }
+    let question = meant(alloc, name, &names)?;
+    Ok(format!(in alloc; "no site has the name {shown}{question}")?)
+}
+
+/// Why a name is none that a shared tree may have.
+pub(crate) fn why_not_new(
+    alloc: Global,
+    script: &Value,
+    value: &Value,
+) -> Result<String, NoMemory> {
+    let Some(name) = value.as_str() else {
+        return wanted(alloc, "a name", value);
+    };
+    let shown = quoted(alloc, name)?;
+    if is_lawful(name) && is_among(name, &shared_names(alloc, script)?) {
+        return Ok(format!(in alloc; "an earlier shared tree has the name {shown}")?);
+    }
+    why_unlawful(alloc, name)
+}
+
+/// Whether a name has 1 to 64 bytes: a letter or `_`, then letters, digits, `_`, `.` and `-`.
+pub(crate) fn is_lawful(name: &str) -> bool {
+    let [first, rest @ ..] = name.as_bytes() else {
+        return false;
+    };
+    if !first.is_ascii_alphabetic() && *first != b'_' {
+        return false;
+    }
+    for byte in rest {
+        let is_sign = *byte == b'_' || *byte == b'.' || *byte == b'-';
+        if !byte.is_ascii_alphanumeric() && !is_sign {
+            return false;
+        }
+    }
+    name.len() <= 64
+}
+
+/// Why a name is not lawful.
+pub(crate) fn why_unlawful(alloc: Global, name: &str) -> Result<String, NoMemory> {
+    let length = name.len();
+    if length == 0 || length > 64 {
+        return Ok(format!(in alloc; "a name has 1 to 64 bytes, and this one {length}")?);
+    }
+    let shown = quoted(alloc, name)?;
+    Ok(format!(in alloc; "{shown} is not a letter or _ and then letters, digits, _, . and -")?)
+}

@@ -1,0 +1,60 @@
+//! Texts that are no method type.
+use crate::why::shapes::KIND_NAMES;
+use crate::words::{meant, quoted, words_of};
+use mh_base::NoMemory;
+use mh_type::{Kind, MOST_PARAMETERS};
+use serde_json::Value;
+use std::alloc::Global;
+
+/// Why a text is no method type.
+pub(crate) fn why_none(alloc: Global, value: &Value) -> Result<String, NoMemory> {
+    let text = value.as_str().unwrap_or("");
+    let Some((parameters, returned)) = parts_of(text) else {
+        return Ok(String::from_str(alloc, "a method type is written as (int,String)boolean")?);
+    };
+    match unknown_kind(parameters, returned) {
+        Some(word) => why_no_kind(alloc, word),
+        None => why_too_many(alloc, parameters),
+    }
+}
+
+/// The texts of the parameters and of the result.
+fn parts_of(text: &str) -> Option<(&str, &str)> {
+    let inner = text.strip_prefix('(')?;
+    inner.split_once(')')
+}
+
+/// The first word of a method type that is no kind.
+fn unknown_kind<'a>(parameters: &'a str, returned: &'a str) -> Option<&'a str> {
+    if !parameters.is_empty() {
+        for word in parameters.split(',') {
+            if Kind::from_name(word).is_none() {
+                return Some(word);
+            }
+        }
+    }
+    match Kind::from_name(returned) {
+        Some(_) => None,
+        None => Some(returned),
+    }
+}
+
+fn why_no_kind(alloc: Global, word: &str) -> Result<String, NoMemory> {
+    let shown = quoted(alloc, word)?;
+    let question = meant(alloc, word, &words_of(alloc, KIND_NAMES)?)?;
+    Ok(format!(in alloc; "{shown} is not a kind{question}")?)
+}
+
+fn why_too_many(alloc: Global, parameters: &str) -> Result<String, NoMemory> {
+    let count = words_of_list(alloc, parameters)?;
+    Ok(format!(in alloc; "{count} parameters are more than {MOST_PARAMETERS}")?)
+}
+
+/// How many words stand between commas.
+fn words_of_list(alloc: Global, text: &str) -> Result<usize, NoMemory> {
+    let mut words = Vec::new(alloc);
+    for word in text.split(',') {
+        words.push(word)?;
+    }
+    Ok(words.len())
+}
