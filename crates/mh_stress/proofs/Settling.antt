@@ -1,5 +1,5 @@
 -- The sums of a settlement.
-use Rattle.std.proofs.Common.{◌≡◌, ℕ, zero, suc, ◌+◌, ◌*◌, ◌<◌, ◌≤◌, ◌^◌, List, length, refl, ap, sym, ◌∙◌, subst, arith}
+use Rattle.std.proofs.Common.{◌≡◌, ℕ, zero, suc, ◌+◌, ◌*◌, ◌<◌, ◌≤◌, ◌^◌, List, length, refl, ap, sym, subst, arith}
 use Rattle.std.specs.List.{range_with_len, sum_by}
 use Rattle.std.proofs.Math.Nat.{mul-le-mul_left}
 use Rattle.std.proofs.lemmas.List.FromFn.{length-range_with_len}
@@ -14,10 +14,13 @@ use Rattle.mh_core.specs.Records.{total}
 use Rattle.mh_live.specs.Passes.{PassState, new_passes}
 use Rattle.mh_live.specs.Settled.{IsSettled, SettledState, Settles}
 use Rattle.mh_stress.specs.Rounds.{HaveWorked, hits_by, times_hit}
-use Rattle.mh_stress.specs.Stress.{IsSettlement, hits_of_round, sums_over}
+use Rattle.mh_stress.specs.Stress.{IsSettlement, Settlement, hits_of_round, sums_over}
 use Rattle.mh_stress.specs.declared.division.Call.{Call}
-use Rattle.mh_stress.specs.declared.sums.Sums.{Sums}
 use Rattle.mh_stress.proofs.WorkerSums.{made_within, sum_small}
+
+-- what is left of a settled office
+abbrev pub settlement_of : SettledState → Settlement
+settlement_of s = record { records = s.book.records; unflushed = s.unflushed }
 
 -- a settlement is over 4,096 links at most
 pub few_places : (d : DefinitionData) (l : LimitsData) (n : ℕ) (s : SettledState) → IsSettled d l n s → length (links d) ≤ 16384
@@ -41,6 +44,14 @@ few_hits d calls workers rounds j short some few =
     let all = mul-le-mul_left rounds hits in
     omega (arith, all, few)
 
+-- the sums over what is settled are those of its records
+pub are_sums : (d : DefinitionData) (l : LimitsData) (n : ℕ) (s : SettledState) → IsSettled d l n s
+    → sums_over (length (links d)) (at s.book.totals.total) (at s.unflushed) ≡ sums_over (length (links d)) (total s.book.records) (at s.unflushed)
+are_sums d l n s is =
+    let rest : ℕ = sum_by (at s.unflushed) (range_with_len 0 (length (links d))) in
+    let same = sum_same (at s.book.totals.total) (total s.book.records) 0 (length (links d)) (λ j low high. is.lawful.totals.sums j (subst (λ (x : DefinitionData). j < length (links x)) (sym is.definition) (omega (arith, high)))) in
+    ap (λ (n : ℕ). record { made = n + rest; totals = n; unflushed = rest }) same
+
 module _ (d : DefinitionData) (calls : List Call) (limit workers rounds : ℕ) (passes : List PassState) (worked : HaveWorked d calls rounds (new_passes d limit workers) passes)
     (s : SettledState) (settles : Settles d passes s) where
   abbrev flushed : ℕ → ℕ
@@ -56,18 +67,16 @@ module _ (d : DefinitionData) (calls : List Call) (limit workers rounds : ℕ) (
       let hits = few_hits d calls workers rounds j short some few in
       omega (arith, made, within, hits)
 
-  pub is_settlement : (l : LimitsData) (n : ℕ) → IsSettled d l n s → (sums : Sums) → sums ≡ sums_over (length (links d)) flushed rest → IsSettlement d l calls workers rounds sums
-  is_settlement l n is sums e =
-      let kept : (j : ℕ) → j < length (links d) → flushed j ≡ total s.book.records j = λ j lt. is.lawful.totals.sums j (subst (λ (x : DefinitionData). j < length (links x)) (sym is.definition) lt) in
-      let same = sum_same flushed (total s.book.records) 0 (length (links d)) (λ j low high. kept j (omega (arith, high))) in
-      record {
-        records = s.book.records;
-        legal = subst (λ (m : LimitsData). Legal d m s.book.records) is.limits (subst (λ (x : DefinitionData). Legal x s.book.limits s.book.records) is.definition is.lawful.legal);
-        unflushed = rest;
-        within = λ j lt.
-            let made = settles.made_is j lt in
-            let within = made_within d calls limit workers rounds passes worked j in
-            let is_total = kept j lt in
-            omega (arith, made, within, is_total);
-        sums_are = e ∙ ap (λ (n : ℕ). record { made = n + sum_by rest (range_with_len 0 (length (links d))); totals = n; unflushed = sum_by rest (range_with_len 0 (length (links d))) }) same;
-      }
+  -- totals are those of the records
+  pub are_totals : (l : LimitsData) (n : ℕ) → IsSettled d l n s → (j : ℕ) → j < length (links d) → flushed j ≡ total s.book.records j
+  are_totals l n is j lt = is.lawful.totals.sums j (subst (λ (x : DefinitionData). j < length (links x)) (sym is.definition) lt)
+
+  pub is_settlement : (l : LimitsData) (n : ℕ) → IsSettled d l n s → IsSettlement d l calls workers rounds (settlement_of s)
+  is_settlement l n is = record {
+    legal = subst (λ (m : LimitsData). Legal d m s.book.records) is.limits (subst (λ (x : DefinitionData). Legal x s.book.limits s.book.records) is.definition is.lawful.legal);
+    within = λ j lt.
+        let made = settles.made_is j lt in
+        let within = made_within d calls limit workers rounds passes worked j in
+        let is_total = are_totals l n is j lt in
+        omega (arith, made, within, is_total);
+  }

@@ -1,5 +1,5 @@
 -- What a stress of a script writes.
-use Rattle.std.specs.Prelude.{ℕ, ◌≡◌, ◌⊎◌, ◌+◌, ◌*◌, ◌<◌, ◌≤◌, ◌^◌, List, [], ◌∷◌, ◌++◌, Option, Some, None, Ok, codes, length, max, min, IfSome}
+use Rattle.std.specs.Prelude.{ℕ, ◌≡◌, ◌⊎◌, ◌+◌, ◌*◌, ◌<◌, ◌≤◌, ◌^◌, Bool, List, [], ◌∷◌, ◌++◌, Option, Some, None, Ok, codes, cond, length, max, min, IfSome}
 use Rattle.std.specs.Fmt.{decimal}
 use Rattle.std.specs.Io.KnownBytes.{Keeps}
 use Rattle.std.specs.List.{range_with_len, sum_by}
@@ -9,11 +9,13 @@ use Rattle.mh_core.specs.Books.{Legal}
 use Rattle.mh_core.specs.Limits.{LimitsData}
 use Rattle.mh_core.specs.Records.{total}
 use Rattle.mh_core.specs.declared.record.Record.{Record}
+use Rattle.mh_ledger.specs.Ledgers.{at}
 use Rattle.mh_live.specs.Limits.{most_workers}
 use Rattle.mh_live.specs.declared.open_fault.OpenFault.{OpenFault}
 use Rattle.mh_live.specs.declared.open_fault.OpenFault.TheVariants as opening
 use Rattle.mh_text.specs.Output.{EndsReading, IsUnread, outside, script_of_input}
 use Rattle.mh_text.specs.Planning.{IsCutShort}
+use Rattle.mh_text.specs.Report.{tables_text}
 use Rattle.mh_text.specs.declared.fault.Fault.{Fault}
 use Rattle.mh_text.specs.declared.fault.TextFault.{TextFault}
 use Rattle.mh_text.specs.declared.fault.TextFault.TheVariants.{NoReader}
@@ -60,19 +62,15 @@ sums_over n total unflushed =
 abbrev pub hits_of_round : DefinitionData → List Call → ℕ → ℕ → ℕ
 hits_of_round d calls workers j = sum_by (λ w. times_hit d calls w j) (range_with_len 0 workers)
 
--- The totals are those of some records over the definition that are legal within the limits. No link has more hits than all rounds
--- of the calls make.
-pub record IsSettlement (d : DefinitionData) (l : LimitsData) (calls : List Call) (workers rounds : ℕ) (sums : Sums) : Type 0 where
+-- what is left when all workers are done: the records, and for each link the hits that no worker flushed
+pub record Settlement : Type 0 where
   pub records : List Record
-  pub legal : Legal d l records
-  pub unflushed : ℕ → ℕ
-  pub within : (j : ℕ) → j < length (links d) → total records j + unflushed j ≤ rounds * hits_of_round d calls workers j
-  pub sums_are : sums ≡ sums_over (length (links d)) (total records) unflushed
+  pub unflushed : List ℕ
 
--- the same of a script
-abbrev pub IsSettlementOf : StressOptions → Script → Sums → Type 0
-IsSettlementOf options script =
-    IsSettlement script.definition script.limits (calls_in script.steps) (workers_of options.workers script.workers) options.rounds
+-- The records are legal over the definition within the limits. No link has more hits than all rounds of the calls make.
+pub record IsSettlement (d : DefinitionData) (l : LimitsData) (calls : List Call) (workers rounds : ℕ) (s : Settlement) : Type 0 where
+  pub legal : Legal d l s.records
+  pub within : (j : ℕ) → j < length (links d) → total s.records j + at s.unflushed j ≤ rounds * hits_of_round d calls workers j
 
 -- `settled made 9 totals 9 unflushed 0`
 abbrev pub settled_text : Sums → List ℕ
@@ -82,10 +80,29 @@ settled_text sums = codes "settled made " ++ (decimal sums.made ++ (codes " tota
 abbrev pub settled_line : Sums → List ℕ
 settled_line sums = settled_text sums ++ 10 ∷ []
 
--- the line of the script of an input
+-- a line for each point, site and link, where that is asked for
+abbrev pub report_where : Bool → DefinitionData → List Record → List ℕ → List ℕ
+report_where report d records unflushed = cond report (tables_text d records unflushed) []
+
+-- the line of the sums, and those lines
+abbrev pub settlement_text : Bool → DefinitionData → Settlement → List ℕ
+settlement_text report d s =
+    settled_line (sums_over (length (links d)) (total s.records) (at s.unflushed)) ++ report_where report d s.records s.unflushed
+
+-- the text of some settlement of these calls
+pub record IsSettledText (report : Bool) (d : DefinitionData) (l : LimitsData) (calls : List Call) (workers rounds : ℕ) (text : List ℕ) : Type 0 where
+  pub settlement : Settlement
+  pub is : IsSettlement d l calls workers rounds settlement
+  pub text_is : text ≡ settlement_text report d settlement
+
+-- the same of a script
+abbrev pub IsSettledTextOf : StressOptions → Script → List ℕ → Type 0
+IsSettledTextOf options script =
+    IsSettledText options.report script.definition script.limits (calls_in script.steps) (workers_of options.workers script.workers) options.rounds
+
+-- the same of the script of an input
 abbrev pub IsStressed : StressOptions → List ℕ → List ℕ → Type 0
-IsStressed options input text =
-    (script : Script) × (sums : Sums) × (script_of_input input ≡ Ok script) × IsSettlementOf options script sums × (text ≡ settled_line sums)
+IsStressed options input text = (script : Script) × (script_of_input input ≡ Ok script) × IsSettledTextOf options script text
 
 -- Where a fault leaves the writer: as it was, or with a beginning of the line.
 abbrev pub FailsStress : StressOptions → Option (List ℕ) → Option (List ℕ) → Option (List ℕ) → Type 0 → Type 0 → Fault → Type 0

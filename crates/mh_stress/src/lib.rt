@@ -2,7 +2,7 @@
 //! the world.
 //!
 //! ```
-//! let options = StressOptions { workers: Some(4), rounds: 1000 };
+//! let options = StressOptions { workers: Some(4), rounds: 1000, report: false };
 //! stress_bytes(rt, alloc, options, &mut reader, &mut writer)?;
 //! ```
 #![tactic(auto)]
@@ -10,6 +10,7 @@
 mod changes;
 mod division;
 mod rounds;
+mod settled;
 mod stress;
 mod sums;
 mod threads;

@@ -6,11 +6,11 @@ ghost use Rattle.mh_text.specs.Gives.{no_memory, IsHonest};
 ghost use Rattle.mh_text.specs.Output.{outside};
 ghost use Rattle.mh_text.specs.declared.fault.TextFault.TheVariants.{NoReader};
 ghost use Rattle.mh_live.specs.Limits.{most_workers};
-ghost use Rattle.mh_stress.specs.Stress.{AreLawful, FailsStress, cause_of, IsSettlement, IsSettlementOf, IsStressed, workers_of, most_rounds};
+ghost use Rattle.mh_stress.specs.Stress.{AreLawful, FailsStress, cause_of, IsSettledText, IsSettledTextOf, IsStressed, workers_of};
 ghost use Rattle.mh_stress.specs.Rounds.{AreFresh};
 
 use crate::division::{Division, divide};
-use crate::sums::{Sums, line, sums_of};
+use crate::settled::settled_lines;
 use crate::threads::work_beside;
 use mh_live::{Live, MOST_WORKERS, Name, OpenFault, Opening, Pass};
 use mh_text::{Fault, InputFault, Script, TextFault, Watched, read_script_from, write_lines};
@@ -30,6 +30,9 @@ pub struct StressOptions {
     pub workers: Option<u32>,
     /// How often each worker makes its calls, from 1 to 1,000,000.
     pub rounds: u32,
+    /// Whether a line for each point, site and link stands behind the sums (see `push_tables` of
+    /// mh_text).
+    pub report: bool,
 }
 
 /// What an office is not opened for, as a fault outside the events.
@@ -43,54 +46,56 @@ fn fault_of(cause: OpenFault) -> Fault
     }
 }
 
-/// Has the workers make their rounds beside the changes, and settles.
+/// Has the workers make their rounds beside the changes, settles, and gives the lines of that.
 fn settle_rounds<N: Name + Send + Sync, T: Threads + Wait + Sync>(
     rt: &T,
     alloc: Global,
     live: Live<N>,
     passes: Vec<Pass<N>>,
     division: Division,
-    rounds: u32,
-) -> Result<Sums, Fault>
+    options: StressOptions,
+) -> Result<String, Fault>
     requires fresh { AreFresh N.definition passes.items }
     requires workers { (0 < length passes.items) × (length passes.items ≤ most_workers) }
-    requires rounds { rounds ≤ most_rounds }
-    ensures settled { IfOk result (IsSettlement N.definition N.limits division.calls.items
-        (length passes.items) rounds) }
+    requires options { AreLawful options }
+    ensures settled { IfOk result (λ text. IsSettledText options.report N.definition N.limits
+        division.calls.items (length passes.items) options.rounds (string_bytes text)) }
     ensures told { IfErr result (λ e. e ≡ outside no_memory) }
 {
     let workers = passes.len();
-    let Some(passes) = work_beside(rt, alloc, &live, passes, division, rounds, workers) else {
+    let Some(passes) = work_beside(rt, alloc, &live, passes, division, options.rounds, workers)
+    else {
         return Err(Fault::from(InputFault::NoMemory));
     };
     match live.settle(rt, alloc, passes) {
-        Ok(settled) => Ok(sums_of(&settled)),
+        Ok(settled) => Ok(settled_lines(alloc, options.report, &settled)?),
         // No pass is missing that an opening made; so memory was.
         Err(_) => Err(Fault::from(InputFault::NoMemory)),
     }
 }
 
-/// Opens the office, has the workers make their rounds beside the changes, and settles.
+/// Opens the office, has the workers make their rounds beside the changes, settles, and gives the
+/// lines of that.
 fn run_threads<N: Name + Send + Sync, T: Threads + Wait + Sync>(
     rt: &T,
     alloc: Global,
     opening: Opening,
     division: Division,
-    rounds: u32,
-) -> Result<Sums, Fault>
+    options: StressOptions,
+) -> Result<String, Fault>
     requires name { opening.name ≡ N.book }
     requires definition { opening.definition ≡ N.definition }
     requires limits { opening.limits ≡ N.limits }
     requires workers { opening.workers ≡ N.workers }
     requires some { 0 < opening.workers }
     requires few { opening.workers ≤ most_workers }
-    requires rounds { rounds ≤ most_rounds }
-    ensures settled { IfOk result (IsSettlement opening.definition opening.limits division.calls.items
-        opening.workers rounds) }
+    requires options { AreLawful options }
+    ensures settled { IfOk result (λ text. IsSettledText options.report opening.definition
+        opening.limits division.calls.items opening.workers options.rounds (string_bytes text)) }
     ensures told { IfErr result (λ e. (e ≡ outside no_memory) ⊎ (e ≡ outside NoReader)) }
 {
     match opening.open::<N>() {
-        Ok((live, passes)) => settle_rounds(rt, alloc, live, passes, division, rounds),
+        Ok((live, passes)) => settle_rounds(rt, alloc, live, passes, division, options),
         Err(cause) => Err(fault_of(cause)),
     }
 }
@@ -114,9 +119,9 @@ fn stress_script<T: Threads + Wait + Sync>(
     alloc: Global,
     options: StressOptions,
     script: Script,
-) -> Result<Sums, Fault>
+) -> Result<String, Fault>
     requires options { AreLawful options }
-    ensures settled { IfOk result (IsSettlementOf options script) }
+    ensures settled { IfOk result (λ text. IsSettledTextOf options script (string_bytes text)) }
     ensures told { IfErr result (λ e. (e ≡ outside no_memory) ⊎ (e ≡ outside NoReader)) }
 {
     let Script {
@@ -128,7 +133,7 @@ fn stress_script<T: Threads + Wait + Sync>(
     let workers = workers_for(options, workers);
     let division = divide(alloc, steps.into_vec())?;
     let opening = Opening::new(alloc, &definition, workers, limits).map_err(fault_of)?;
-    run_threads::<Brand, T>(rt, alloc, opening, division, options.rounds)
+    run_threads::<Brand, T>(rt, alloc, opening, division, options)
 }
 
 /// Stresses the script that the reader gives, and writes the line of its sums over all links:
@@ -162,6 +167,6 @@ pub fn stress_bytes<T: Threads + Wait + Sync, R: Read, W: Write>(
         writer.old.failures writer.new.failures }
 {
     let script = read_script_from(alloc, reader)?;
-    let sums = stress_script(rt, alloc, options, script)?;
-    write_lines(line(alloc, sums)?, writer)
+    let lines = stress_script(rt, alloc, options, script)?;
+    write_lines(lines, writer)
 }
