@@ -40,14 +40,17 @@ pub(crate) struct Case<'a> {
     pub(crate) err: Option<&'a str>,
     /// The exit status.
     pub(crate) status: u64,
-    /// The path to the least part that has the fault of a script, or `None` where none is wanted.
+    /// The path to the least part that has the fault, or `None` where none is wanted.
     pub(crate) place: Option<&'a str>,
+    /// How the fault of the input is explained, and the notes of keys that nothing reads, or `None`
+    /// where no explanation is wanted.
+    pub(crate) explained: Option<&'a str>,
 }
 
 impl<'a> Case<'a> {
     /// Reads an object with the keys `id`, `words`, `stdin`, `stdout`, `stderr` and `status`. With
-    /// a key `length` its input has spaces put behind it up to that number of bytes, and a key
-    /// `where` has the place of its fault.
+    /// a key `length` its input has spaces put behind it up to that number of bytes, a key `where`
+    /// has the place of its fault, and a key `explained` its explanation.
     pub(crate) fn read(alloc: Global, value: &'a Value) -> Result<Case<'a>, CaseFault> {
         let mut words = Vec::new(alloc);
         for word in member(value, "words")?
@@ -67,6 +70,7 @@ impl<'a> Case<'a> {
                 .as_u64()
                 .ok_or(CaseFault::BadShape)?,
             place: value.get("where").and_then(Value::as_str),
+            explained: value.get("explained").and_then(Value::as_str),
         })
     }
 }

@@ -1,36 +1,89 @@
-//! Where the fault of a case is.
+//! Where the fault of a case is, and how it is explained.
 
 use crate::case::Case;
-use mh_explain::place_in_script;
+use mh_explain::{
+    InputForm, explanation, place_in_claim, place_in_problem, place_in_script, unread_keys,
+};
 use mh_text::readers::read_json;
-use mh_text::{TextFault, read_script};
+use mh_text::{Fault, InputFault, TextFault, read_plan, read_problem, read_script};
 use std::alloc::Global;
 
-/// What differs from the place that a case wants, or `None` where nothing does.
+/// What differs from the place and the explanation that a case wants, or `None` where nothing does.
 pub(crate) fn is_elsewhere(alloc: Global, case: &Case<'_>) -> anyhow::Result<Option<&'static str>> {
-    let Some(wanted) = case.place else {
-        return Ok(None);
-    };
-    let found = place(alloc, case.input.as_bytes())?;
-    if found.as_str() == wanted {
-        Ok(None)
-    } else {
-        Ok(Some("has its fault elsewhere:"))
+    if let Some(wanted) = case.place {
+        let found = place(alloc, form_of(case)?, case.input.as_bytes())?;
+        if found.as_str() != wanted {
+            return Ok(Some("has its fault elsewhere:"));
+        }
+    }
+    if let Some(wanted) = case.explained {
+        let found = explained(alloc, form_of(case)?, case.input.as_bytes())?;
+        if found.as_str() != wanted {
+            return Ok(Some("is explained otherwise:"));
+        }
+    }
+    Ok(None)
+}
+
+/// What the command of a case reads its input as.
+fn form_of(case: &Case<'_>) -> anyhow::Result<InputForm> {
+    match case.words.as_slice() {
+        [_, command, ..] if *command == "plan" => Ok(InputForm::Problem),
+        [_, command, ..] if *command == "check" => Ok(InputForm::Claim),
+        [_, _, ..] => Ok(InputForm::Script),
+        _ => anyhow::bail!("a case has no command"),
     }
 }
 
-/// The path to the least part of a script that has its first fault.
-fn place(alloc: Global, input: &[u8]) -> anyhow::Result<String> {
-    let Err(fault) = read_script(alloc, input) else {
-        anyhow::bail!("a script has no fault");
+/// The first fault of reading an input.
+fn first_fault(alloc: Global, form: InputForm, input: &[u8]) -> Option<InputFault> {
+    let read = match form {
+        InputForm::Script => read_script(alloc, input).map(|_| ()),
+        InputForm::Problem => read_problem(alloc, input, None).map(|_| ()),
+        InputForm::Claim => claim_read(alloc, input),
     };
-    let TextFault::Input(fault) = fault.kind else {
-        anyhow::bail!("a fault is not of the script");
+    match read {
+        Err(
+            Fault {
+                kind: TextFault::Input(fault),
+                ..
+            },
+        ) => Some(fault),
+        _ => None,
+    }
+}
+
+/// Whether a problem and its plan are read.
+fn claim_read(alloc: Global, input: &[u8]) -> Result<(), Fault> {
+    let _problem = read_problem(alloc, input, Some("problem"))?;
+    let _plan = read_plan(alloc, input, Some("plan"))?;
+    Ok(())
+}
+
+/// The path to the least part of an input that has its first fault.
+fn place(alloc: Global, form: InputForm, input: &[u8]) -> anyhow::Result<String> {
+    let Some(fault) = first_fault(alloc, form, input) else {
+        anyhow::bail!("an input has no fault");
     };
     let Ok(value) = read_json(alloc, input) else {
-        anyhow::bail!("a script is no JSON");
+        anyhow::bail!("an input is no JSON");
     };
-    let place = place_in_script(alloc, &value, fault)?;
+    let place = match form {
+        InputForm::Script => place_in_script(alloc, &value, fault)?,
+        InputForm::Problem => place_in_problem(alloc, &value, fault)?,
+        InputForm::Claim => place_in_claim(alloc, &value, fault)?,
+    };
     let path = format!(in alloc; "{place}")?;
     Ok(path)
+}
+
+/// The explanation of the first fault of an input, and the notes of the keys that nothing reads.
+fn explained(alloc: Global, form: InputForm, input: &[u8]) -> anyhow::Result<String> {
+    let mut text = match first_fault(alloc, form, input) {
+        Some(fault) => explanation(alloc, form, input, fault)?,
+        None => String::new(alloc),
+    };
+    let unread = unread_keys(alloc, form, input)?;
+    text.push_str(unread.notes.as_str())?;
+    Ok(text)
 }

@@ -1,5 +1,5 @@
 -- What words are taken for.
-use Rattle.std.proofs.Common.{◌≡◌, ◌⊎◌, inl, inr, ◌∙◌, sym, ap, subst, refl, ◌&&◌, ℕ, List, [], ◌∷◌, Option, true, codes, Bool, false}
+use Rattle.std.proofs.Common.{◌≡◌, ◌⊎◌, inl, inr, ◌∙◌, sym, ap, subst, refl, ◌&&◌, ℕ, List, [], ◌∷◌, drop, Option, true, Bool, false}
 use Rattle.clap.specs.Simple.{built, entered, names_of}
 use Rattle.clap.specs.Faults.{built_fault}
 use Rattle.clap.specs.Takes.{built_takes}
@@ -11,7 +11,9 @@ use Rattle.clap.specs.declared.error.kind.ErrorKind.{ErrorKind}
 use Rattle.clap.specs.declared.error.kind.ErrorKind.TheVariants.{DisplayHelp, DisplayVersion, OutOfMemory}
 use Rattle.clap.specs.declared.parser.matches.ArgMatches.{ArgMatches}
 use Rattle.clap.proofs.OnLiterals.{clap_on_literals}
-use Rattle.mh_command.specs.CommandLine.{program, run_words, AsksFor, AsksHelp, AsksVersion, IsNamed}
+use Rattle.mh_command.specs.CommandLine.{program, run_words, check_words, AreWords, AsksFor, AsksHelp, AsksVersion, IsNamed}
+use Rattle.mh_command.specs.declared.reading.Reading.{Reading}
+use Rattle.mh_command.specs.declared.request.Asked.{Asked}
 use Rattle.mh_command.specs.declared.request.Request.{Request}
 use Rattle.mh_command.specs.declared.request.Request.TheVariants.{Run, Check, Plan, Stress}
 
@@ -19,46 +21,80 @@ is_plain : is_simple program ≡ true
 unfolding clap_on_literals
 is_plain = refl
 
+abbrev Takes : List (List ℕ) → Type 0
+Takes after = is_simple program && built_takes (built program) nothing_held after ≡ true
+
 -- the words of `run` and `check` are taken
-taken_run : (report : Bool) → is_simple program && built_takes (built program) nothing_held (run_words report) ≡ true
+taken_run : (report explain strict : Bool) → Takes (run_words (record { report = report }) (record { explain = explain; strict = strict }))
 unfolding clap_on_literals
-taken_run true = refl
-taken_run false = refl
+taken_run true true true = refl
+taken_run true true false = refl
+taken_run true false true = refl
+taken_run true false false = refl
+taken_run false true true = refl
+taken_run false true false = refl
+taken_run false false true = refl
+taken_run false false false = refl
 
-taken_check : is_simple program && built_takes (built program) nothing_held (codes "check" ∷ []) ≡ true
+taken_check : (explain strict : Bool) → Takes (check_words (record { explain = explain; strict = strict }))
 unfolding clap_on_literals
-taken_check = refl
+taken_check true true = refl
+taken_check true false = refl
+taken_check false true = refl
+taken_check false false = refl
 
-pub is_taken : (request : Request) (words : List (List ℕ)) → AsksFor request words → takes program words ≡ true
-is_taken (Run options) words is = subst (λ after. is_simple program && built_takes (built program) nothing_held after ≡ true) (sym is) (taken_run options.report)
-is_taken Check words is = subst (λ after. is_simple program && built_takes (built program) nothing_held after ≡ true) (sym is) taken_check
-is_taken (Plan options) words is = is.0
-is_taken (Stress options) words is = is.0
+taken_words : (request : Request) (reading : Reading) (after : List (List ℕ)) → AreWords request reading after → Takes after
+taken_words (Run options) reading after is = subst Takes (sym is) (taken_run options.report reading.explain reading.strict)
+taken_words Check reading after is = subst Takes (sym is) (taken_check reading.explain reading.strict)
+taken_words (Plan options) reading after is = absurd is
+taken_words (Stress options) reading after is = absurd is
+
+pub is_taken : (asked : Asked) (words : List (List ℕ)) → AsksFor asked words → takes program words ≡ true
+is_taken asked words (inl are) = taken_words asked.request asked.reading (drop 1 words) are
+is_taken asked words (inr found) = found.0
 
 abbrev entered_by : List (List ℕ) → Option (Text × List Row)
 entered_by after = entered (built program) (stop_after (built program).top.rules (names_of (built program)) after)
 
-named_run : (report : Bool) → IsNamed (Run (record { report = report })) (entered_by (run_words report))
-unfolding clap_on_literals
-named_run true = (refl, refl)
-named_run false = (refl, refl)
+abbrev IsEntered : Request → Reading → List (List ℕ) → Type 0
+IsEntered request reading after = IsNamed (record { request = request; reading = reading }) (entered_by after)
 
-named_check : IsNamed Check (entered_by (codes "check" ∷ []))
+named_run : (report explain strict : Bool) → IsEntered (Run (record { report = report })) (record { explain = explain; strict = strict })
+    (run_words (record { report = report }) (record { explain = explain; strict = strict }))
 unfolding clap_on_literals
-named_check = refl
+named_run true true true = ((refl, refl), record { explain = refl; strict = refl })
+named_run true true false = ((refl, refl), record { explain = refl; strict = refl })
+named_run true false true = ((refl, refl), record { explain = refl; strict = refl })
+named_run true false false = ((refl, refl), record { explain = refl; strict = refl })
+named_run false true true = ((refl, refl), record { explain = refl; strict = refl })
+named_run false true false = ((refl, refl), record { explain = refl; strict = refl })
+named_run false false true = ((refl, refl), record { explain = refl; strict = refl })
+named_run false false false = ((refl, refl), record { explain = refl; strict = refl })
 
-is_named : (request : Request) (words : List (List ℕ)) → AsksFor request words → IsNamed request (subcommand_of program words)
-is_named (Run options) words is = subst (λ after. IsNamed (Run options) (entered_by after)) (sym is) (named_run options.report)
-is_named Check words is = subst (λ after. IsNamed Check (entered_by after)) (sym is) named_check
-is_named (Plan options) words is = is.1
-is_named (Stress options) words is = is.1
+named_check : (explain strict : Bool) → IsEntered Check (record { explain = explain; strict = strict }) (check_words (record { explain = explain; strict = strict }))
+unfolding clap_on_literals
+named_check true true = (refl, record { explain = refl; strict = refl })
+named_check true false = (refl, record { explain = refl; strict = refl })
+named_check false true = (refl, record { explain = refl; strict = refl })
+named_check false false = (refl, record { explain = refl; strict = refl })
+
+named_words : (request : Request) (reading : Reading) (after : List (List ℕ)) → AreWords request reading after → IsEntered request reading after
+named_words (Run options) reading after is = subst (IsEntered (Run options) reading) (sym is) (named_run options.report reading.explain reading.strict)
+named_words Check reading after is = subst (IsEntered Check reading) (sym is) (named_check reading.explain reading.strict)
+named_words (Plan options) reading after is = absurd is
+named_words (Stress options) reading after is = absurd is
+
+is_named : (asked : Asked) (words : List (List ℕ)) → AsksFor asked words → IsNamed asked (subcommand_of program words)
+is_named asked words (inl are) = named_words asked.request asked.reading (drop 1 words) are
+is_named asked words (inr found) = found.1
 
 module _ (c : Command) (words : List (List ℕ)) (made : app_of c ≡ program) where
   -- matches of these words are those of the subcommand
-  pub is_matched : (m : ArgMatches) → HasMatchesOf (app_of c) words m → (request : Request) → AsksFor request words → IsNamed request (subcommand_rows_of m)
-  is_matched m has request is =
-      let rows : subcommand_rows_of m ≡ subcommand_of (app_of c) words = (has (ap is_simple made ∙ is_plain)).1 in
-      subst (IsNamed request) (sym (rows ∙ ap (λ a. subcommand_of a words) made)) (is_named request words is)
+  pub are_rows : (m : ArgMatches) → HasMatchesOf (app_of c) words m → subcommand_rows_of m ≡ subcommand_of program words
+  are_rows m has = (has (ap is_simple made ∙ is_plain)).1 ∙ ap (λ a. subcommand_of a words) made
+
+  pub is_matched : (m : ArgMatches) → HasMatchesOf (app_of c) words m → (asked : Asked) → AsksFor asked words → IsNamed asked (subcommand_rows_of m)
+  is_matched m has asked is = subst (IsNamed asked) (sym (are_rows m has)) (is_named asked words is)
 
 is_free : is_simple_and_free program ≡ true
 unfolding clap_on_literals

@@ -1,11 +1,11 @@
--- How a request ends: its work, the last flush, and what is told.
-use Rattle.std.proofs.Common.{◌≡◌, ◌≢◌, ◌⊎◌, ◌<◌, ◌≤◌, inl, inr, refl, sym, ap, ◌∙◌, subst, ℕ, List, [], ◌++◌, append-nil, Option, Some, None, Result, Ok, Err, IfOk, IfErr, IfSome, arith}
+-- How what is asked ends: its work, the last flush, and what is told.
+use Rattle.std.proofs.Common.{◌≡◌, ◌≢◌, ◌⊎◌, ◌<◌, ◌≤◌, inl, inr, refl, sym, ap, ◌∙◌, subst, ℕ, Bool, true, false, List, [], ◌∷◌, ◌++◌, append-nil, Option, Some, None, Result, Ok, Err, IfOk, IfErr, IfSome, arith}
 use Rattle.std.proofs.KnownBytes.{Appends-kept, Keeps-refl, Keeps-trans}
 use Rattle.std.specs.Io.KnownBytes.{Appends, Keeps}
 use Rattle.mh_core.specs.Legal.{MachineState}
 use Rattle.mh_text.specs.declared.json.step.Step.{Step}
 use Rattle.mh_text.specs.Bytes.{HasFailed, one_more}
-use Rattle.mh_text.specs.Faults.{fault_line}
+use Rattle.mh_text.specs.Faults.{fault_line, fault_text}
 use Rattle.mh_text.specs.Gives.{IsEndOf, IsHonest, no_memory}
 use Rattle.mh_text.specs.Lines.{lines_of}
 use Rattle.mh_text.specs.Output as output
@@ -16,26 +16,39 @@ use Rattle.mh_text.specs.declared.fault.TextFault.{TextFault}
 use Rattle.mh_text.specs.declared.fault.TextFault.TheVariants.{Input, ReadFailed, WriteFailed, NoReader}
 use Rattle.mh_text.specs.declared.json.script.Script.{Script}
 use Rattle.mh_text.specs.declared.streams.run.RunOptions.{RunOptions}
-use Rattle.mh_command.specs.Answers.{Answers, EndsIn, FailsIn, IsAnswerTo, Works, output_alone, turned_down}
+use Rattle.mh_command.specs.Answers.{Answers, EndsIn, FailsIn, FailsOn, IsAnswerOf, IsAnswerTo, IsAnswerUnless, IsHelp, Works, output_alone, turned_down}
 use Rattle.mh_command.specs.Statuses.{status_told}
-use Rattle.mh_command.specs.Streams.{IsDone, IsTold}
+use Rattle.mh_command.specs.Streams.{IsDone, IsTold, IsToldFor}
+use Rattle.mh_command.specs.declared.request.Asked.{Asked}
 use Rattle.mh_command.specs.declared.request.Request.{Request}
 use Rattle.mh_command.specs.declared.request.Request.TheVariants.{Run, Check, Plan, Stress}
 
 pub one_more_fails : (n : ℕ) → HasFailed n (one_more n)
 one_more_fails n = omega arith
 
+pub four_is_no_two : {n : ℕ} → n ≡ 4 → n ≢ 2
+four_is_no_two four two = omega (arith, four, two)
+
+pub four_is_not_below_two : {n : ℕ} → n ≡ 4 → n < 2 → ⊥
+four_is_not_below_two four small = omega (arith, four, small)
+
 pub nothing_appended : (old new : Option (List ℕ)) → Keeps old new → Appends old new []
 nothing_appended None new kept = tt
 nothing_appended (Some xs) None kept = absurd kept
 nothing_appended (Some xs) (Some ys) kept = kept ∙ sym (append-nil xs)
 
--- a request that memory kept from its work
-pub nothing_done : (request : Request) (input old : Option (List ℕ)) (A B : Type 0) → FailsIn request input old old A B (outside no_memory)
-nothing_done (Run options) input old A B = inl (Keeps-refl old, inl refl)
-nothing_done Check input old A B = inl (Keeps-refl old, inl refl)
-nothing_done (Plan options) input old A B = inl (Keeps-refl old, inl refl)
-nothing_done (Stress options) input old A B = inl (Keeps-refl old, inl (inl refl))
+appended_nothing : (old new : Option (List ℕ)) → Appends old new [] → Keeps old new
+appended_nothing None new written = tt
+appended_nothing (Some xs) None written = absurd written
+appended_nothing (Some xs) (Some ys) written = written ∙ append-nil xs
+
+not_nil : (xs : List ℕ) (x : ℕ) → xs ++ x ∷ [] ≡ [] → ⊥
+not_nil [] x is = cc
+not_nil (y ∷ ys) x is = cc
+
+-- memory kept what is asked from its work
+pub nothing_done : (asked : Asked) (input old : Option (List ℕ)) (A B : Type 0) → FailsIn asked input old old A B (outside no_memory)
+nothing_done asked input old A B = inl (Keeps-refl old, inl refl)
 
 -- the statuses of faults
 pub told_range : (k : TextFault) → (0 < status_told k) × (status_told k ≤ 4) × (status_told k ≢ 2)
@@ -88,26 +101,33 @@ module _ (old mid new : Option (List ℕ)) (kept : Keeps mid new) where
   early_kept options script B e (inr (inl (end, ends))) = inr (inl (end, ends_kept (first script) _ _ ends))
   early_kept options script B e (inr (inr (last, between, runs, fails))) = inr (inr (last, between, runs, report_kept options last between B e fails))
 
-  fails_kept : (request : Request) (input : Option (List ℕ)) (A B : Type 0) (e : Fault) → FailsIn request input old mid A B e → FailsIn request input old new A B e
-  fails_kept (Run options) input A B e (inl (same, unread)) = inl (Keeps-trans old mid new same kept, unread)
-  fails_kept (Run options) None A B e (inr known) = inr known
-  fails_kept (Run options) (Some bytes) A B e (inr (script, is, early)) = inr (script, is, early_kept options script B e early)
-  fails_kept Check input A B e (inl (same, unread)) = inl (Keeps-trans old mid new same kept, unread)
-  fails_kept Check input A B e (inr (verdict, found, (is, failed, (front, rest, left, split, begun)))) =
+  on_kept : (request : Request) (input : Option (List ℕ)) (A B : Type 0) (e : Fault) → FailsOn request input old mid A B e → FailsOn request input old new A B e
+  on_kept (Run options) input A B e (inl (same, unread)) = inl (Keeps-trans old mid new same kept, unread)
+  on_kept (Run options) None A B e (inr known) = inr known
+  on_kept (Run options) (Some bytes) A B e (inr (script, is, early)) = inr (script, is, early_kept options script B e early)
+  on_kept Check input A B e (inl (same, unread)) = inl (Keeps-trans old mid new same kept, unread)
+  on_kept Check input A B e (inr (verdict, found, (is, failed, (front, rest, left, split, begun)))) =
       inr (verdict, found, (is, failed, (front, rest, left, split, Appends-kept old mid new front begun kept)))
-  fails_kept (Plan options) input A B e (inl (same, unread)) = inl (Keeps-trans old mid new same kept, unread)
-  fails_kept (Plan options) input A B e (inr (text, planned, (is, failed, (front, rest, left, split, begun)))) =
+  on_kept (Plan options) input A B e (inl (same, unread)) = inl (Keeps-trans old mid new same kept, unread)
+  on_kept (Plan options) input A B e (inr (text, planned, (is, failed, (front, rest, left, split, begun)))) =
       inr (text, planned, (is, failed, (front, rest, left, split, Appends-kept old mid new front begun kept)))
-  fails_kept (Stress options) input A B e (inl (same, unread)) = inl (Keeps-trans old mid new same kept, unread)
-  fails_kept (Stress options) input A B e (inr (text, stressed, (is, failed, (front, rest, left, split, begun)))) =
+  on_kept (Stress options) input A B e (inl (same, unread)) = inl (Keeps-trans old mid new same kept, unread)
+  on_kept (Stress options) input A B e (inr (text, stressed, (is, failed, (front, rest, left, split, begun)))) =
       inr (text, stressed, (is, failed, (front, rest, left, split, Appends-kept old mid new front begun kept)))
 
-  works_kept : (request : Request) (input : Option (List ℕ)) (status : ℕ) → Works request input old mid status → Works request input old new status
-  works_kept request None status known = known
-  works_kept request (Some bytes) status (text, is, written) = (text, is, Appends-kept old mid new text written kept)
+  fails_kept : (asked : Asked) (input : Option (List ℕ)) (A B : Type 0) (e : Fault) → FailsIn asked input old mid A B e → FailsIn asked input old new A B e
+  fails_kept asked input A B e (inl (same, unread)) = inl (Keeps-trans old mid new same kept, unread)
+  fails_kept asked input A B e (inr (unrefused, fails)) = inr (unrefused, on_kept asked.request input A B e fails)
 
-abbrev IsTurned : Option (List ℕ) → Option (List ℕ) → Fault → Request → List ℕ → Type 0
-IsTurned old new e request bytes = IsAnswerTo request bytes (turned_down e) × Keeps old new
+  works_kept : (asked : Asked) (input : Option (List ℕ)) (status : ℕ) → Works asked input old mid status → Works asked input old new status
+  works_kept asked None status known = known
+  works_kept asked (Some bytes) status (text, is, written) = (text, is, Appends-kept old mid new text written kept)
+
+abbrev IsTurnedOn : Option (List ℕ) → Option (List ℕ) → Fault → Request → List ℕ → Type 0
+IsTurnedOn old new e request bytes = IsAnswerOf request bytes (turned_down e) × Keeps old new
+
+abbrev IsTurned : Option (List ℕ) → Option (List ℕ) → Fault → Asked → List ℕ → Type 0
+IsTurned old new e asked bytes = IsAnswerTo asked bytes (turned_down e) × Keeps old new
 
 -- a fault of status 1 is one of the input, and nothing was written
 module _ (old new : Option (List ℕ)) (A B : Type 0) (e : Fault) (small : status_told e.kind < 2) where
@@ -117,35 +137,48 @@ module _ (old new : Option (List ℕ)) (A B : Type 0) (e : Fault) (small : statu
   not_outside : (k : TextFault) → 2 < status_told k → e ≡ outside k → ⊥
   not_outside k large is = not_of k large (ap (λ f. f.kind) is)
 
-  refuses_input : (request : Request) (input : Option (List ℕ)) → FailsIn request input old new A B e → IfSome input (IsTurned old new e request)
-  refuses_input request None fails = tt
-  refuses_input (Run options) (Some bytes) (inl (kept, inl memory)) = absurd (not_outside no_memory (omega arith) memory)
-  refuses_input (Run options) (Some bytes) (inl (kept, inr (inl (read, failed)))) = absurd (not_outside ReadFailed (omega arith) read)
-  refuses_input (Run options) (Some bytes) (inl (kept, inr (inr (inl fault)))) = (inr (e, fault, refl), kept)
-  refuses_input (Run options) (Some bytes) (inl (kept, inr (inr (inr (memory, reached))))) = absurd (not_of no_memory (omega arith) memory)
-  refuses_input (Run options) (Some bytes) (inr (script, is, inl (kept, memory))) = absurd (not_outside no_memory (omega arith) memory)
-  refuses_input (Run options) (Some bytes) (inr (script, is, inr (inl (inl memory, ends)))) = absurd (not_of no_memory (omega arith) memory)
-  refuses_input (Run options) (Some bytes) (inr (script, is, inr (inl (inr (write, failed), ends)))) = absurd (not_of WriteFailed (omega arith) write)
-  refuses_input (Run options) (Some bytes) (inr (script, is, inr (inr (last, between, runs, (asked, inl (kept, memory)))))) = absurd (not_outside no_memory (omega arith) memory)
-  refuses_input (Run options) (Some bytes) (inr (script, is, inr (inr (last, between, runs, (asked, inr (write, failed, begun)))))) = absurd (not_outside WriteFailed (omega arith) write)
-  refuses_input Check (Some bytes) (inl (kept, inl memory)) = absurd (not_outside no_memory (omega arith) memory)
-  refuses_input Check (Some bytes) (inl (kept, inr (inl (read, failed)))) = absurd (not_outside ReadFailed (omega arith) read)
-  refuses_input Check (Some bytes) (inl (kept, inr (inr fault))) = (inr (e, fault, refl), kept)
-  refuses_input Check (Some bytes) (inr (verdict, found, (is, failed, begun))) = absurd (not_outside WriteFailed (omega arith) is)
-  refuses_input (Plan options) (Some bytes) (inl (kept, inl memory)) = absurd (not_outside no_memory (omega arith) memory)
-  refuses_input (Plan options) (Some bytes) (inl (kept, inr (inl (read, failed)))) = absurd (not_outside ReadFailed (omega arith) read)
-  refuses_input (Plan options) (Some bytes) (inl (kept, inr (inr fault))) = (inr (e, fault, refl), kept)
-  refuses_input (Plan options) (Some bytes) (inr (text, planned, (is, failed, begun))) = absurd (not_outside WriteFailed (omega arith) is)
-  refuses_input (Stress options) (Some bytes) (inl (kept, inl (inl memory))) = absurd (not_outside no_memory (omega arith) memory)
-  refuses_input (Stress options) (Some bytes) (inl (kept, inl (inr (inl (read, failed))))) = absurd (not_outside ReadFailed (omega arith) read)
-  refuses_input (Stress options) (Some bytes) (inl (kept, inl (inr (inr (inl fault))))) = (inr (e, fault, refl), kept)
-  refuses_input (Stress options) (Some bytes) (inl (kept, inl (inr (inr (inr (memory, reached)))))) = absurd (not_of no_memory (omega arith) memory)
-  refuses_input (Stress options) (Some bytes) (inl (kept, inr reader)) = absurd (not_outside NoReader (omega arith) reader)
-  refuses_input (Stress options) (Some bytes) (inr (text, stressed, (is, failed, begun))) = absurd (not_outside WriteFailed (omega arith) is)
+  refuses_on : (request : Request) (bytes : List ℕ) → FailsOn request (Some bytes) old new A B e → IsTurnedOn old new e request bytes
+  refuses_on (Run options) bytes (inl (kept, inl memory)) = absurd (not_outside no_memory (omega arith) memory)
+  refuses_on (Run options) bytes (inl (kept, inr (inl (read, failed)))) = absurd (not_outside ReadFailed (omega arith) read)
+  refuses_on (Run options) bytes (inl (kept, inr (inr (inl fault)))) = (inr (e, fault, refl), kept)
+  refuses_on (Run options) bytes (inl (kept, inr (inr (inr (memory, reached))))) = absurd (not_of no_memory (omega arith) memory)
+  refuses_on (Run options) bytes (inr (script, is, inl (kept, memory))) = absurd (not_outside no_memory (omega arith) memory)
+  refuses_on (Run options) bytes (inr (script, is, inr (inl (inl memory, ends)))) = absurd (not_of no_memory (omega arith) memory)
+  refuses_on (Run options) bytes (inr (script, is, inr (inl (inr (write, failed), ends)))) = absurd (not_of WriteFailed (omega arith) write)
+  refuses_on (Run options) bytes (inr (script, is, inr (inr (last, between, runs, (asked, inl (kept, memory)))))) = absurd (not_outside no_memory (omega arith) memory)
+  refuses_on (Run options) bytes (inr (script, is, inr (inr (last, between, runs, (asked, inr (write, failed, begun)))))) = absurd (not_outside WriteFailed (omega arith) write)
+  refuses_on Check bytes (inl (kept, inl memory)) = absurd (not_outside no_memory (omega arith) memory)
+  refuses_on Check bytes (inl (kept, inr (inl (read, failed)))) = absurd (not_outside ReadFailed (omega arith) read)
+  refuses_on Check bytes (inl (kept, inr (inr fault))) = (inr (e, fault, refl), kept)
+  refuses_on Check bytes (inr (verdict, found, (is, failed, begun))) = absurd (not_outside WriteFailed (omega arith) is)
+  refuses_on (Plan options) bytes (inl (kept, inl memory)) = absurd (not_outside no_memory (omega arith) memory)
+  refuses_on (Plan options) bytes (inl (kept, inr (inl (read, failed)))) = absurd (not_outside ReadFailed (omega arith) read)
+  refuses_on (Plan options) bytes (inl (kept, inr (inr fault))) = (inr (e, fault, refl), kept)
+  refuses_on (Plan options) bytes (inr (text, planned, (is, failed, begun))) = absurd (not_outside WriteFailed (omega arith) is)
+  refuses_on (Stress options) bytes (inl (kept, inl (inl memory))) = absurd (not_outside no_memory (omega arith) memory)
+  refuses_on (Stress options) bytes (inl (kept, inl (inr (inl (read, failed))))) = absurd (not_outside ReadFailed (omega arith) read)
+  refuses_on (Stress options) bytes (inl (kept, inl (inr (inr (inl fault))))) = (inr (e, fault, refl), kept)
+  refuses_on (Stress options) bytes (inl (kept, inl (inr (inr (inr (memory, reached)))))) = absurd (not_of no_memory (omega arith) memory)
+  refuses_on (Stress options) bytes (inl (kept, inr reader)) = absurd (not_outside NoReader (omega arith) reader)
+  refuses_on (Stress options) bytes (inr (text, stressed, (is, failed, begun))) = absurd (not_outside WriteFailed (omega arith) is)
 
--- The work of a request from the output o to m, a flush to n, and what is told from the errors e to f.
+  refuses_input : (asked : Asked) (input : Option (List ℕ)) → FailsIn asked input old new A B e → IfSome input (IsTurned old new e asked)
+  refuses_input asked None fails = tt
+  refuses_input asked (Some bytes) (inl (kept, inl memory)) = absurd (not_outside no_memory (omega arith) memory)
+  refuses_input asked (Some bytes) (inl (kept, inr (inl (read, failed)))) = absurd (not_outside ReadFailed (omega arith) read)
+  refuses_input asked (Some bytes) (inl (kept, inr (inr (at, refused, is)))) =
+      (subst (λ o. IsAnswerUnless o asked.request bytes (turned_down e)) (sym refused) (ap turned_down is), kept)
+  refuses_input asked (Some bytes) (inr (unrefused, fails)) =
+      let turned = refuses_on asked.request bytes fails in
+      (subst (λ o. IsAnswerUnless o asked.request bytes (turned_down e)) (sym unrefused) turned.0, turned.1)
+
+is_asked : (explain : Bool) (help : List ℕ) → (explain ≡ false → help ≡ []) → help ≢ [] → explain ≡ true
+is_asked true help none some = refl
+is_asked false help none some = absurd (some (none refl))
+
+-- The work of what is asked from the output o to m, a flush to n, and what is told from the errors e to f.
 -- The numbers are the failures of the input, of the output and of the errors.
-module _ (request : Request) (input o m n e f : Option (List ℕ)) (in_old in_new out_old out_mid out_new err_old err_new result : ℕ) (kept : Keeps m n) where
+module _ (asked : Asked) (input o m n e f : Option (List ℕ)) (in_old in_new out_old out_mid out_new err_old err_new result : ℕ) (help : List ℕ) (kept : Keeps m n) where
   abbrev pub A : Type 0
   A = HasFailed in_old in_new
 
@@ -153,65 +186,90 @@ module _ (request : Request) (input o m n e f : Option (List ℕ)) (in_old in_ne
   B = HasFailed out_old out_mid
 
   abbrev pub IsEnded : Fault → Type 0
-  IsEnded fault = IsTold e f err_old err_new result fault × (out_new ≡ out_mid)
+  IsEnded fault = IsTold e f err_old err_new help result fault × (out_new ≡ out_mid)
 
   abbrev pub IsFinished : ℕ → Type 0
-  IsFinished status = (IsDone e f err_old err_new result status × (out_new ≡ out_mid))
-      ⊎ (IsTold e f err_old err_new result (outside WriteFailed) × (out_new ≡ one_more out_mid))
+  IsFinished status = (IsDone e f err_old err_new help result status × (out_new ≡ out_mid))
+      ⊎ (IsTold e f err_old err_new help result (outside WriteFailed) × (out_new ≡ one_more out_mid))
 
   abbrev pub IsWritten : Type 0
-  IsWritten = Answers request input result o n e f
+  IsWritten = Answers asked input result o n e f
 
   abbrev pub Stops : Type 0
-  Stops = (fault : Fault) × EndsIn request input o n A (HasFailed out_old out_new) fault × IsTold e f err_old err_new result fault
+  Stops = (fault : Fault) × EndsIn asked input o n A (HasFailed out_old out_new) fault × IsToldFor e f err_old err_new asked.reading.explain result fault
 
-  told_known : (fault : Fault) → IsTold e f err_old err_new result fault → (0 < result) × (result ≤ 4) × (result ≢ 2)
+  told_known : (fault : Fault) → IsTold e f err_old err_new help result fault → (0 < result) × (result ≤ 4) × (result ≢ 2)
   told_known fault (inl (is, line, quiet)) = subst (λ s. (0 < s) × (s ≤ 4) × (s ≢ 2)) (sym is) (told_range fault.kind)
   told_known fault (inr (inl (three, failed))) = (omega (arith, three), omega (arith, three), omega (arith, three))
   told_known fault (inr (inr (four, idle))) = (omega (arith, four), omega (arith, four), omega (arith, four))
 
   pub is_known : (worked : Result ℕ Fault) → IfOk worked (λ status. status < 2) → IfOk worked IsFinished → IfErr worked IsEnded → (result ≤ 4) × (result ≢ 2)
-  is_known (Ok status) small (inl ((is, idle), same)) told = (omega (arith, is, small), omega (arith, is, small))
+  is_known (Ok status) small (inl (inl (is, written, quiet), same)) told = (omega (arith, is, small), omega (arith, is, small))
+  is_known (Ok status) small (inl (inr (some, three, failed), same)) told = (omega (arith, three), omega (arith, three))
   is_known (Ok status) small (inr (failed, more)) told = let k = told_known (outside WriteFailed) failed in (k.1, k.2)
   is_known (Err fault) small done (told, same) = let k = told_known fault told in (k.1, k.2)
 
-  answer_done : (i : Option (List ℕ)) (status : ℕ) → result ≡ status → Keeps e f → Works request i o m status → Answers request i result o n e f
-  answer_done None status is idle works = tt
-  answer_done (Some bytes) status is idle (text, answer, written) =
-      (output_alone status text, answer, sym is, Appends-kept o m n text written kept, nothing_appended e f idle)
+  answer_done : (i : Option (List ℕ)) (status : ℕ) → result ≡ status → Appends e f help → Works asked i o m status → IsHelp asked i (Ok status) help → Answers asked i result o n e f
+  answer_done None status is told works helped = tt
+  answer_done (Some bytes) status is told (text, answer, written) helped = (
+    output_alone status text,
+    help,
+    answer,
+    record { unexplained = helped.unexplained; silent = λ none read. helped.silent read },
+    sym is,
+    Appends-kept o m n text written kept,
+    told,
+  )
 
-  answer_turned : (i : Option (List ℕ)) (fault : Fault) → result ≡ status_told fault.kind → result < 2 → IfSome i (IsTurned o m fault request) → Appends e f (fault_line fault)
-      → Answers request i result o n e f
-  answer_turned None fault is small turned line = tt
-  answer_turned (Some bytes) fault is small (answer, same) line =
+  answer_turned : (i : Option (List ℕ)) (fault : Fault) → result ≡ status_told fault.kind → result < 2 → IfSome i (IsTurned o m fault asked)
+      → Appends e f (fault_line fault ++ help) → IsHelp asked i (Err fault) help → Answers asked i result o n e f
+  answer_turned None fault is small turned line helped = tt
+  answer_turned (Some bytes) fault is small (answer, same) line helped =
       let range = told_range fault.kind in
-      let above = range.0 in
-      (turned_down fault, answer, omega (arith, is, small, above), nothing_appended o n (Keeps-trans o m n same kept), line)
+      let above = range.0 in (
+        turned_down fault,
+        help,
+        answer,
+        record { unexplained = helped.unexplained; silent = λ none read. absurd (not_nil (fault_text fault) 10 none) },
+        omega (arith, is, small, above),
+        nothing_appended o n (Keeps-trans o m n same kept),
+        line,
+      )
 
-  pub answers : (worked : Result ℕ Fault) → IfOk worked (Works request input o m) → IfErr worked (FailsIn request input o m A B) → IfOk worked IsFinished → IfErr worked IsEnded
-      → result < 2 → IsWritten
-  answers (Ok status) works fails (inl ((is, idle), same)) told small = answer_done input status is idle.0 works
-  answers (Ok status) works fails (inr (inl (is, line, quiet), more)) told small = absurd (omega (arith, is, small))
-  answers (Ok status) works fails (inr (inr (inl (is, failed)), more)) told small = absurd (omega (arith, is, small))
-  answers (Ok status) works fails (inr (inr (inr (is, idle)), more)) told small = absurd (omega (arith, is, small))
-  answers (Err fault) works fails done (inl (is, line, quiet), same) small =
+  pub answers : (worked : Result ℕ Fault) → IfOk worked (Works asked input o m) → IfErr worked (FailsIn asked input o m A B) → IsHelp asked input worked help
+      → IfOk worked IsFinished → IfErr worked IsEnded → result < 2 → IsWritten
+  answers (Ok status) works fails helped (inl (inl (is, written, quiet), same)) told small = answer_done input status is written works helped
+  answers (Ok status) works fails helped (inl (inr (some, three, failed), same)) told small = absurd (omega (arith, three, small))
+  answers (Ok status) works fails helped (inr (inl (is, line, quiet), more)) told small = absurd (omega (arith, is, small))
+  answers (Ok status) works fails helped (inr (inr (inl (is, failed)), more)) told small = absurd (omega (arith, is, small))
+  answers (Ok status) works fails helped (inr (inr (inr (is, idle)), more)) told small = absurd (omega (arith, is, small))
+  answers (Err fault) works fails helped done (inl (is, line, quiet), same) small =
       let low : status_told fault.kind < 2 = omega (arith, is, small) in
-      answer_turned input fault is small (refuses_input o m A B fault low request input fails) line
-  answers (Err fault) works fails done (inr (inl (is, failed)), same) small = absurd (omega (arith, is, small))
-  answers (Err fault) works fails done (inr (inr (is, idle)), same) small = absurd (omega (arith, is, small))
+      answer_turned input fault is small (refuses_input o m A B fault low asked input fails) line helped
+  answers (Err fault) works fails helped done (inr (inl (is, failed)), same) small = absurd (omega (arith, is, small))
+  answers (Err fault) works fails helped done (inr (inr (is, idle)), same) small = absurd (omega (arith, is, small))
 
-  pub stops : (worked : Result ℕ Fault) → IfOk worked (λ status. status < 2) → IfOk worked (Works request input o m) → IfErr worked (FailsIn request input o m A B)
+  pub stops : (worked : Result ℕ Fault) → IfOk worked (λ status. status < 2) → IfOk worked (Works asked input o m) → IfErr worked (FailsIn asked input o m A B) → IsHelp asked input worked help
       → IsHonest worked in_old in_new out_old out_mid → IfOk worked IsFinished → IfErr worked IsEnded → 2 ≤ result → Stops
-  stops (Ok status) small works fails honest (inl ((is, idle), same)) told large = absurd (omega (arith, is, small, large))
-  stops (Ok status) small works fails honest (inr (failed, more)) told large =
+  stops (Ok status) small works fails helped honest (inl (inl (is, written, quiet), same)) told large = absurd (omega (arith, is, small, large))
+  stops (Ok status) small works fails helped honest (inl (inr (some, three, failed), same)) told large = (
+    outside WriteFailed,
+    inr (refl, inr (is_asked asked.reading.explain help helped.unexplained some), (status, works_kept o m n kept asked input status works)),
+    ([], λ plain. refl, inr (inl (three, failed))),
+  )
+  stops (Ok status) small works fails helped honest (inr (failed, more)) told large =
       let counted : HasFailed out_old out_new = subst (λ k. HasFailed k out_new) honest.1 (subst (HasFailed out_mid) (sym more) (one_more_fails out_mid)) in
-      (outside WriteFailed, inr (refl, counted, (status, works_kept o m n kept request input status works)), failed)
-  stops (Err fault) small works fails honest done (told, same) large =
-      (fault, inl (subst (λ k. FailsIn request input o n A (HasFailed out_old k) fault) (sym same) (fails_kept o m n kept request input A B fault fails)), told)
+      (outside WriteFailed, inr (refl, inl counted, (status, works_kept o m n kept asked input status works)), (help, helped.unexplained, failed))
+  stops (Err fault) small works fails helped honest done (told, same) large = (
+    fault,
+    inl (subst (λ k. FailsIn asked input o n A (HasFailed out_old k) fault) (sym same) (fails_kept o m n kept asked input A B fault fails)),
+    (help, helped.unexplained, told),
+  )
 
   pub some_failed : (worked : Result ℕ Fault) → IfOk worked (λ status. status < 2) → IsHonest worked in_old in_new out_old out_mid
       → IfOk worked IsFinished → IfErr worked IsEnded → result ≡ 3 → A ⊎ HasFailed out_old out_new ⊎ HasFailed err_old err_new
-  some_failed (Ok status) small honest (inl ((is, idle), same)) told three = absurd (omega (arith, is, small, three))
+  some_failed (Ok status) small honest (inl (inl (is, written, quiet), same)) told three = absurd (omega (arith, is, small, three))
+  some_failed (Ok status) small honest (inl (inr (some, is, failed), same)) told three = inr (inr failed)
   some_failed (Ok status) small honest (inr (failed, more)) told three =
       inr (inl (subst (λ k. HasFailed k out_new) honest.1 (subst (HasFailed out_mid) (sym more) (one_more_fails out_mid))))
   some_failed (Err fault) small honest done (inl (is, line, same_errors), same) three =
@@ -223,7 +281,15 @@ module _ (request : Request) (input o m n e f : Option (List ℕ)) (in_old in_ne
   some_failed (Err fault) small honest done (inr (inr (four, idle)), same) three = absurd (omega (arith, four, three))
 
   pub is_quiet : (worked : Result ℕ Fault) → IsHonest worked in_old in_new out_old out_mid → IfOk worked IsFinished → IfErr worked IsEnded → result ≡ 0
-      → Keeps e f × (in_new ≡ in_old) × (out_new ≡ out_old) × (err_new ≡ err_old)
-  is_quiet (Ok status) honest (inl ((is, idle), same)) told zero = (idle.0, honest.0, same ∙ honest.1, idle.1)
+      → (in_new ≡ in_old) × (out_new ≡ out_old) × (err_new ≡ err_old)
+  is_quiet (Ok status) honest (inl (inl (is, written, quiet), same)) told zero = (honest.0, same ∙ honest.1, quiet)
+  is_quiet (Ok status) honest (inl (inr (some, three, failed), same)) told zero = absurd (omega (arith, three, zero))
   is_quiet (Ok status) honest (inr (failed, more)) told zero = let k = told_known (outside WriteFailed) failed in let above = k.0 in absurd (omega (arith, above, zero))
   is_quiet (Err fault) honest done (told, same) zero = let k = told_known fault told in let above = k.0 in absurd (omega (arith, above, zero))
+
+  pub is_unexplained : (worked : Result ℕ Fault) → IsHelp asked input worked help → IfOk worked IsFinished → IfErr worked IsEnded → result ≡ 0
+      → asked.reading.explain ≡ false → Keeps e f
+  is_unexplained (Ok status) helped (inl (inl (is, written, quiet), same)) told zero plain = appended_nothing e f (subst (Appends e f) (helped.unexplained plain) written)
+  is_unexplained (Ok status) helped (inl (inr (some, three, failed), same)) told zero plain = absurd (omega (arith, three, zero))
+  is_unexplained (Ok status) helped (inr (failed, more)) told zero plain = let k = told_known (outside WriteFailed) failed in let above = k.0 in absurd (omega (arith, above, zero))
+  is_unexplained (Err fault) helped done (told, same) zero plain = let k = told_known fault told in let above = k.0 in absurd (omega (arith, above, zero))

@@ -1,3 +1,4 @@
 mod CommandLines
 mod Ends
 mod Options
+mod Works

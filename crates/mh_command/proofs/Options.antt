@@ -7,7 +7,8 @@ use Rattle.clap.proofs.WalkLemmas.{one_text-rows}
 use Rattle.mh_text.specs.declared.streams.planning.PlanOptions.{PlanOptions}
 use Rattle.mh_text.specs.declared.streams.run.RunOptions.{RunOptions}
 use Rattle.mh_stress.specs.declared.stress.StressOptions.{StressOptions}
-use Rattle.mh_command.specs.CommandLine.{AreOptions, AreStressed, IsNumber, IsReported, MayBeNumber, truth_text}
+use Rattle.mh_command.specs.CommandLine.{AreOptions, AreStressed, IsNumber, IsRead, IsReported, IsUnexplained, MayBeNumber, truth_text}
+use Rattle.mh_command.specs.declared.reading.Reading.{Reading}
 
 -- a number that has so many bits is read as what it is
 number_read : {E : Type 0} (bits : ℕ) (G : List ℕ → Result ℕ E → Type 0) → ((t : List ℕ) (x : Result ℕ E) → G t x → ParsesUnsigned bits 10 t x)
@@ -30,6 +31,20 @@ may_be_read bits G only (Some t) None r none reads number small = absurd number
 flag_read : (o : Option (List ℕ)) (b : Bool) (r : Bool) → (o ≡ Some (codes "true") → r ≡ true) → (o ≡ Some (codes "false") → r ≡ false) → o ≡ Some (truth_text b) → r ≡ b
 flag_read o true r on off is = on is
 flag_read o false r on off is = off is
+
+-- what the words after any subcommand say of reading
+module _ (f : Found) (reading : Reading) (is : IsRead reading (rows_of f)) where
+  pub explain_is : (r : Bool) → (one_text f (codes "explain") ≡ Some (codes "true") → r ≡ true)
+      → (one_text f (codes "explain") ≡ Some (codes "false") → r ≡ false) → r ≡ reading.explain
+  explain_is r on off = flag_read _ reading.explain r on off (one_text-rows f (codes "explain") ∙ is.explain)
+
+  pub strict_is : (r : Bool) → (one_text f (codes "strict") ≡ Some (codes "true") → r ≡ true)
+      → (one_text f (codes "strict") ≡ Some (codes "false") → r ≡ false) → r ≡ reading.strict
+  strict_is r on off = flag_read _ reading.strict r on off (one_text-rows f (codes "strict") ∙ is.strict)
+
+-- they do not say to explain
+pub explain_is_not : (f : Found) → IsUnexplained (rows_of f) → (r : Bool) → (one_text f (codes "explain") ≡ Some (codes "false") → r ≡ false) → r ≡ false
+explain_is_not f is r off = off (one_text-rows f (codes "explain") ∙ is)
 
 -- what the words after `run` say
 pub report_is : (f : Found) (options : RunOptions) → IsReported options (rows_of f) → (r : Bool) → (one_text f (codes "report") ≡ Some (codes "true") → r ≡ true)
@@ -60,6 +75,10 @@ module _ (f : Found) (options : StressOptions) (are : AreStressed options (rows_
       → (r : Option ℕ) → (one_text f (codes "workers") ≡ None → r ≡ None) → ((t : List ℕ) → one_text f (codes "workers") ≡ Some t → ReadsOne G t r) → r ≡ options.workers
   callers_are G only r none reads = may_be_read 8 G only (one_text f (codes "workers")) options.workers r none reads
       (subst (λ o. MayBeNumber o options.workers) (sym (one_text-rows f (codes "workers"))) are.workers) (in_byte options.workers are.lawful.workers)
+
+  pub tables_are : (r : Bool) → (one_text f (codes "report") ≡ Some (codes "true") → r ≡ true)
+      → (one_text f (codes "report") ≡ Some (codes "false") → r ≡ false) → r ≡ options.report
+  tables_are r on off = flag_read _ options.report r on off (one_text-rows f (codes "report") ∙ are.report)
 
   pub rounds_are : {E : Type 0} (G : List ℕ → Result ℕ E → Type 0) → ((t : List ℕ) (x : Result ℕ E) → G t x → ParsesUnsigned 32 10 t x)
       → (r : Option ℕ) → ((t : List ℕ) → one_text f (codes "rounds") ≡ Some t → ReadsOne G t r) → r ≡ Some options.rounds

@@ -1,10 +1,10 @@
 -- What a request is answered with.
-use Rattle.std.specs.Prelude.{◌≡◌, ◌⊎◌, ℕ, List, [], Option, Ok, IfSome}
-use Rattle.std.specs.Io.KnownBytes.{Appends}
+use Rattle.std.specs.Prelude.{◌≡◌, ◌⊎◌, ℕ, true, false, List, [], ◌++◌, Option, Some, None, Result, Ok, IfOk, IfSome}
+use Rattle.std.specs.Io.KnownBytes.{Appends, Keeps}
 use Rattle.mh_core.specs.declared.event.Event.{Event}
 use Rattle.mh_text.specs.Checks.{IsClaimFault, IsVerdict, FailsCheck, verdict_line}
 use Rattle.mh_text.specs.Faults.{fault_line}
-use Rattle.mh_text.specs.Output.{script_of_input, first, outside, run_text, IsScriptFault, Failed}
+use Rattle.mh_text.specs.Output.{script_of_input, first, outside, run_text, IsScriptFault, IsUnread, Failed}
 use Rattle.mh_text.specs.declared.fault.Fault.{Fault}
 use Rattle.mh_text.specs.Planning.{IsPlanned, IsProblemFault, FailsPlan}
 use Rattle.mh_text.specs.declared.streams.planning.PlanOptions.{PlanOptions}
@@ -15,7 +15,10 @@ use Rattle.mh_text.specs.declared.lines.verdict.Verdict.{Verdict}
 use Rattle.mh_text.specs.declared.fault.TextFault.TheVariants.{WriteFailed}
 use Rattle.mh_stress.specs.Stress.{FailsStress, IsStressed}
 use Rattle.mh_stress.specs.declared.stress.StressOptions.{StressOptions}
+use Rattle.mh_explain.specs.Unread.{first_unread}
+use Rattle.mh_command.specs.Readings.{form_of, refused_at, unread_fault, IsRefusal}
 use Rattle.mh_command.specs.Statuses.{status_found}
+use Rattle.mh_command.specs.declared.request.Asked.{Asked}
 use Rattle.mh_command.specs.declared.request.Request.{Request}
 use Rattle.mh_command.specs.declared.request.Request.TheVariants as request
 
@@ -57,37 +60,70 @@ IsStressAnswer options input answer =
     ((text : List ℕ) × IsStressed options input text × (answer ≡ output_alone 0 text))
     ⊎ ((e : Fault) × IsScriptFault input e × (answer ≡ turned_down e))
 
--- what a request is answered with where no stream fails and memory is to be had
-abbrev pub IsAnswerTo : Request → List ℕ → Answer → Type 0
-IsAnswerTo (request.Run options) = IsRunAnswer options
-IsAnswerTo request.Check = IsCheckAnswer
-IsAnswerTo (request.Plan options) = IsPlanAnswer options
-IsAnswerTo (request.Stress options) = IsStressAnswer options
+-- what the work of a request is answered with where no stream fails and memory is to be had
+abbrev pub IsAnswerOf : Request → List ℕ → Answer → Type 0
+IsAnswerOf (request.Run options) = IsRunAnswer options
+IsAnswerOf request.Check = IsCheckAnswer
+IsAnswerOf (request.Plan options) = IsPlanAnswer options
+IsAnswerOf (request.Stress options) = IsStressAnswer options
+
+-- an input is refused where one of its keys stands, or else there is an answer of the work
+abbrev pub IsAnswerUnless : Option ℕ → Request → List ℕ → Answer → Type 0
+IsAnswerUnless (Some at) request input answer = answer ≡ turned_down (unread_fault at)
+IsAnswerUnless None request input answer = IsAnswerOf request input answer
+
+-- what is answered where no stream fails and memory is to be had, before anything is explained
+abbrev pub IsAnswerTo : Asked → List ℕ → Answer → Type 0
+IsAnswerTo asked input answer = IsAnswerUnless (refused_at asked input) asked.request input answer
+
+-- What `--explain` writes behind the errors of an answer: nothing where it is not asked for, nor where the input is accepted and
+-- each of its keys is read.
+pub record IsBeside (asked : Asked) (input errors help : List ℕ) : Type 0 where
+  pub unexplained : asked.reading.explain ≡ false → help ≡ []
+  pub silent : errors ≡ [] → first_unread (form_of asked.request) input ≡ None → help ≡ []
 
 -- The status is that of such an answer to the input, and its texts were appended to both streams.
-abbrev pub Answers : Request → Option (List ℕ) → ℕ → Option (List ℕ) → Option (List ℕ) → Option (List ℕ) → Option (List ℕ) → Type 0
-Answers request input status output_old output_new errors_old errors_new =
-    IfSome input (λ bytes. (answer : Answer) × IsAnswerTo request bytes answer × (answer.status ≡ status)
-    × Appends output_old output_new answer.output × Appends errors_old errors_new answer.errors)
+abbrev pub Answers : Asked → Option (List ℕ) → ℕ → Option (List ℕ) → Option (List ℕ) → Option (List ℕ) → Option (List ℕ) → Type 0
+Answers asked input status output_old output_new errors_old errors_new =
+    IfSome input (λ bytes. (answer : Answer) × (help : List ℕ) × IsAnswerTo asked bytes answer × IsBeside asked bytes answer.errors help
+    × (answer.status ≡ status) × Appends output_old output_new answer.output × Appends errors_old errors_new (answer.errors ++ help))
 
--- the input is turned down by some request
+-- the input is turned down for something that is asked
 abbrev pub IsTurnedDown : List ℕ → Type 0
-IsTurnedDown bytes = (request : Request) × (answer : Answer) × IsAnswerTo request bytes answer × (answer.status ≡ 1)
+IsTurnedDown bytes = (asked : Asked) × (answer : Answer) × IsAnswerTo asked bytes answer × (answer.status ≡ 1)
 
--- A request is answered with this status, with nothing for the stream of errors, and its text was appended to the output.
-abbrev pub Works : Request → Option (List ℕ) → Option (List ℕ) → Option (List ℕ) → ℕ → Type 0
-Works request input old new status =
-    IfSome input (λ bytes. (text : List ℕ) × IsAnswerTo request bytes (output_alone status text) × Appends old new text)
+-- The work of a request gives this status and nothing for the stream of errors, and its text was appended to the output.
+abbrev pub WorksOn : Request → Option (List ℕ) → Option (List ℕ) → Option (List ℕ) → ℕ → Type 0
+WorksOn request input old new status =
+    IfSome input (λ bytes. (text : List ℕ) × IsAnswerOf request bytes (output_alone status text) × Appends old new text)
 
--- What the output is left with where a request ends in a fault of its own.
-abbrev pub FailsIn : Request → Option (List ℕ) → Option (List ℕ) → Option (List ℕ) → Type 0 → Type 0 → Fault → Type 0
-FailsIn (request.Run options) = Failed options
-FailsIn request.Check = FailsCheck
-FailsIn (request.Plan options) = FailsPlan options
-FailsIn (request.Stress options) = FailsStress options
+-- the same of what is asked
+abbrev pub Works : Asked → Option (List ℕ) → Option (List ℕ) → Option (List ℕ) → ℕ → Type 0
+Works asked input old new status =
+    IfSome input (λ bytes. (text : List ℕ) × IsAnswerTo asked bytes (output_alone status text) × Appends old new text)
 
--- A request ends in a fault: its own, or that of the last flush, and the whole answer is then written.
-abbrev pub EndsIn : Request → Option (List ℕ) → Option (List ℕ) → Option (List ℕ) → Type 0 → Type 0 → Fault → Type 0
-EndsIn request input old new ReadHasFailed WriteHasFailed e =
-    FailsIn request input old new ReadHasFailed WriteHasFailed e
-    ⊎ ((e ≡ outside WriteFailed) × WriteHasFailed × ((status : ℕ) × Works request input old new status))
+-- What the output is left with where the work of a request ends in a fault.
+abbrev pub FailsOn : Request → Option (List ℕ) → Option (List ℕ) → Option (List ℕ) → Type 0 → Type 0 → Fault → Type 0
+FailsOn (request.Run options) = Failed options
+FailsOn request.Check = FailsCheck
+FailsOn (request.Plan options) = FailsPlan options
+FailsOn (request.Stress options) = FailsStress options
+
+-- The same of what is asked: before the work, with nothing written; or in the work, for which the input is then not refused.
+abbrev pub FailsIn : Asked → Option (List ℕ) → Option (List ℕ) → Option (List ℕ) → Type 0 → Type 0 → Fault → Type 0
+FailsIn asked input old new ReadHasFailed WriteHasFailed e =
+    (Keeps old new × IsUnread (IsRefusal asked) input ReadHasFailed e)
+    ⊎ (IfSome input (λ bytes. refused_at asked bytes ≡ None) × FailsOn asked.request input old new ReadHasFailed WriteHasFailed e)
+
+-- What is asked ends in a fault: its own; or that of the last flush, or of what explains the answer; and the whole answer is then
+-- written.
+abbrev pub EndsIn : Asked → Option (List ℕ) → Option (List ℕ) → Option (List ℕ) → Type 0 → Type 0 → Fault → Type 0
+EndsIn asked input old new ReadHasFailed WriteHasFailed e =
+    FailsIn asked input old new ReadHasFailed WriteHasFailed e
+    ⊎ ((e ≡ outside WriteFailed) × (WriteHasFailed ⊎ (asked.reading.explain ≡ true)) × ((status : ℕ) × Works asked input old new status))
+
+-- What is told beside an end over an input: nothing where nothing is explained, nor where the input is accepted and each of its
+-- keys is read.
+pub record IsHelp (asked : Asked) (input : Option (List ℕ)) (end : Result ℕ Fault) (help : List ℕ) : Type 0 where
+  pub unexplained : asked.reading.explain ≡ false → help ≡ []
+  pub silent : IfOk end (λ status. IfSome input (λ bytes. first_unread (form_of asked.request) bytes ≡ None → help ≡ []))

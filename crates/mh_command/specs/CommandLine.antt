@@ -1,5 +1,5 @@
 -- The words of a command line.
-use Rattle.std.specs.Prelude.{◌≡◌, ◌⊎◌, ◌<◌, ◌≤◌, ℕ, Bool, List, [], ◌∷◌, drop, codes, true, false, Option, Some, None, pos, ⊤}
+use Rattle.std.specs.Prelude.{◌≡◌, ◌⊎◌, ◌<◌, ◌≤◌, ℕ, Bool, List, [], ◌∷◌, ◌++◌, drop, codes, true, false, Option, Some, None, pos, ⊤}
 use Rattle.std.specs.Str.Parse.{IsNumeral, digits_value, without_leading_plus, true_text, false_text}
 use Rattle.clap.specs.Simple.{on_top}
 use Rattle.clap.specs.Words.{App, Row, Rule, new_app, new_rule, one_of, subcommand_of, takes, with_rule, with_subcommand}
@@ -12,6 +12,8 @@ use Rattle.mh_text.specs.declared.streams.run.RunOptions.{RunOptions}
 use Rattle.mh_stress.specs.Stress.{AreLawful, most_rounds}
 use Rattle.mh_stress.specs.declared.stress.StressOptions.{StressOptions}
 use Rattle.mh_command.specs.Statuses.{status_answered}
+use Rattle.mh_command.specs.declared.reading.Reading.{Reading}
+use Rattle.mh_command.specs.declared.request.Asked.{Asked}
 use Rattle.mh_command.specs.declared.request.Request.{Request}
 use Rattle.mh_command.specs.declared.request.Request.TheVariants.{Run, Check, Plan, Stress}
 
@@ -45,18 +47,27 @@ rounds_rule = record (new_rule (codes "rounds")) {
 abbrev pub flag_rule : List ℕ → Rule
 flag_rule name = record (new_rule name) { long = Some name; action = Some SetTrue }
 
+-- any subcommand takes `--explain` and `--strict`
+abbrev pub with_reading : App → App
+with_reading app = with_rule (with_rule app (flag_rule (codes "explain"))) (flag_rule (codes "strict"))
+
 abbrev pub run_app : App
-run_app = with_rule (new_app (codes "run")) (flag_rule (codes "report"))
+run_app = with_rule (with_reading (new_app (codes "run"))) (flag_rule (codes "report"))
+
+abbrev pub check_app : App
+check_app = with_reading (new_app (codes "check"))
 
 abbrev pub plan_app : App
-plan_app = with_rule (with_rule (with_rule (new_app (codes "plan")) workers_rule) (flag_rule (codes "certificate"))) (flag_rule (codes "phases"))
+plan_app =
+    with_rule (with_rule (with_rule (with_reading (new_app (codes "plan"))) workers_rule) (flag_rule (codes "certificate"))) (flag_rule (codes "phases"))
 
 abbrev pub stress_app : App
-stress_app = with_rule (with_rule (new_app (codes "stress")) callers_rule) rounds_rule
+stress_app =
+    with_rule (with_rule (with_rule (with_reading (new_app (codes "stress"))) callers_rule) rounds_rule) (flag_rule (codes "report"))
 
 -- the program with its first two subcommands
 abbrev pub plain_app : App
-plain_app = with_subcommand (with_subcommand root_app run_app.top) (new_app (codes "check")).top
+plain_app = with_subcommand (with_subcommand root_app run_app.top) check_app.top
 
 -- the program
 abbrev pub program : App
@@ -99,28 +110,68 @@ MayBeNumber _ _ = ⊥
 pub record AreStressed (options : StressOptions) (rows : List Row) : Type 0 where
   pub workers : MayBeNumber (one_of (codes "workers") rows) options.workers
   pub rounds : IsNumber (one_of (codes "rounds") rows) options.rounds
+  pub report : one_of (codes "report") rows ≡ Some (truth_text options.report)
   pub lawful : AreLawful options
 
--- the subcommand of a request, with what was found after it
-abbrev pub IsNamed : Request → Option (List ℕ × List Row) → Type 0
-IsNamed (Run options) (Some (name, rows)) = (name ≡ codes "run") × IsReported options rows
-IsNamed Check (Some (name, rows)) = name ≡ codes "check"
-IsNamed (Plan options) (Some (name, rows)) = (name ≡ codes "plan") × AreOptions options rows
-IsNamed (Stress options) (Some (name, rows)) = (name ≡ codes "stress") × AreStressed options rows
-IsNamed request None = ⊥
+-- what was found after any subcommand says how its input is read
+pub record IsRead (reading : Reading) (rows : List Row) : Type 0 where
+  pub explain : one_of (codes "explain") rows ≡ Some (truth_text reading.explain)
+  pub strict : one_of (codes "strict") rows ≡ Some (truth_text reading.strict)
 
--- `mhlink run`, with the report or without it
-abbrev pub run_words : Bool → List (List ℕ)
-run_words true = codes "run" ∷ codes "--report" ∷ []
-run_words false = codes "run" ∷ []
+-- it says that nothing is explained
+abbrev pub IsUnexplained : List Row → Type 0
+IsUnexplained rows = one_of (codes "explain") rows ≡ Some false_text
 
--- The words, the program's name first, are those of this request: `mhlink run` and `mhlink check`; or, in any order that clap
--- takes, `mhlink plan --workers 2 --certificate` and `mhlink stress --rounds 3`.
-abbrev pub AsksFor : Request → List (List ℕ) → Type 0
-AsksFor (Run options) words = drop 1 words ≡ run_words options.report
-AsksFor Check words = drop 1 words ≡ codes "check" ∷ []
-AsksFor (Plan options) words = (takes program words ≡ true) × IsNamed (Plan options) (subcommand_of program words)
-AsksFor (Stress options) words = (takes program words ≡ true) × IsNamed (Stress options) (subcommand_of program words)
+-- the name of a request's subcommand, and what was found after it
+abbrev pub IsRequest : Request → List ℕ → List Row → Type 0
+IsRequest (Run options) name rows = (name ≡ codes "run") × IsReported options rows
+IsRequest Check name rows = name ≡ codes "check"
+IsRequest (Plan options) name rows = (name ≡ codes "plan") × AreOptions options rows
+IsRequest (Stress options) name rows = (name ≡ codes "stress") × AreStressed options rows
+
+-- the subcommand of what is asked, with what was found after it
+abbrev pub IsNamed : Asked → Option (List ℕ × List Row) → Type 0
+IsNamed asked (Some (name, rows)) = IsRequest asked.request name rows × IsRead asked.reading rows
+IsNamed asked None = ⊥
+
+-- a subcommand after which nothing says to explain, or none
+abbrev pub SaysNoExplanation : Option (List ℕ × List Row) → Type 0
+SaysNoExplanation (Some (name, rows)) = IsUnexplained rows
+SaysNoExplanation None = ⊤
+
+-- the word of an option that is asked for
+abbrev pub word_where : Bool → List ℕ → List (List ℕ)
+word_where true word = word ∷ []
+word_where false word = []
+
+abbrev pub reading_words : Reading → List (List ℕ)
+reading_words reading = word_where reading.explain (codes "--explain") ++ word_where reading.strict (codes "--strict")
+
+-- `mhlink run`, with the options that are asked for in this order
+abbrev pub run_words : RunOptions → Reading → List (List ℕ)
+run_words options reading = codes "run" ∷ (word_where options.report (codes "--report") ++ reading_words reading)
+
+-- `mhlink check`, with the same
+abbrev pub check_words : Reading → List (List ℕ)
+check_words reading = codes "check" ∷ reading_words reading
+
+-- words after the program's name that need no reading by clap
+abbrev pub AreWords : Request → Reading → List (List ℕ) → Type 0
+AreWords (Run options) reading after = after ≡ run_words options reading
+AreWords Check reading after = after ≡ check_words reading
+AreWords (Plan options) reading after = ⊥
+AreWords (Stress options) reading after = ⊥
+
+-- The words, the program's name first, are those of what is asked: `mhlink run` and `mhlink check`; or, in any order that clap
+-- takes, `mhlink plan --workers 2 --certificate` and `mhlink stress --rounds 3 --explain`.
+abbrev pub AsksFor : Asked → List (List ℕ) → Type 0
+AsksFor asked words =
+    AreWords asked.request asked.reading (drop 1 words)
+    ⊎ ((takes program words ≡ true) × IsNamed asked (subcommand_of program words))
+
+-- the words ask for no explanation
+abbrev pub AsksNoExplanation : List (List ℕ) → Type 0
+AsksNoExplanation words = SaysNoExplanation (subcommand_of program words)
 
 -- those of `mhlink --help`, or of `mhlink -h`
 abbrev pub AsksHelp : List (List ℕ) → Type 0

@@ -1,4 +1,5 @@
 pub mod Answers
 pub mod CommandLine
+pub mod Readings
 pub mod Statuses
 pub mod Streams

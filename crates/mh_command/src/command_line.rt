@@ -1,18 +1,19 @@
 //! One command line, over a reader and two writers.
-ghost use Rattle.std.specs.Prelude.{◌≡◌, ◌≢◌, ◌⊎◌, ◌<◌, ◌≤◌, [], ◌∷◌, map, IfSome};
+ghost use Rattle.std.specs.Prelude.{◌≡◌, ◌≢◌, ◌⊎◌, ◌<◌, ◌≤◌, [], ◌∷◌, false, map, IfSome};
 ghost use Rattle.clap.specs.Words.{fault_of};
 ghost use Rattle.clap.specs.declared.error.kind.ErrorKind.{ErrorKind};
 ghost use Rattle.std.specs.Io.KnownBytes.{Keeps};
 ghost use Rattle.mh_text.specs.Bytes.{HasFailed};
 ghost use Rattle.mh_text.specs.declared.fault.Fault.{Fault};
 ghost use Rattle.mh_command.specs.Answers.{Answers, EndsIn, IsTurnedDown};
-ghost use Rattle.mh_command.specs.CommandLine.{program, AsksFor, AsksHelp, AsksVersion, HasWorkers, IsReply};
-ghost use Rattle.mh_command.specs.Streams.{IsTold};
-ghost use Rattle.mh_command.specs.declared.request.Request.{Request};
+ghost use Rattle.mh_command.specs.CommandLine.{program, AsksFor, AsksNoExplanation, AsksHelp, AsksVersion, HasWorkers, IsReply};
+ghost use Rattle.mh_command.specs.Streams.{IsToldFor};
+ghost use Rattle.mh_command.specs.declared.request.Asked.{Asked};
 
-use crate::answering::{end, reply, work};
-use crate::request::{Request, parse};
+use crate::answering::{end, reply};
+use crate::request::{Asked, parse};
 use crate::status::COMMAND_LINE;
+use crate::working::work_asked;
 use mh_text::Watched;
 use std::alloc::Global;
 use std::convert::AsStr;
@@ -24,32 +25,33 @@ use std::thread::Threads;
 fn perform<T: Threads + Wait + Sync, R: Read, W: Write, E: Write>(
     rt: &T,
     alloc: Global,
-    request: Request,
+    asked: Asked,
     reader: &mut Watched<R>,
     out: &mut Watched<W>,
     err: &mut Watched<E>,
 ) -> u8
-    requires workers { HasWorkers request }
+    requires workers { HasWorkers asked.request }
     ensures known { result ≤ 4 }
     ensures asked { result ≢ 2 }
-    ensures answers { result < 2 → Answers request (R.remaining reader.old.inner) result
+    ensures answers { result < 2 → Answers asked (R.remaining reader.old.inner) result
         (W.contents out.old.inner) (W.contents out.new.inner) (E.contents err.old.inner)
         (E.contents err.new.inner) }
     ensures stopped { 2 ≤ result → (e : Fault)
-        × EndsIn request (R.remaining reader.old.inner) (W.contents out.old.inner)
+        × EndsIn asked (R.remaining reader.old.inner) (W.contents out.old.inner)
         (W.contents out.new.inner) (HasFailed reader.old.failures reader.new.failures)
         (HasFailed out.old.failures out.new.failures) e
-        × IsTold (E.contents err.old.inner) (E.contents err.new.inner) err.old.failures
-        err.new.failures result e }
+        × IsToldFor (E.contents err.old.inner) (E.contents err.new.inner) err.old.failures
+        err.new.failures asked.reading.explain result e }
     ensures failed { result ≡ 3 → HasFailed reader.old.failures reader.new.failures
         ⊎ HasFailed out.old.failures out.new.failures
         ⊎ HasFailed err.old.failures err.new.failures }
-    ensures done { result ≡ 0 → Keeps (E.contents err.old.inner) (E.contents err.new.inner)
-        × (reader.new.failures ≡ reader.old.failures) × (out.new.failures ≡ out.old.failures)
-        × (err.new.failures ≡ err.old.failures) }
+    ensures done { result ≡ 0 → (reader.new.failures ≡ reader.old.failures)
+        × (out.new.failures ≡ out.old.failures) × (err.new.failures ≡ err.old.failures) }
+    ensures unexplained { result ≡ 0 → asked.reading.explain ≡ false
+        → Keeps (E.contents err.old.inner) (E.contents err.new.inner) }
 {
-    let worked = work(rt, alloc, request, reader, out);
-    end(alloc, worked, out, err)
+    let outcome = work_asked(rt, alloc, asked, reader, out);
+    end(alloc, &outcome, out, err)
 }
 
 /// Runs one command line, of which the first word is the program's name, and answers the status.
@@ -59,8 +61,16 @@ fn perform<T: Threads + Wait + Sync, R: Read, W: Write, E: Write>(
 /// accepted. `mhlink plan` reads a problem, and writes its best plan to `out`; it takes `--workers
 /// N`, N from 1 to 64, `--certificate` and `--phases`, and starts threads by `rt`. `mhlink stress`
 /// reads a script, runs its calls in threads, and writes the sums of their hits to `out`; it takes
-/// `--workers N`, N from 1 to 64, and `--rounds N`, N from 1 to 1,000,000. A fault is one line on
-/// `err`. The statuses: 0 done, also help and the version, which go to `out`; 1 the input is refused, or its
+/// `--workers N`, N from 1 to 64, `--rounds N`, N from 1 to 1,000,000, and `--report`. A fault is
+/// one line on `err`.
+///
+/// Each takes `--explain` and `--strict`. With `--explain` the line of a fault is followed on `err`
+/// by lines that say where it is and why (see `mh_explain::explanation`), and then by those of the
+/// keys that nothing reads (see `mh_explain::unread_keys`), which are also written where the input
+/// is accepted. With `--strict` an input with such a key is refused before anything runs, by the
+/// fault `BadShape` in the event of the first one, or at 0.
+///
+/// The statuses: 0 done, also help and the version, which go to `out`; 1 the input is refused, or its
 /// plan; 2 the command line is wrong, and nothing is read; 3 a read, a write or a flush failed; 4
 /// memory ran out outside an event, or readers of a published world.
 pub fn command<T: Threads + Wait + Sync, S: AsStr, R: Read, W: Write, E: Write>(
@@ -72,23 +82,24 @@ pub fn command<T: Threads + Wait + Sync, S: AsStr, R: Read, W: Write, E: Write>(
     err: &mut Watched<E>,
 ) -> u8
     ensures known { result ≤ 4 }
-    ensures asked { (request : Request) → AsksFor request (map S.text words.now) → result ≢ 2 }
-    ensures answers { (request : Request) → AsksFor request (map S.text words.now) → result < 2
-        → Answers request (R.remaining reader.old.inner) result (W.contents out.old.inner)
+    ensures asked { (asked : Asked) → AsksFor asked (map S.text words.now) → result ≢ 2 }
+    ensures answers { (asked : Asked) → AsksFor asked (map S.text words.now) → result < 2
+        → Answers asked (R.remaining reader.old.inner) result (W.contents out.old.inner)
         (W.contents out.new.inner) (E.contents err.old.inner) (E.contents err.new.inner) }
-    ensures stopped { (request : Request) → AsksFor request (map S.text words.now) → 2 ≤ result
-        → (e : Fault) × EndsIn request (R.remaining reader.old.inner) (W.contents out.old.inner)
+    ensures stopped { (asked : Asked) → AsksFor asked (map S.text words.now) → 2 ≤ result
+        → (e : Fault) × EndsIn asked (R.remaining reader.old.inner) (W.contents out.old.inner)
         (W.contents out.new.inner) (HasFailed reader.old.failures reader.new.failures)
         (HasFailed out.old.failures out.new.failures) e
-        × IsTold (E.contents err.old.inner) (E.contents err.new.inner) err.old.failures
-        err.new.failures result e }
+        × IsToldFor (E.contents err.old.inner) (E.contents err.new.inner) err.old.failures
+        err.new.failures asked.reading.explain result e }
     ensures turned_down { result ≡ 1 → IfSome (R.remaining reader.old.inner) IsTurnedDown }
     ensures failed { result ≡ 3 → HasFailed reader.old.failures reader.new.failures
         ⊎ HasFailed out.old.failures out.new.failures
         ⊎ HasFailed err.old.failures err.new.failures }
-    ensures done { result ≡ 0 → Keeps (E.contents err.old.inner) (E.contents err.new.inner)
-        × (reader.new.failures ≡ reader.old.failures) × (out.new.failures ≡ out.old.failures)
-        × (err.new.failures ≡ err.old.failures) }
+    ensures done { result ≡ 0 → (reader.new.failures ≡ reader.old.failures)
+        × (out.new.failures ≡ out.old.failures) × (err.new.failures ≡ err.old.failures) }
+    ensures unexplained { result ≡ 0 → AsksNoExplanation (map S.text words.now)
+        → Keeps (E.contents err.old.inner) (E.contents err.new.inner) }
     ensures wrong { result ≡ 2 → Keeps (W.contents out.old.inner) (W.contents out.new.inner)
         × (reader.new ≡ reader.old) }
     ensures replied { (kind : ErrorKind) → fault_of program (map S.text words.now) ≡ kind ∷ []
@@ -99,7 +110,7 @@ pub fn command<T: Threads + Wait + Sync, S: AsStr, R: Read, W: Write, E: Write>(
         → IsReply result ErrorKind.DisplayVersion × (reader.new ≡ reader.old) }
 {
     match parse(alloc, words) {
-        Ok(Some(request)) => perform(rt, alloc, request, reader, out, err),
+        Ok(Some(asked)) => perform(rt, alloc, asked, reader, out, err),
         Ok(None) => COMMAND_LINE,
         Err(error) => reply(alloc, &error, out, err),
     }

@@ -8,11 +8,15 @@
 
 mod answering;
 mod command_line;
+mod flags;
+mod reading;
 mod request;
 mod status;
+mod working;
 
 pub use command_line::command;
 pub use mh_stress::StressOptions;
 pub use mh_text::{PlanOptions, RunOptions, Watched};
-pub use request::Request;
+pub use reading::Reading;
+pub use request::{Asked, Request};
 pub use status::{COMMAND_LINE, DONE, IO_FAILED, NO_MEMORY, REFUSED};

@@ -7,9 +7,14 @@ ghost use Rattle.mh_text.specs.Script.{most_workers};
 ghost use Rattle.mh_text.specs.declared.streams.run.RunOptions.{RunOptions};
 ghost use Rattle.mh_stress.specs.Stress.{AreLawful};
 ghost use Rattle.mh_stress.specs.declared.stress.StressOptions.{StressOptions};
-ghost use Rattle.mh_command.specs.CommandLine.{root_app, plain_app, run_app, plan_app, stress_app, program, workers_rule, callers_rule, rounds_rule, flag_rule, AreOptions, AreStressed, AsksFor, IsReported, HasWorkers, IsNamed};
+ghost use Rattle.mh_command.specs.CommandLine.{root_app, plain_app, run_app, check_app, plan_app, stress_app, program, workers_rule, callers_rule, rounds_rule, AreOptions, AreStressed, AsksFor, AsksNoExplanation, IsReported, IsRequest, IsNamed, HasWorkers, SaysNoExplanation};
+ghost use Rattle.mh_command.specs.Readings.{form_of};
+ghost use Rattle.mh_command.specs.declared.request.Asked.{Asked};
 
-use clap::{Arg, ArgAction, ArgMatches, Command, Error, value_parser};
+use crate::flags::{flag, with_option};
+use crate::reading::{Reading, reading_of, with_reading};
+use clap::{Arg, ArgMatches, Command, Error, value_parser};
+use mh_explain::InputForm;
 use mh_stress::{MOST_ROUNDS, StressOptions};
 use mh_text::{PlanOptions, RunOptions};
 use std::alloc::{AllocError, Global};
@@ -28,10 +33,33 @@ pub enum Request {
     Stress(StressOptions),
 }
 
+impl Request {
+    /// What its input is read as.
+    pub(crate) fn form(self) -> InputForm
+        ensures value { result ≡ form_of self }
+    {
+        match self {
+            Request::Run(_) | Request::Stress(_) => InputForm::Script,
+            Request::Check => InputForm::Claim,
+            Request::Plan(_) => InputForm::Problem,
+        }
+    }
+}
+
+/// What a command line asks for, and how its input is read.
+#[derive(Clone, Copy, Debug, PartialEq, Eq)]
+pub struct Asked {
+    pub request: Request,
+    pub reading: Reading,
+}
+
 /// What `mhlink --help` ends with.
 const AFTER_HELP: &str = "\
+With --explain a command says where a fault of its input is and why it is one, and names
+the keys that nothing reads; with --strict it refuses an input that has such a key.
+
 Examples:
-  mhlink run < examples/first-calls.json
+  mhlink run --explain < examples/first-calls.json
   mhlink check < examples/check-shared-point.json
   mhlink plan --certificate < examples/plan-shared-point.json
   mhlink stress --rounds 1000 < examples/stress-calls.json
@@ -44,10 +72,11 @@ Formats are described in docs/FORMATS.md, faults and refusals in docs/FAULTS.md.
 const AFTER_RUN: &str = "\
 Reads a script from standard input: a JSON object with a definition (points, shared
 trees, sites), a number of workers, and events. Each event gets one line on standard
-output. A fault in the script runs nothing, and is one line on standard error.
+output. A fault in the script runs nothing, and is one line on standard error, behind
+which --explain says where it is and why.
 
 Example:
-  mhlink run --report < examples/first-calls.json";
+  mhlink run --explain --report < examples/first-calls.json";
 
 /// What `mhlink check --help` ends with.
 const AFTER_CHECK: &str = "\
@@ -69,29 +98,20 @@ Example:
 const AFTER_STRESS: &str = "\
 Reads a script from standard input, as `mhlink run` does. Each worker makes its calls, in a
 thread of its own, and flushes, as many times as there are rounds. Meanwhile the other
-events but flushes are made once. Then the hits of all links are added up.
+events but flushes are made once. Then the hits of all links are added up, and with
+--report a line follows for each point, site and link.
 
 Example:
   mhlink stress --workers 2 --rounds 1000 < examples/stress-calls.json";
 
-fn check_command<'a>(alloc: Global) -> Command<'a>
-    ensures app { app_of result ≡ new_app (codes "check") }
-    ensures local { (out-Command result).has_globals ≡ false }
+fn check_command<'a>(alloc: Global) -> Result<Command<'a>, AllocError>
+    ensures app { IfOk result (λ c. app_of c ≡ check_app) }
+    ensures local { IfOk result (λ c. (out-Command c).has_globals ≡ false) }
 {
-    Command::new(alloc, "check")
+    let command = Command::new(alloc, "check")
         .about("Checks the plan on standard input beside its problem")
-        .after_help(AFTER_CHECK)
-}
-
-/// The command line with one option more.
-fn with_option<'a>(command: Command<'a>, option: Arg<'a>) -> Result<Command<'a>, AllocError>
-    requires own { option.global ≡ false }
-    ensures app { IfOk result (λ c. app_of c
-        ≡ with_rule (app_of command.entry) (rule_of option.entry)) }
-    ensures local { IfOk result (λ c. (out-Command c).has_globals
-        ≡ (out-Command command.entry).has_globals) }
-{
-    command.arg(option)
+        .after_help(AFTER_CHECK);
+    with_reading(alloc, command)
 }
 
 /// How many workers plan.
@@ -107,17 +127,6 @@ fn workers_option<'a>(alloc: Global) -> Arg<'a>
         .help("How many workers plan, from 1 to 64")
 }
 
-/// Something more that is written.
-fn flag<'a>(alloc: Global, name: &'a str, help: &'a str) -> Arg<'a>
-    ensures rule { rule_of result ≡ flag_rule name.entry.now }
-    ensures own { result.global ≡ false }
-{
-    Arg::new(alloc, name)
-        .long(name)
-        .action(ArgAction::SetTrue)
-        .help(help)
-}
-
 fn run_command<'a>(alloc: Global) -> Result<Command<'a>, AllocError>
     ensures app { IfOk result (λ c. app_of c ≡ run_app) }
     ensures local { IfOk result (λ c. (out-Command c).has_globals ≡ false) }
@@ -125,6 +134,7 @@ fn run_command<'a>(alloc: Global) -> Result<Command<'a>, AllocError>
     let command = Command::new(alloc, "run")
         .about("Runs the script on standard input, and writes a line for each event")
         .after_help(AFTER_RUN);
+    let command = with_reading(alloc, command)?;
     let report = flag(
         alloc,
         "report",
@@ -150,6 +160,7 @@ fn plan_command<'a>(alloc: Global) -> Result<Command<'a>, AllocError>
         "phases",
         "Writes how many phases the flow took, and their bound",
     );
+    let command = with_reading(alloc, command)?;
     let command = with_option(command, workers_option(alloc))?;
     let command = with_option(command, certificate)?;
     let command = with_option(command, phases)?;
@@ -188,8 +199,15 @@ fn stress_command<'a>(alloc: Global) -> Result<Command<'a>, AllocError>
     let command = Command::new(alloc, "stress")
         .about("Runs the calls of the script on standard input in threads, and adds them up")
         .after_help(AFTER_STRESS);
+    let report = flag(
+        alloc,
+        "report",
+        "Writes what stands then at each point, site and link",
+    );
+    let command = with_reading(alloc, command)?;
     let command = with_option(command, callers_option(alloc))?;
     let command = with_option(command, rounds_option(alloc))?;
+    let command = with_option(command, report)?;
     Ok(command)
 }
 
@@ -210,7 +228,7 @@ fn plain_command<'a>(alloc: Global) -> Result<Command<'a>, AllocError>
 {
     root_command(alloc)
         .subcommand(run_command(alloc)?)?
-        .subcommand(check_command(alloc))
+        .subcommand(check_command(alloc)?)
 }
 
 /// The command lines that the program takes.
@@ -286,31 +304,54 @@ fn stress_options_of(matches: &ArgMatches) -> Option<StressOptions>
 {
     let workers = widen(matches.get_one::<u8>("workers"));
     let rounds = matches.get_one::<u32>("rounds")?;
-    lawful(StressOptions { workers, rounds })
+    let report = matches.get_flag("report");
+    lawful(StressOptions {
+        workers,
+        rounds,
+        report,
+    })
 }
 
-/// The request of the subcommand that was used; none where none was, which clap refuses itself.
-fn request_of(matches: &ArgMatches) -> Option<Request>
-    ensures value { (request : Request) → IsNamed request (subcommand_rows_of matches.now)
-        → result ≡ Some request }
+/// The request of the subcommand of this name, with the words after it; none of another name.
+fn request_of(name: &str, matches: &ArgMatches) -> Option<Request>
+    ensures value { (request : Request)
+        → IsRequest request name.now (rows_of (found_of matches.now)) → result ≡ Some request }
     ensures bounded { IfSome result HasWorkers }
 {
-    match matches.subcommand()? {
-        ("run", options) => Some(Request::Run(run_options_of(options))),
-        ("check", _) => Some(Request::Check),
-        ("plan", options) => Some(Request::Plan(options_of(options)?)),
-        ("stress", options) => Some(Request::Stress(stress_options_of(options)?)),
+    match name {
+        "run" => Some(Request::Run(run_options_of(matches))),
+        "check" => Some(Request::Check),
+        "plan" => Some(Request::Plan(options_of(matches)?)),
+        "stress" => Some(Request::Stress(stress_options_of(matches)?)),
         _ => None,
     }
 }
 
+/// What the subcommand that was used asks for; none where none was, which clap refuses itself.
+fn asked_of(matches: &ArgMatches) -> Option<Asked>
+    ensures value { (asked : Asked) → IsNamed asked (subcommand_rows_of matches.now)
+        → result ≡ Some asked }
+    ensures bounded { IfSome result (λ asked. HasWorkers asked.request) }
+    ensures unexplained { SaysNoExplanation (subcommand_rows_of matches.now)
+        → IfSome result (λ asked. asked.reading.explain ≡ false) }
+{
+    let (name, options) = matches.subcommand()?;
+    let request = request_of(name, options)?;
+    Some(Asked {
+        request,
+        reading: reading_of(options),
+    })
+}
+
 /// What the words ask for, of which the first is the program's name, or what they are answered
 /// with.
-pub(crate) fn parse<S: AsStr>(alloc: Global, words: &[S]) -> Result<Option<Request>, Error>
-    ensures asked { IfOk result (λ asked. (request : Request)
-        → AsksFor request (map S.text words.now) → asked ≡ Some request) }
-    ensures bounded { IfOk result (λ asked. IfSome asked HasWorkers) }
-    ensures taken { IfErr result (λ e. (request : Request) → AsksFor request (map S.text words.now)
+pub(crate) fn parse<S: AsStr>(alloc: Global, words: &[S]) -> Result<Option<Asked>, Error>
+    ensures asked { IfOk result (λ found. (asked : Asked)
+        → AsksFor asked (map S.text words.now) → found ≡ Some asked) }
+    ensures bounded { IfOk result (λ found. IfSome found (λ asked. HasWorkers asked.request)) }
+    ensures unexplained { AsksNoExplanation (map S.text words.now)
+        → IfOk result (λ found. IfSome found (λ asked. asked.reading.explain ≡ false)) }
+    ensures taken { IfErr result (λ e. (asked : Asked) → AsksFor asked (map S.text words.now)
         → kind_of e ≡ ErrorKind.OutOfMemory) }
     ensures kinds { (kind : ErrorKind) → fault_of program (map S.text words.now) ≡ kind ∷ []
         → IfErr result (λ e. (kind_of e ≡ ErrorKind.OutOfMemory) ⊎ (kind_of e ≡ kind)) }
@@ -319,5 +360,5 @@ pub(crate) fn parse<S: AsStr>(alloc: Global, words: &[S]) -> Result<Option<Reque
 {
     let command = build(alloc)?;
     let matches = command.try_get_matches_from(words)?;
-    Ok(request_of(&matches))
+    Ok(asked_of(&matches))
 }

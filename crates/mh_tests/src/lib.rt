@@ -5,6 +5,8 @@
 #[cfg(test)]
 mod beginnings;
 #[cfg(test)]
+mod explained;
+#[cfg(test)]
 mod planning;
 #[cfg(test)]
 mod problems;

@@ -1,12 +1,44 @@
-use Rattle.std.proofs.Common.{inl, inr, refl, subst, map}
+use Rattle.std.proofs.Common.{◌≡◌, inl, inr, refl, subst, map, []}
 use Rattle.std.proofs.KnownBytes.{Keeps-refl}
 use Rattle.clap.specs.declared.error.kind.ErrorKind.TheVariants.{DisplayHelp, DisplayVersion}
+use Rattle.mh_text.specs.Bytes.{HasFailed}
 use Rattle.mh_text.specs.Output.{outside}
+use Rattle.mh_text.specs.declared.fault.Fault.{Fault}
+use Rattle.mh_command.specs.Answers.{Answers, EndsIn}
+use Rattle.mh_command.specs.Streams.{IsToldFor}
 use Rattle.mh_text.specs.Gives.{no_memory}
 use Rattle.mh_command.specs.CommandLine.{IsReply}
 use Rattle.mh_command.proofs.CommandLines.{asks_help, asks_version}
-use Rattle.mh_command.proofs.Ends.{nothing_done}
+use Rattle.mh_command.proofs.Ends.{four_is_no_two, four_is_not_below_two, nothing_done}
 use Rattle.mh_command.proofs.command_line.command.Goals as goal
+
+pub returns-in-Ok-Some-clause-answers : goal.returns-in-Ok-Some-clause-answers
+returns-in-Ok-Some-clause-answers g c = λ asked is small.
+    let found = c.in-Ok-Some.ensures.asked asked is in
+    let same : c.in-Ok-Some.asked ≡ asked = cc in
+    subst (λ a. Answers a (g.R.Read.remaining c.args.reader.now.inner) c.perform.result (g.W.Write.contents c.args.out.now.inner) (g.W.Write.contents c.perform.new.out.inner)
+    (g.E.Write.contents c.args.err.now.inner) (g.E.Write.contents c.perform.new.err.inner)) same (c.perform.ensures.answers small)
+
+pub returns-in-Ok-Some-clause-stopped : goal.returns-in-Ok-Some-clause-stopped
+returns-in-Ok-Some-clause-stopped g c = λ asked is large.
+    let found = c.in-Ok-Some.ensures.asked asked is in
+    let same : c.in-Ok-Some.asked ≡ asked = cc in
+    subst (λ a. (e : Fault) × EndsIn a (g.R.Read.remaining c.args.reader.now.inner) (g.W.Write.contents c.args.out.now.inner) (g.W.Write.contents c.perform.new.out.inner)
+    (HasFailed c.args.reader.now.failures c.perform.new.reader.failures) (HasFailed c.args.out.now.failures c.perform.new.out.failures) e
+    × IsToldFor (g.E.Write.contents c.args.err.now.inner) (g.E.Write.contents c.perform.new.err.inner) c.args.err.now.failures c.perform.new.err.failures a.reading.explain c.perform.result e)
+    same (c.perform.ensures.stopped large)
+
+pub returns-in-Ok-None-clause-asked : goal.returns-in-Ok-None-clause-asked
+returns-in-Ok-None-clause-asked g c = λ asked is two. let found = c.in-Ok-None.ensures.asked asked is in cc
+
+pub returns-in-Ok-None-clause-stopped : goal.returns-in-Ok-None-clause-stopped
+returns-in-Ok-None-clause-stopped g c = λ asked is large. absurd (returns-in-Ok-None-clause-asked g c asked is refl)
+
+pub returns-in-Err-clause-asked : goal.returns-in-Err-clause-asked
+returns-in-Err-clause-asked g c = λ asked is two. four_is_no_two (c.reply.ensures.memory (c.in-Err.ensures.taken asked is)).0 two
+
+pub returns-in-Err-clause-answers : goal.returns-in-Err-clause-answers
+returns-in-Err-clause-answers g c = λ asked is small. absurd (four_is_not_below_two (c.reply.ensures.memory (c.in-Err.ensures.taken asked is)).0 small)
 
 pub returns-in-Ok-Some-clause-help : goal.returns-in-Ok-Some-clause-help
 returns-in-Ok-Some-clause-help g c = λ is. absurd (c.in-Ok-Some.ensures.refused DisplayHelp (asks_help (map g.S.AsStr.text c.args.words.now) is))
@@ -21,9 +53,9 @@ pub returns-in-Ok-None-clause-version : goal.returns-in-Ok-None-clause-version
 returns-in-Ok-None-clause-version g c = λ is. absurd (c.in-Ok-None.ensures.refused DisplayVersion (asks_version (map g.S.AsStr.text c.args.words.now) is))
 
 pub returns-in-Err-clause-stopped : goal.returns-in-Err-clause-stopped
-returns-in-Err-clause-stopped g c = λ request is large.
-    let memory = c.reply.ensures.memory (c.in-Err.ensures.taken request is) in
-    rw (memory.1, memory.2) (outside no_memory, inl (nothing_done request _ _ _ _), inr (inr (memory.0, (Keeps-refl _, refl))))
+returns-in-Err-clause-stopped g c = λ asked is large.
+    let memory = c.reply.ensures.memory (c.in-Err.ensures.taken asked is) in
+    rw (memory.1, memory.2) (outside no_memory, inl (nothing_done asked _ _ _ _), ([], λ plain. refl, inr (inr (memory.0, (Keeps-refl _, refl)))))
 
 pub returns-in-Err-clause-replied : goal.returns-in-Err-clause-replied
 returns-in-Err-clause-replied g c = λ kind faulty. (

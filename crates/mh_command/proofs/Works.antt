@@ -1,0 +1,212 @@
+-- Work over an input that was read, and the same of what is left in a reader.
+use Rattle.std.proofs.Common.{◌≡◌, ◌≢◌, ◌⊎◌, ◌<◌, inl, inr, refl, sym, ap, ◌∙◌, subst, ℕ, Bool, true, false, List, length, Option, Some, None, Result, Ok, Err, IfErr, IfSome, codes}
+use Rattle.std.proofs.lemmas.Bool.{lt-leb}
+use Rattle.std.specs.Prelude.{if◌then◌else◌}
+use Rattle.std.proofs.KnownBytes.{Keeps-refl}
+use Rattle.std.specs.Io.KnownBytes.{Keeps}
+use Rattle.mh_text.specs.Bytes.{HasFailed, most_bytes}
+use Rattle.mh_text.specs.Gives.{IsEndOf, IsHonest, no_memory, too_long, ◌>>=◌, at_place}
+use Rattle.mh_text.specs.Inputs.{json_of_input}
+use Rattle.mh_text.specs.Checks.{IsClaimFault}
+use Rattle.mh_text.specs.Output.{outside, EndsReading, IsUnread}
+use Rattle.mh_text.specs.Planning.{IsProblemFault}
+use Rattle.mh_text.specs.Problems.{rows_at}
+use Rattle.mh_text.specs.Script.{script_of}
+use Rattle.mh_text.specs.declared.fault.Fault.{Fault}
+use Rattle.mh_text.specs.declared.fault.TextFault.{TextFault}
+use Rattle.mh_text.specs.declared.fault.TextFault.TheVariants.{Input, ReadFailed, WriteFailed, NoReader}
+use Rattle.mh_explain.specs.Unread.{first_unread, first_of_read}
+use Rattle.mh_explain.specs.declared.input.InputForm.{InputForm}
+use Rattle.mh_command.specs.Answers.{FailsIn, FailsOn, IsAnswerUnless, IsHelp, Works, WorksOn, output_alone}
+use Rattle.mh_command.specs.Readings.{form_of, refused_at, IsRefusal}
+use Rattle.mh_command.specs.declared.request.Asked.{Asked}
+use Rattle.mh_command.specs.declared.request.Request.{Request}
+use Rattle.mh_command.specs.declared.request.Request.TheVariants.{Run, Check, Plan, Stress}
+
+-- memory kept a request from its work
+nothing_worked : (request : Request) (input old new : Option (List ℕ)) (A B : Type 0) → Keeps old new → FailsOn request input old new A B (outside no_memory)
+nothing_worked (Run options) input old new A B kept = inl (kept, inl refl)
+nothing_worked Check input old new A B kept = inl (kept, inl refl)
+nothing_worked (Plan options) input old new A B kept = inl (kept, inl refl)
+nothing_worked (Stress options) input old new A B kept = inl (kept, inl (inl refl))
+
+memory_is_no_read : no_memory ≢ ReadFailed
+memory_is_no_read is = cc
+
+write_is_no_read : WriteFailed ≢ ReadFailed
+write_is_no_read is = cc
+
+no_reader_is_no_read : NoReader ≢ ReadFailed
+no_reader_is_no_read is = cc
+
+-- a read of a request's input failed: nothing was written
+module _ (input old new : Option (List ℕ)) (A B : Type 0) (e : Fault) (read : e.kind ≡ ReadFailed) where
+  not_of : (k : TextFault) → k ≢ ReadFailed → e.kind ≡ k → ⊥
+  not_of k other is = other (sym is ∙ read)
+
+  not_outside : (k : TextFault) → k ≢ ReadFailed → e ≡ outside k → ⊥
+  not_outside k other is = not_of k other (ap (λ f. f.kind) is)
+
+  keeps_unread : (request : Request) (bytes : List ℕ) → FailsOn request (Some bytes) old new A B e → Keeps old new
+  keeps_unread (Run options) bytes (inl (kept, unread)) = kept
+  keeps_unread (Run options) bytes (inr (script, is, inl (kept, memory))) = kept
+  keeps_unread (Run options) bytes (inr (script, is, inr (inl (inl memory, ends)))) = absurd (not_of no_memory memory_is_no_read memory)
+  keeps_unread (Run options) bytes (inr (script, is, inr (inl (inr (write, failed), ends)))) = absurd (not_of WriteFailed write_is_no_read write)
+  keeps_unread (Run options) bytes (inr (script, is, inr (inr (last, between, runs, (asked, inl (kept, memory)))))) = absurd (not_outside no_memory memory_is_no_read memory)
+  keeps_unread (Run options) bytes (inr (script, is, inr (inr (last, between, runs, (asked, inr (write, failed, begun)))))) = absurd (not_outside WriteFailed write_is_no_read write)
+  keeps_unread Check bytes (inl (kept, unread)) = kept
+  keeps_unread Check bytes (inr (verdict, found, (is, failed, begun))) = absurd (not_outside WriteFailed write_is_no_read is)
+  keeps_unread (Plan options) bytes (inl (kept, unread)) = kept
+  keeps_unread (Plan options) bytes (inr (text, planned, (is, failed, begun))) = absurd (not_outside WriteFailed write_is_no_read is)
+  keeps_unread (Stress options) bytes (inl (kept, unread)) = kept
+  keeps_unread (Stress options) bytes (inr (text, stressed, (is, failed, begun))) = absurd (not_outside WriteFailed write_is_no_read is)
+
+-- where no read fails, it does not matter what a failed read says
+module _ (old new : Option (List ℕ)) (A C B : Type 0) (e : Fault) (bytes : List ℕ) (never : e ≡ outside ReadFailed → A → C) where
+  unread_by : (IsFault : List ℕ → Fault → Type 0) → IsUnread IsFault (Some bytes) A e → IsUnread IsFault (Some bytes) C e
+  unread_by IsFault (inl memory) = inl memory
+  unread_by IsFault (inr (inl (read, failed))) = inr (inl (read, never read failed))
+  unread_by IsFault (inr (inr fault)) = inr (inr fault)
+
+  pub fails_by : (request : Request) → FailsOn request (Some bytes) old new A B e → FailsOn request (Some bytes) old new C B e
+  fails_by (Run options) (inl (kept, unread)) = inl (kept, unread_by EndsReading unread)
+  fails_by (Run options) (inr early) = inr early
+  fails_by Check (inl (kept, unread)) = inl (kept, unread_by IsClaimFault unread)
+  fails_by Check (inr cut) = inr cut
+  fails_by (Plan options) (inl (kept, unread)) = inl (kept, unread_by IsProblemFault unread)
+  fails_by (Plan options) (inr cut) = inr cut
+  fails_by (Stress options) (inl (kept, inl unread)) = inl (kept, inl (unread_by EndsReading unread))
+  fails_by (Stress options) (inl (kept, inr reader)) = inl (kept, inr reader)
+  fails_by (Stress options) (inr cut) = inr cut
+
+is_read_failed : (k : TextFault) → (k ≡ ReadFailed) ⊎ (k ≢ ReadFailed)
+is_read_failed (Input cause) = inr (λ is. cc)
+is_read_failed ReadFailed = inl refl
+is_read_failed WriteFailed = inr (λ is. cc)
+is_read_failed NoReader = inr (λ is. cc)
+
+-- A fault of a read is told as want of memory, and any other as it is.
+module _ (e told : Fault) (read : e.kind ≡ ReadFailed → told ≡ outside no_memory) (other : e.kind ≢ ReadFailed → told ≡ e) where
+  pub fails_held : (request : Request) (bytes : List ℕ) (old new : Option (List ℕ)) (A B : Type 0)
+      → FailsOn request (Some bytes) old new A B e → FailsOn request (Some bytes) old new ⊥ B told
+  fails_held request bytes old new A B fails = elim (is_read_failed e.kind) [
+    | inl is ↦ subst (FailsOn request (Some bytes) old new ⊥ B) (sym (read is))
+        (nothing_worked request (Some bytes) old new ⊥ B (keeps_unread (Some bytes) old new A B e is request bytes fails))
+    | inr not ↦ subst (FailsOn request (Some bytes) old new ⊥ B) (sym (other not))
+        (fails_by old new A ⊥ B e bytes (λ same failed. absurd (not (ap (λ f. f.kind) same))) request fails)
+  ]
+
+  end_by : (A C B : Type 0) (k : TextFault) → k ≢ ReadFailed → IsEndOf A B k → IsEndOf C B k
+  end_by A C B (Input cause) not end = end
+  end_by A C B ReadFailed not end = absurd (not refl)
+  end_by A C B WriteFailed not end = end
+  end_by A C B NoReader not end = end
+
+  pub ends_held : (A C B : Type 0) → IsEndOf A B e.kind → IsEndOf C B told.kind
+  ends_held A C B end = elim (is_read_failed e.kind) [
+    | inl is ↦ subst (λ (f : Fault). IsEndOf C B f.kind) (sym (read is)) tt
+    | inr not ↦ subst (λ (f : Fault). IsEndOf C B f.kind) (sym (other not)) (end_by A C B e.kind not end)
+  ]
+
+-- the work is done for what is asked where the input is not refused
+pub works_unrefused : (asked : Asked) (bytes : List ℕ) (old new : Option (List ℕ)) (status : ℕ) → refused_at asked bytes ≡ None
+    → WorksOn asked.request (Some bytes) old new status → Works asked (Some bytes) old new status
+works_unrefused asked bytes old new status none (text, answer, written) =
+    (text, subst (λ o. IsAnswerUnless o asked.request bytes (output_alone status text)) (sym none) answer, written)
+
+not_refused : (strict : Bool) (found : Option ℕ) → strict ≡ false → (if strict then found else None) ≡ None
+not_refused true found is = cc
+not_refused false found is = refl
+
+module _ (asked : Asked) (plain : asked.reading.strict ≡ false) where
+  unrefused : (input : Option (List ℕ)) → IfSome input (λ bytes. refused_at asked bytes ≡ None)
+  unrefused None = tt
+  unrefused (Some bytes) = not_refused asked.reading.strict (first_unread (form_of asked.request) bytes) plain
+
+  pub works_plain : (input old new : Option (List ℕ)) (status : ℕ) → WorksOn asked.request input old new status → Works asked input old new status
+  works_plain None old new status known = known
+  works_plain (Some bytes) old new status works =
+      works_unrefused asked bytes old new status (not_refused asked.reading.strict (first_unread (form_of asked.request) bytes) plain) works
+
+  pub fails_plain : (input old new : Option (List ℕ)) (A B : Type 0) (e : Fault) → FailsOn asked.request input old new A B e → FailsIn asked input old new A B e
+  fails_plain input old new A B e fails = inr (unrefused input, fails)
+
+-- What holds of the bytes that were read holds of those that a reader had left, where these are known to be the same.
+module _ (asked : Asked) (bytes : List ℕ) where
+  pub works_whole : (input old new : Option (List ℕ)) (status : ℕ) → IfSome input (λ all. bytes ≡ all) → Works asked (Some bytes) old new status → Works asked input old new status
+  works_whole None old new status same works = tt
+  works_whole (Some all) old new status same works = subst (λ bs. Works asked (Some bs) old new status) same works
+
+  unknown : (request : Request) (old new : Option (List ℕ)) (A B : Type 0) (e : Fault) → FailsOn request (Some bytes) old new ⊥ B e → FailsOn request None old new A B e
+  unknown (Run options) old new A B e fails = inr tt
+  unknown Check old new A B e (inl (kept, unread)) = inl (kept, inr (inr tt))
+  unknown Check old new A B e (inr (verdict, found, cut)) = inr (verdict, tt, cut)
+  unknown (Plan options) old new A B e (inl (kept, unread)) = inl (kept, inr (inr tt))
+  unknown (Plan options) old new A B e (inr (text, planned, cut)) = inr (text, tt, cut)
+  unknown (Stress options) old new A B e (inl (kept, inl unread)) = inl (kept, inl (inr (inr tt)))
+  unknown (Stress options) old new A B e (inl (kept, inr reader)) = inl (kept, inr reader)
+  unknown (Stress options) old new A B e (inr (text, stressed, cut)) = inr (text, tt, cut)
+
+  known : (all : List ℕ) (old new : Option (List ℕ)) (A B : Type 0) (e : Fault) → FailsIn asked (Some all) old new ⊥ B e → FailsIn asked (Some all) old new A B e
+  known all old new A B e (inl (kept, unread)) = inl (kept, unread_by old new ⊥ A B e all (λ same never. absurd never) (IsRefusal asked) unread)
+  known all old new A B e (inr (none, fails)) = inr (none, fails_by old new ⊥ A B e all (λ same never. absurd never) asked.request fails)
+
+  pub fails_whole : (input old new : Option (List ℕ)) (A B : Type 0) (e : Fault) → IfSome input (λ all. bytes ≡ all) → FailsIn asked (Some bytes) old new ⊥ B e → FailsIn asked input old new A B e
+  fails_whole None old new A B e same (inl (kept, unread)) = inl (kept, inr (inr tt))
+  fails_whole None old new A B e same (inr (none, fails)) = inr (tt, unknown asked.request old new A B e fails)
+  fails_whole (Some all) old new A B e same fails = known all old new A B e (subst (λ bs. FailsIn asked (Some bs) old new ⊥ B e) same fails)
+
+  -- the same of an end that may be none
+  pub fails_end : (input old new : Option (List ℕ)) (A B : Type 0) (end : Result ℕ Fault) → IfSome input (λ all. bytes ≡ all)
+      → IfErr end (FailsIn asked (Some bytes) old new ⊥ B) → IfErr end (FailsIn asked input old new A B)
+  fails_end input old new A B (Ok status) same fails = tt
+  fails_end input old new A B (Err e) same fails = fails_whole input old new A B e same fails
+
+  pub help_whole : (input : Option (List ℕ)) (end : Result ℕ Fault) (help : List ℕ) → IfSome input (λ all. bytes ≡ all) → IsHelp asked (Some bytes) end help → IsHelp asked input end help
+  help_whole (Some all) end help same helped = subst (λ bs. IsHelp asked (Some bs) end help) same helped
+  help_whole None (Ok status) help same helped = record { unexplained = helped.unexplained; silent = tt }
+  help_whole None (Err e) help same helped = record { unexplained = helped.unexplained; silent = tt }
+
+ends_at : (A B : Type 0) (k : TextFault) → IsEndOf (HasFailed 0 0) B k → IsEndOf A B k
+ends_at A B (Input cause) end = end
+ends_at A B ReadFailed end = absurd (end refl)
+ends_at A B WriteFailed end = end
+ends_at A B NoReader end = end
+
+-- the failures of a reader that never fails say nothing
+pub honest_whole : (worked : Result ℕ Fault) (reads_old reads_new writes_old writes_new : ℕ) → reads_new ≡ reads_old
+    → IsHonest worked 0 0 writes_old writes_new → IsHonest worked reads_old reads_new writes_old writes_new
+honest_whole (Ok status) reads_old reads_new writes_old writes_new same honest = (same, honest.1)
+honest_whole (Err e) reads_old reads_new writes_old writes_new same honest =
+    ends_at (HasFailed reads_old reads_new) (HasFailed writes_old writes_new) e.kind honest
+
+-- an input that is too long has that fault in any form, and no key that is refused
+module _ (bytes : List ℕ) (long : most_bytes < length bytes) where
+  is_long : json_of_input bytes ≡ Err (outside too_long)
+  is_long = rw (lt-leb (length bytes) most_bytes long) refl
+
+  none_unread : (form : InputForm) → first_unread form bytes ≡ None
+  unfolding first_unread
+  none_unread form = ap (first_of_read form) is_long
+
+  none_refused : (strict : Bool) (form : InputForm) → (if strict then first_unread form bytes else None) ≡ None
+  none_refused true form = none_unread form
+  none_refused false form = refl
+
+  long_fails : (request : Request) (old : Option (List ℕ)) (A B : Type 0) → FailsOn request (Some bytes) old old A B (outside too_long)
+  long_fails (Run options) old A B = inl (Keeps-refl old, inr (inr (inl (ap (λ d. d >>= script_of) is_long))))
+  long_fails Check old A B = inl (Keeps-refl old, inr (inr (inl (ap (λ d. d >>= (λ value. at_place 0 (rows_at (Some (codes "problem")) value))) is_long))))
+  long_fails (Plan options) old A B = inl (Keeps-refl old, inr (inr (inl (ap (λ d. d >>= (λ value. at_place 0 (rows_at None value))) is_long))))
+  long_fails (Stress options) old A B = inl (Keeps-refl old, inl (inr (inr (inl (ap (λ d. d >>= script_of) is_long)))))
+
+-- an input that could not be read to its end
+module _ (asked : Asked) (old : Option (List ℕ)) (A B : Type 0) where
+  too_long_fails : (input : Option (List ℕ)) → IfSome input (λ bytes. most_bytes < length bytes) → FailsIn asked input old old A B (outside too_long)
+  too_long_fails None long = inl (Keeps-refl old, inr (inr tt))
+  too_long_fails (Some bytes) long = inr (none_refused bytes long asked.reading.strict (form_of asked.request), long_fails bytes long asked.request old A B)
+
+  pub unread_fails : (input : Option (List ℕ)) (k : TextFault) → (k ≡ no_memory) ⊎ (k ≡ too_long) ⊎ (k ≡ ReadFailed)
+      → (k ≡ too_long → IfSome input (λ bytes. most_bytes < length bytes)) → (k ≡ ReadFailed → A) → FailsIn asked input old old A B (outside k)
+  unread_fails input k (inl memory) long failed = inl (Keeps-refl old, inl (ap outside memory))
+  unread_fails input k (inr (inl is)) long failed = subst (λ kind. FailsIn asked input old old A B (outside kind)) (sym is) (too_long_fails input (long is))
+  unread_fails input k (inr (inr is)) long failed = inl (Keeps-refl old, inr (inl (ap outside is, failed is)))

@@ -1,0 +1,275 @@
+//! Work for what is asked, over an input that is read whole first where the options of reading want
+//! it.
+ghost use Rattle.std.specs.Prelude.{◌≡◌, ◌≢◌, ◌<◌, ◌⊎◌, [], None, Some, false, string_bytes, IfOk, IfErr, OnOk};
+ghost use Rattle.mh_text.specs.Bytes.{HasFailed};
+ghost use Rattle.mh_text.specs.Gives.{no_memory, IsHonest};
+ghost use Rattle.mh_text.specs.Output.{outside};
+ghost use Rattle.mh_text.specs.declared.fault.TextFault.TheVariants.{ReadFailed};
+ghost use Rattle.mh_command.specs.Answers.{Works, WorksOn, FailsIn, FailsOn, IsHelp};
+ghost use Rattle.mh_command.specs.CommandLine.{HasWorkers};
+ghost use Rattle.mh_command.specs.Readings.{form_of, refused_at, IsRefusal};
+ghost use Rattle.mh_explain.specs.Unread.{first_unread};
+
+use crate::request::{Asked, Request};
+use crate::status::{DONE, status_of_verdict};
+use mh_core::NoMemory;
+use mh_explain::{explanation, unread_keys};
+use mh_stress::stress_bytes;
+use mh_text::{
+    Fault, InputFault, TextFault, Watched, check_bytes, plan_bytes, read_input, run_bytes,
+};
+use std::alloc::Global;
+use std::io::{Read, Write};
+use std::sync::Wait;
+use std::thread::Threads;
+
+/// What became of the work.
+#[derive(Drop)]
+pub(crate) struct Outcome {
+    /// The status, or the fault that ended the work.
+    pub(crate) end: Result<u8, Fault>,
+    /// What is told beside that: lines, or nothing.
+    pub(crate) help: String,
+}
+
+impl Outcome {
+    /// An end that nothing is told beside.
+    fn alone(alloc: Global, end: Result<u8, Fault>) -> Outcome
+        ensures end { result.end ≡ end }
+        ensures alone { string_bytes result.help ≡ [] }
+    {
+        Outcome {
+            end,
+            help: String::new(alloc),
+        }
+    }
+}
+
+/// Does what the request asks, up to the last flush, and gives its status.
+fn work<T: Threads + Wait + Sync, R: Read, W: Write>(
+    rt: &T,
+    alloc: Global,
+    request: Request,
+    reader: &mut Watched<R>,
+    out: &mut Watched<W>,
+) -> Result<u8, Fault>
+    requires workers { HasWorkers request }
+    ensures works { IfOk result (WorksOn request (R.remaining reader.old.inner)
+        (W.contents out.old.inner) (W.contents out.new.inner)) }
+    ensures small { IfOk result (λ status. status < 2) }
+    ensures fails { IfErr result (FailsOn request (R.remaining reader.old.inner)
+        (W.contents out.old.inner) (W.contents out.new.inner)
+        (HasFailed reader.old.failures reader.new.failures)
+        (HasFailed out.old.failures out.new.failures)) }
+    ensures honest { IsHonest result reader.old.failures reader.new.failures
+        out.old.failures out.new.failures }
+{
+    match request {
+        Request::Run(options) => {
+            run_bytes(rt, alloc, options, reader, out)?;
+            Ok(DONE)
+        }
+        Request::Check => {
+            let verdict = check_bytes(alloc, reader, out)?;
+            Ok(status_of_verdict(verdict))
+        }
+        Request::Plan(options) => {
+            plan_bytes(rt, alloc, options, reader, out)?;
+            Ok(DONE)
+        }
+        Request::Stress(options) => {
+            stress_bytes(rt, alloc, options, reader, out)?;
+            Ok(DONE)
+        }
+    }
+}
+
+/// A fault of the work over an input that was read. No read of that fails; so where one is told,
+/// memory was wanting.
+fn held(fault: Fault) -> Fault
+    ensures read { fault.kind ≡ ReadFailed → result ≡ outside no_memory }
+    ensures other { fault.kind ≢ ReadFailed → result ≡ fault }
+{
+    match fault.kind {
+        TextFault::ReadFailed => Fault::from(InputFault::NoMemory),
+        TextFault::Input(_) | TextFault::WriteFailed | TextFault::NoReader => fault,
+    }
+}
+
+/// Does the same over an input that was read.
+fn work_over<T: Threads + Wait + Sync, W: Write>(
+    rt: &T,
+    alloc: Global,
+    request: Request,
+    input: &[u8],
+    out: &mut Watched<W>,
+) -> Result<u8, Fault>
+    requires workers { HasWorkers request }
+    ensures works { IfOk result (WorksOn request (Some input.now)
+        (W.contents out.old.inner) (W.contents out.new.inner)) }
+    ensures small { IfOk result (λ status. status < 2) }
+    ensures fails { IfErr result (FailsOn request (Some input.now)
+        (W.contents out.old.inner) (W.contents out.new.inner) ⊥
+        (HasFailed out.old.failures out.new.failures)) }
+    ensures honest { IsHonest result 0 0 out.old.failures out.new.failures }
+{
+    let mut reader = Watched::new(input);
+    match work(rt, alloc, request, &mut reader, out) {
+        Ok(status) => Ok(status),
+        Err(fault) => Err(held(fault)),
+    }
+}
+
+/// Refuses an input for its first key that nothing reads, where that is asked.
+fn refuse_unread(alloc: Global, asked: Asked, input: &[u8]) -> Result<(), Fault>
+    ensures ok { OnOk result (refused_at asked input.now ≡ None) }
+    ensures fails { IfErr result (λ e. (e ≡ outside no_memory) ⊎ IsRefusal asked input.now e) }
+{
+    if !asked.reading.strict {
+        return Ok(());
+    }
+    match unread_keys(alloc, asked.request.form(), input)?.first {
+        None => Ok(()),
+        Some(at) => Err(Fault {
+            kind: TextFault::Input(InputFault::BadShape),
+            at,
+        }),
+    }
+}
+
+/// The lines that explain a fault of the input, and then those of its keys that nothing reads.
+fn explain(
+    alloc: Global,
+    asked: Asked,
+    input: &[u8],
+    fault: Option<InputFault>,
+) -> Result<String, NoMemory>
+    ensures silent { IfOk result (λ help. fault ≡ None
+        → first_unread (form_of asked.request) input.now ≡ None → string_bytes help ≡ []) }
+{
+    let form = asked.request.form();
+    let mut help = match fault {
+        Some(fault) => explanation(alloc, form, input, fault)?,
+        None => String::new(alloc),
+    };
+    let unread = unread_keys(alloc, form, input)?;
+    if unread.first.is_some() {
+        help.push_str(unread.notes.as_str())?;
+    }
+    Ok(help)
+}
+
+/// The same, where it is asked for and memory does not run out; else nothing.
+fn help_for(alloc: Global, asked: Asked, input: &[u8], fault: Option<InputFault>) -> String
+    ensures unexplained { asked.reading.explain ≡ false → string_bytes result ≡ [] }
+    ensures silent { fault ≡ None → first_unread (form_of asked.request) input.now ≡ None
+        → string_bytes result ≡ [] }
+{
+    if asked.reading.explain {
+        if let Ok(help) = explain(alloc, asked, input, fault) {
+            return help;
+        }
+    }
+    String::new(alloc)
+}
+
+/// The fault of the input that ended the work, where one did.
+fn fault_of(end: Result<u8, Fault>) -> Option<InputFault>
+    ensures ok { OnOk end (result ≡ None) }
+{
+    match end {
+        Err(
+            Fault {
+                kind: TextFault::Input(fault),
+                ..
+            },
+        ) => Some(fault),
+        _ => None,
+    }
+}
+
+/// Does what is asked over an input that was read.
+fn work_on<T: Threads + Wait + Sync, W: Write>(
+    rt: &T,
+    alloc: Global,
+    asked: Asked,
+    input: &[u8],
+    out: &mut Watched<W>,
+) -> Outcome
+    requires workers { HasWorkers asked.request }
+    ensures works { IfOk result.end (Works asked (Some input.now)
+        (W.contents out.old.inner) (W.contents out.new.inner)) }
+    ensures small { IfOk result.end (λ status. status < 2) }
+    ensures fails { IfErr result.end (FailsIn asked (Some input.now)
+        (W.contents out.old.inner) (W.contents out.new.inner) ⊥
+        (HasFailed out.old.failures out.new.failures)) }
+    ensures honest { IsHonest result.end 0 0 out.old.failures out.new.failures }
+    ensures help { IsHelp asked (Some input.now) result.end (string_bytes result.help) }
+{
+    if let Err(fault) = refuse_unread(alloc, asked, input) {
+        return Outcome {
+            end: Err(fault),
+            help: help_for(alloc, asked, input, None),
+        };
+    }
+    let end = work_over(rt, alloc, asked.request, input, out);
+    Outcome {
+        end,
+        help: help_for(alloc, asked, input, fault_of(end)),
+    }
+}
+
+/// Reads the input whole, and does what is asked over it.
+fn work_whole<T: Threads + Wait + Sync, R: Read, W: Write>(
+    rt: &T,
+    alloc: Global,
+    asked: Asked,
+    reader: &mut Watched<R>,
+    out: &mut Watched<W>,
+) -> Outcome
+    requires workers { HasWorkers asked.request }
+    ensures works { IfOk result.end (Works asked (R.remaining reader.old.inner)
+        (W.contents out.old.inner) (W.contents out.new.inner)) }
+    ensures small { IfOk result.end (λ status. status < 2) }
+    ensures fails { IfErr result.end (FailsIn asked (R.remaining reader.old.inner)
+        (W.contents out.old.inner) (W.contents out.new.inner)
+        (HasFailed reader.old.failures reader.new.failures)
+        (HasFailed out.old.failures out.new.failures)) }
+    ensures honest { IsHonest result.end reader.old.failures reader.new.failures
+        out.old.failures out.new.failures }
+    ensures help { IsHelp asked (R.remaining reader.old.inner) result.end
+        (string_bytes result.help) }
+{
+    match read_input(alloc, reader) {
+        Ok(input) => work_on(rt, alloc, asked, &input, out),
+        Err(kind) => Outcome::alone(alloc, Err(Fault::from(kind))),
+    }
+}
+
+/// Does what is asked, up to the last flush.
+pub(crate) fn work_asked<T: Threads + Wait + Sync, R: Read, W: Write>(
+    rt: &T,
+    alloc: Global,
+    asked: Asked,
+    reader: &mut Watched<R>,
+    out: &mut Watched<W>,
+) -> Outcome
+    requires workers { HasWorkers asked.request }
+    ensures works { IfOk result.end (Works asked (R.remaining reader.old.inner)
+        (W.contents out.old.inner) (W.contents out.new.inner)) }
+    ensures small { IfOk result.end (λ status. status < 2) }
+    ensures fails { IfErr result.end (FailsIn asked (R.remaining reader.old.inner)
+        (W.contents out.old.inner) (W.contents out.new.inner)
+        (HasFailed reader.old.failures reader.new.failures)
+        (HasFailed out.old.failures out.new.failures)) }
+    ensures honest { IsHonest result.end reader.old.failures reader.new.failures
+        out.old.failures out.new.failures }
+    ensures help { IsHelp asked (R.remaining reader.old.inner) result.end
+        (string_bytes result.help) }
+{
+    if asked.reading.is_plain() {
+        Outcome::alone(alloc, work(rt, alloc, asked.request, reader, out))
+    } else {
+        work_whole(rt, alloc, asked, reader, out)
+    }
+}
