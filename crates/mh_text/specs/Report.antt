@@ -1,5 +1,5 @@
 -- The text of a report: what stands at each point, site and link, a line each.
-use Rattle.std.specs.Prelude.{ℕ, ◌+◌, ◌==◌, Bool, true, false, List, [], ◌∷◌, ◌++◌, codes, filter, length, map, slice_index_or, if◌then◌else◌}
+use Rattle.std.specs.Prelude.{ℕ, ◌+◌, ◌^◌, ◌==◌, Bool, true, false, List, [], ◌∷◌, ◌++◌, codes, filter, length, map, slice_index_or, if◌then◌else◌}
 use Rattle.std.specs.Fmt.{decimal}
 use Rattle.std.specs.List.{flat_map}
 use Rattle.mh_base.specs.Display.{numbers_text}
@@ -14,6 +14,10 @@ use Rattle.mh_core.specs.Installations.{kept}
 use Rattle.mh_core.specs.Legal.{MachineState}
 use Rattle.mh_core.specs.Records.{numbers, is_valid, plans, snapshots, total, version}
 use Rattle.mh_core.specs.State.{calls, gain, unflushed_of_all}
+
+-- the most hits of a link that workers hold and have not flushed
+abbrev pub most_unflushed : ℕ
+most_unflushed = 2 ^ 126
 
 -- a line of a report: its text, and the byte 0x0A
 abbrev pub ended : List ℕ → List ℕ

@@ -90,8 +90,9 @@ fn read_rows_at(alloc: Global, value: &Value, key: Option<&str>) -> Result<Probl
     read_rows(alloc, part(value, key)?)
 }
 
-/// The problem of rows that were read, where their version allows so many.
-fn make_lawful(alloc: Global, rows: &ProblemRows) -> Result<Problem, ProblemFault>
+/// The problem of rows that were read: the first fault is too many links or points for their
+/// version, and then what `Problem::new` refuses.
+pub fn make_problem(alloc: Global, rows: &ProblemRows) -> Result<Problem, ProblemFault>
     ensures made { IfOk result (λ p. IsMade rows.now p) }
     ensures refused { let tests = version_tests rows.now.version rows.now.links rows.now.costs in
         IfErr result (λ cause. Refuses tests cause
@@ -109,12 +110,12 @@ fn make_lawful(alloc: Global, rows: &ProblemRows) -> Result<Problem, ProblemFaul
     Problem::new(alloc, links, costs)
 }
 
-/// The problem of rows that were read.
-pub fn make_problem(alloc: Global, rows: &ProblemRows) -> Result<Problem, Fault>
+/// The problem of rows that were read, its fault at 0.
+fn problem_of(alloc: Global, rows: &ProblemRows) -> Result<Problem, Fault>
     ensures value { MakesProblem (Ok rows.now) result }
     ensures kind { IfErr result (λ e. IsOfInput e.kind) }
 {
-    match make_lawful(alloc, rows) {
+    match make_problem(alloc, rows) {
         Ok(problem) => Ok(problem),
         Err(cause) => Err(Fault::from(InputFault::from(cause))),
     }
@@ -131,7 +132,7 @@ pub(crate) fn read_problem_at(
     ensures kind { IfErr result (λ e. IsOfInput e.kind) }
 {
     let rows = read_rows_at(alloc, value, key)?;
-    make_problem(alloc, &rows)
+    problem_of(alloc, &rows)
 }
 
 /// The problem of selection that an input is, or that its JSON object has at the key `member`.

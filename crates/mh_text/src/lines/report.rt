@@ -1,11 +1,11 @@
 //! Reports: what stands at each point, site and link, a line each.
-ghost use Rattle.std.specs.Prelude.{◌≡◌, ◌++◌, ◌<◌, ◌≤◌, ◌^◌, string_bytes, length, map, slice_index_or, IfOk, OnOk};
+ghost use Rattle.std.specs.Prelude.{◌≡◌, ◌++◌, ◌<◌, ◌≤◌, string_bytes, length, map, slice_index_or, IfOk, OnOk};
 ghost use Rattle.std.specs.List.{All, flat_map};
 ghost use Rattle.mh_network.specs.Selection.{member};
 ghost use Rattle.mh_site.specs.Links.{links as links_of, link_at, site_of};
 ghost use Rattle.mh_core.specs.Installations.{kept};
 ghost use Rattle.mh_core.specs.Records.{numbers};
-ghost use Rattle.mh_text.specs.Report.{ended, validity_text, yes_text, charge_text as charge_of, links_needing as needing, point_text as text_of_point, site_text as text_of_site, declared_text as text_declared, link_text as text_of_link, tables_text, unflushed_in, head_text as head_of, report_text};
+ghost use Rattle.mh_text.specs.Report.{ended, most_unflushed, validity_text, yes_text, charge_text as charge_of, links_needing as needing, point_text as text_of_point, site_text as text_of_site, declared_text as text_declared, link_text as text_of_link, tables_text, unflushed_in, head_text as head_of, report_text};
 
 use mh_base::Numbers;
 use mh_core::{Book, Machine};
@@ -122,7 +122,7 @@ fn declared_text(alloc: Global, book: &Book, link: usize) -> Result<String, Allo
 /// The line of a link, without its end.
 fn link_text(alloc: Global, book: &Book, link: usize, unflushed: u128) -> Result<String, AllocError>
     requires inside { link < length (links_of book.now.definition) }
-    requires few { unflushed ≤ 2 ^ 126 }
+    requires few { unflushed ≤ most_unflushed }
     ensures value { IfOk result (λ s. string_bytes s
         ≡ text_of_link book.now.definition book.now.records unflushed link) }
 {
@@ -169,7 +169,7 @@ fn push_links(
     unflushed: &[u128],
 ) -> Result<(), AllocError>
     requires links { length unflushed.now ≡ length (links_of book.now.definition) }
-    requires few { All (λ n. n ≤ 2 ^ 126) unflushed.now }
+    requires few { All (λ n. n ≤ most_unflushed) unflushed.now }
     ensures value { OnOk result (string_bytes out.new ≡ string_bytes out.old
         ++ flat_map (λ j. ended (text_of_link book.now.definition book.now.records
         (slice_index_or unflushed.now j 0) j)) (numbers (length (links_of book.now.definition)))) }
@@ -192,7 +192,7 @@ pub fn push_tables(
     unflushed: &[u128],
 ) -> Result<(), AllocError>
     requires links { length unflushed.now ≡ length (links_of book.now.definition) }
-    requires few { All (λ n. n ≤ 2 ^ 126) unflushed.now }
+    requires few { All (λ n. n ≤ most_unflushed) unflushed.now }
     ensures value { OnOk result (string_bytes out.new ≡ string_bytes out.old
         ++ tables_text book.now.definition book.now.records unflushed.now) }
 {
@@ -204,7 +204,7 @@ pub fn push_tables(
 /// The hits of each link that the workers of a machine have not flushed.
 fn unflushed_hits(alloc: Global, machine: &Machine) -> Result<Vec<u128>, AllocError>
     ensures value { IfOk result (λ v. v.items ≡ unflushed_in machine.now) }
-    ensures few { IfOk result (λ v. All (λ n. n ≤ 2 ^ 126) v.items) }
+    ensures few { IfOk result (λ v. All (λ n. n ≤ most_unflushed) v.items) }
 {
     let mut unflushed = Vec::new(alloc);
     for link in 0..machine.book().definition().link_count() {

@@ -1,12 +1,13 @@
-use Rattle.std.proofs.Common.{◌≤◌, ◌^◌, ℕ, ◌++◌, ◌∷◌, [], arith}
+use Rattle.std.proofs.Common.{◌≤◌, ℕ, ◌++◌, ◌∷◌, [], arith}
 use Rattle.std.proofs.lemmas.List.Elements.{All-push, All-same}
 use Rattle.mh_core.specs.Laws.Numbered.{more_numbers}
 use Rattle.mh_core.specs.State.{unflushed_of_all}
+use Rattle.mh_text.specs.Report.{most_unflushed}
 use Rattle.mh_text.proofs.lines.report.unflushed_hits.Goals as goal
 
 -- a sum of what so many workers hold
 abbrev small : ℕ → Type 0
-small n = n ≤ 2 ^ 126
+small n = n ≤ most_unflushed
 
 pub loop-link-preserved : goal.loop-link-preserved
 loop-link-preserved c =
