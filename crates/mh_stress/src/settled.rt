@@ -1,8 +1,9 @@
 //! What is written when all workers are done.
-ghost use Rattle.std.specs.Prelude.{◌≡◌, ◌<◌, ◌≤◌, ◌^◌, ◌++◌, ℕ, string_bytes, length, IfOk, OnOk};
+ghost use Rattle.std.specs.Prelude.{◌≡◌, ◌<◌, ◌≤◌, ◌++◌, ℕ, string_bytes, length, IfOk, OnOk};
 ghost use Rattle.std.specs.List.{All};
 ghost use Rattle.mh_ledger.specs.Ledgers.{at};
 ghost use Rattle.mh_site.specs.Links.{links};
+ghost use Rattle.mh_live.specs.Limits.{most_hits_of_all};
 ghost use Rattle.mh_live.specs.Settled.{IsSettled};
 ghost use Rattle.mh_stress.specs.Stress.{Settlement, most_unflushed, report_where, settlement_text};
 
@@ -14,7 +15,7 @@ use std::alloc::{AllocError, Global};
 /// The hits of each link that no worker flushed.
 fn unflushed_hits<N: Name>(alloc: Global, settled: &Settled<N>) -> Result<Vec<u128>, AllocError>
     ensures value { IfOk result (λ v. v.items ≡ settled.now.unflushed) }
-    ensures few { IfOk result (λ v. All (λ n. n ≤ 2 ^ 126) v.items) }
+    ensures few { IfOk result (λ v. All (λ n. n ≤ most_hits_of_all) v.items) }
     ensures settled { IsSettled N.definition N.limits N.workers settled.now }
 {
     let mut unflushed = Vec::new(alloc);

@@ -1,9 +1,9 @@
 //! How a host answers each request.
 
-ghost use Rattle.std.specs.Prelude.{◌≡◌, ◌≤◌, ◌^◌, ℕ, List, length, string_bytes, IfOk, OnErr};
+ghost use Rattle.std.specs.Prelude.{◌≡◌, ◌≤◌, ℕ, List, length, string_bytes, IfOk, OnErr};
 ghost use Rattle.std.specs.List.{All};
 ghost use Rattle.mh_core.specs.Links.{links};
-ghost use Rattle.mh_text.specs.Report.{tables_text};
+ghost use Rattle.mh_text.specs.Report.{most_unflushed, tables_text};
 ghost use Rattle.mh_core.specs.Ledgers.{at, ledger_at};
 
 use crate::fault::Fault;
@@ -144,7 +144,7 @@ impl Host {
 // The hits of each link in these ledgers.
 fn unflushed_hits(alloc: Global, book: &Book, ledgers: &[Ledger]) -> Result<Vec<u128>, Fault>
     ensures links { IfOk result (λ hits. length hits.items ≡ length (links book.now.definition)) }
-    ensures few { IfOk result (λ hits. All (λ n. n ≤ 2 ^ 126) hits.items) }
+    ensures few { IfOk result (λ hits. All (λ n. n ≤ most_unflushed) hits.items) }
 {
     let mut hits = Vec::new(alloc);
     for link in 0..book.definition().link_count() {
@@ -155,7 +155,7 @@ fn unflushed_hits(alloc: Global, book: &Book, ledgers: &[Ledger]) -> Result<Vec<
 
 // The hits of a link in these ledgers.
 fn unflushed(ledgers: &[Ledger], link: usize) -> u128
-    ensures few { result ≤ 2 ^ 126 }
+    ensures few { result ≤ most_unflushed }
 {
     let mut sum: u128 = 0;
     for ledger in ledgers {
