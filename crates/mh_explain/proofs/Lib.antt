@@ -3,5 +3,6 @@ mod Faults
 mod Firsts
 mod Items
 mod Lists
+mod Problems
 mod Unreads
 mod Whole

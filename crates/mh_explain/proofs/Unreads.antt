@@ -1,12 +1,10 @@
 -- The first key that nothing reads, piece by piece.
-use Rattle.std.proofs.Common.{◌≡◌, ℕ, ◌+◌, ◌<◌, ◌∷◌, [], ◌++◌, Option, Some, None, Bool, true, false, not, ◌||◌, List, String, Global, drop, length, map, Ok, Err, string_bytes, if◌then◌else◌, refl, ap, sym, ◌∙◌}
-use Rattle.serde_json.specs.Data.{Data, Members}
-use Rattle.serde_json.specs.View.{view, members_view}
+use Rattle.std.proofs.Common.{◌≡◌, ℕ, ◌∷◌, [], Option, Some, None, List, Ok, Err, refl, ap, sym, ◌∙◌}
+use Rattle.serde_json.specs.Data.{Data}
 use Rattle.mh_text.specs.declared.fault.Fault.{Fault}
 use Rattle.mh_text.specs.Inputs.{json_of_input}
 use Rattle.mh_explain.specs.declared.input.InputForm.{InputForm}
-use Rattle.mh_explain.specs.declared.key.Field.{Field}
-use Rattle.mh_explain.specs.Unread.{Objects, first_along, first_in, first_of, first_of_read, first_unread, first_unread_in, has_other, is_read, or_later}
+use Rattle.mh_explain.specs.Unread.{Objects, first_along, first_of, first_of_read, first_unread, first_unread_in, or_later}
 
 pub unread_of_json : (form : InputForm) (bytes : List ℕ) (d : Data) → json_of_input bytes ≡ Ok d → first_unread form bytes ≡ first_unread_in form d
 unfolding first_unread

@@ -1,23 +1,23 @@
 -- The fault that a part of an input has when it is read by its form.
-use Rattle.std.specs.Prelude.{ℕ, ◌+◌, ◌-◌, ◌^◌, Bool, List, [], ◌∷◌, Option, Some, None, Result, Ok, Err, codes, if◌then◌else◌, ◌==◌}
+use Rattle.std.specs.Prelude.{ℕ, ◌+◌, ◌-◌, ◌^◌, Bool, List, [], ◌∷◌, Option, Some, None, Result, Ok, Err, if◌then◌else◌, ◌==◌}
 use Rattle.std.specs.List.{slice_get}
 use Rattle.serde_json.specs.Data.{Data, null, boolean, number, string, array, object}
 use Rattle.serde_json.specs.Find.{as_bool}
 use Rattle.mh_tree.specs.Handle.{TypedTree}
-use Rattle.mh_cert.specs.declared.plan.Plan.{Plan}
 use Rattle.mh_site.specs.declared.version.Version.{Version}
 use Rattle.mh_site.specs.declared.version.Version.TheVariants.{One, Two}
 use Rattle.mh_text.specs.declared.fault.InputFault.{InputFault}
 use Rattle.mh_text.specs.declared.fault.InputFault.TheVariants.{BadShape}
 use Rattle.mh_text.specs.declared.json.scope.Scope.{Scope}
 use Rattle.mh_text.specs.Gives.{or_fault, ◌>>=◌}
-use Rattle.mh_text.specs.Problems.{row_of, rows_of}
+use Rattle.mh_text.specs.Problems.{row_of}
 use Rattle.mh_text.specs.Plans.{signed_of, plan_of, flow_row_of, charge_row_of}
 use Rattle.mh_text.specs.Script.{most_workers, place_or_none, point_of, link_of, site_of, limits_in}
-use Rattle.mh_text.specs.Shape.{to_list, text_of, count_of, member_of}
+use Rattle.mh_text.specs.Shape.{to_list, text_of, count_of}
 use Rattle.mh_text.specs.Shared.{new_name, shared_of}
 use Rattle.mh_text.specs.Trees.{tree_of, declared_of, filter_of, shared_named, invocation_named}
 use Rattle.mh_text.specs.Values.{kind_of, type_of, op_of, value_for, value_of_kind}
+use Rattle.mh_explain.specs.Problems.{claim_in, problem_in}
 use Rattle.mh_explain.specs.declared.form.Form.{Form}
 use Rattle.mh_explain.specs.declared.form.Form.TheVariants as form
 use Rattle.mh_explain.specs.declared.form.Shape.{Shape}
@@ -66,14 +66,6 @@ abbrev pub version_or_two : Result Version InputFault → Version
 version_or_two (Ok version) = version
 version_or_two (Err e) = Two
 
--- the plan of a problem, which is read before it
-abbrev pub claim_in : Data → Result Plan InputFault
-claim_in d = do
-  problem ← member_of (codes "problem") d
-  rows ← rows_of problem
-  plan ← member_of (codes "plan") d
-  plan_of plan
-
 -- the fault of a part that is read by a form over the names of a scope
 unfoldable pub form_fault : Scope → Form → Data → Option InputFault
 form_fault scope form.Text d = fault_in (text_of d)
@@ -105,7 +97,7 @@ form_fault scope form.Plan d = fault_in (plan_of d)
 form_fault scope form.FlowRow d = fault_in (flow_row_of d)
 form_fault scope form.ChargeRow d = fault_in (charge_row_of d)
 form_fault scope (form.Row version) d = fault_in (row_of version d)
-form_fault scope form.Problem d = fault_in (rows_of d)
+form_fault scope form.Problem d = fault_in (problem_in d)
 form_fault scope form.Claim d = fault_in (claim_in d)
 
 -- the form of item n of a list

@@ -1,5 +1,7 @@
 -- Keys and paths into a JSON value.
-use Rattle.std.specs.Prelude.{ℕ, List, [], ◌∷◌, Option, Some, option_and_then, codes}
+use Rattle.std.specs.Prelude.{ℕ, List, [], ◌∷◌, ◌++◌, Option, Some, option_and_then, codes}
+use Rattle.std.specs.Fmt.{decimal}
+use Rattle.std.specs.List.{flat_map}
 use Rattle.serde_json.specs.Data.{Data}
 use Rattle.serde_json.specs.Find.{get, at}
 use Rattle.mh_explain.specs.declared.key.Field.{Field}
@@ -49,3 +51,18 @@ child (Item n) d = at n d
 abbrev pub value_at : List Key → Data → Option Data
 value_at [] d = Some d
 value_at (key ∷ rest) d = option_and_then (value_at rest) (child key d)
+
+-- a key behind others: `.sites`, `[3]`
+abbrev pub step_text : Key → List ℕ
+step_text (Member field) = codes "." ++ field_name field
+step_text (Item n) = codes "[" ++ (decimal n ++ codes "]")
+
+-- the first key: a name without a dot
+abbrev pub first_text : Key → List ℕ
+first_text (Member field) = field_name field
+first_text (Item n) = step_text (Item n)
+
+-- a path as text: `definition.sites[3].target[1]`
+abbrev pub path_text : List Key → List ℕ
+path_text [] = []
+path_text (key ∷ rest) = first_text key ++ flat_map step_text rest

@@ -1,11 +1,10 @@
 -- The keys of an input that nothing reads: where objects stand in each form of input, and which keys of each are read.
-use Rattle.std.specs.Prelude.{ℕ, ◌+◌, ◌||◌, List, [], ◌∷◌, ◌++◌, Option, Some, None, Bool, true, false, not, codes, bytes_eq, Result, Ok, Err, if◌then◌else◌}
+use Rattle.std.specs.Prelude.{ℕ, ◌+◌, ◌||◌, List, [], ◌∷◌, ◌++◌, Option, Some, None, Bool, false, not, codes, bytes_eq, Result, Ok, Err, if◌then◌else◌}
 use Rattle.serde_json.specs.Data.{Data, null, boolean, number, string, array, object, Members, no_members, member}
 use Rattle.serde_json.specs.Find.{get, at, as_str}
 use Rattle.mh_site.specs.declared.version.Version.{Version}
 use Rattle.mh_site.specs.declared.version.Version.TheVariants.{One, Two}
 use Rattle.mh_text.specs.declared.fault.Fault.{Fault}
-use Rattle.mh_text.specs.declared.fault.InputFault.{InputFault}
 use Rattle.mh_text.specs.Inputs.{json_of_input}
 use Rattle.mh_text.specs.Versions.{version_of}
 use Rattle.mh_explain.specs.declared.input.InputForm.{InputForm}

@@ -64,7 +64,7 @@ pub enum Form {
     ChargeRow,
     /// A link of a problem.
     Row(Version),
-    /// A problem: its version, its costs and its links, and not what they make together.
+    /// A problem: its version, its costs, its links, and what they make together.
     Problem,
     /// A problem and a plan.
     Claim,

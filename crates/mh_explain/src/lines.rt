@@ -1,19 +1,26 @@
 //! Where a fault of an input is, what stands there, and why it is one.
+ghost use Rattle.std.specs.Prelude.{◌≡◌, ◌≢◌, Some, string_bytes, IfOk};
+ghost use Rattle.serde_json.specs.View.{view};
+ghost use Rattle.mh_text.specs.Gives.{no_memory};
+ghost use Rattle.mh_explain.specs.Explanations.{place_text, reading_of, Explains, NamesPlace};
+ghost use Rattle.mh_explain.specs.Places.{IsPlace, fault_of};
+
 use crate::found::{cut, found};
 use crate::input::InputForm;
-use crate::key::{Field, Key};
+use crate::key::Key;
 use crate::path::Path;
 use crate::problem::{place_in_claim, place_in_problem};
 use crate::script::place_in_script;
-use crate::spot::{Spot, spot_in};
+use crate::spot::spot_in;
 use crate::walk::Place;
 use crate::why::why;
 use mh_base::NoMemory;
 use mh_site::Listing;
 use mh_text::readers::read_json;
 use mh_text::{Fault, InputFault, TextFault};
-use serde_json::Value;
+use serde_json::{Error, Value};
 use std::alloc::Global;
+use std::str;
 
 /// How many bytes before the fault of a text are shown.
 const BYTES_BEFORE: usize = 40;
@@ -21,30 +28,27 @@ const BYTES_BEFORE: usize = 40;
 /// How many bytes from the fault of a text on are shown.
 const BYTES_BEHIND: usize = 20;
 
-/// The lines of an explanation.
-fn lines(alloc: Global, place: &str, found: &str, why: &str) -> Result<String, NoMemory> {
-    Ok(format!(in alloc; "  where: {place}\n  found: {found}\n  why:   {why}\n")?)
-}
-
-/// The place of a fault of an input. A fault of a problem as a whole has the problem as its place.
+/// The place of a fault of an input.
 fn place(
     alloc: Global,
     form: InputForm,
     value: &Value,
     fault: InputFault,
-) -> Result<Place, NoMemory> {
-    match (form, fault) {
-        (InputForm::Script, _) => place_in_script(alloc, value, fault),
-        (InputForm::Problem, _) => place_in_problem(alloc, value, fault),
-        (InputForm::Claim, InputFault::Problem(_)) => {
-            Place::here(alloc).under(Key::Member(Field::Problem))
-        }
-        (InputForm::Claim, _) => place_in_claim(alloc, value, fault),
+) -> Result<Place, NoMemory>
+    ensures place { IfOk result (λ place. fault_of (reading_of form) (view value.now) ≡ Some fault
+        → IsPlace fault (view value.now) place.path) }
+{
+    match form {
+        InputForm::Script => place_in_script(alloc, value, fault),
+        InputForm::Problem => place_in_problem(alloc, value, fault),
+        InputForm::Claim => place_in_claim(alloc, value, fault),
     }
 }
 
 /// A path as text, with words for the empty one.
-fn path_text(alloc: Global, keys: &[Key]) -> Result<String, NoMemory> {
+fn path_text(alloc: Global, keys: &[Key]) -> Result<String, NoMemory>
+    ensures value { IfOk result (λ s. string_bytes s ≡ place_text keys.now) }
+{
     if keys.is_empty() {
         return Ok(String::from_str(alloc, "the input itself")?);
     }
@@ -52,32 +56,20 @@ fn path_text(alloc: Global, keys: &[Key]) -> Result<String, NoMemory> {
     Ok(format!(in alloc; "{path}")?)
 }
 
-/// The explanation of a fault that a part of an input has, to which a path leads.
-fn of_part(
+/// What stands at the end of a path, and why it is a fault: a line each.
+fn reasons(
     alloc: Global,
+    form: InputForm,
     input: &Value,
     fault: InputFault,
     keys: &[Key],
-    spot: &Spot<'_>,
 ) -> Result<String, NoMemory> {
-    let place = path_text(alloc, keys)?;
-    let found = found(alloc, fault, spot)?;
-    let why = why(alloc, input, fault, spot)?;
-    lines(alloc, place.as_str(), found.as_str(), why.as_str())
-}
-
-/// The explanation of a fault at the end of a path.
-fn at_path(
-    alloc: Global,
-    form: InputForm,
-    value: &Value,
-    fault: InputFault,
-    keys: &[Key],
-) -> Result<String, NoMemory> {
-    match spot_in(alloc, form, value, keys)? {
-        Some(spot) => of_part(alloc, value, fault, keys, &spot),
-        None => Ok(String::new(alloc)),
-    }
+    let Some(spot) = spot_in(alloc, form, input, keys)? else {
+        return Ok(String::new(alloc));
+    };
+    let found = found(alloc, fault, &spot)?;
+    let why = why(alloc, input, fault, &spot)?;
+    Ok(format!(in alloc; "  found: {found}\n  why:   {why}\n")?)
 }
 
 /// The explanation of a fault of a value of JSON.
@@ -86,13 +78,22 @@ fn of_value(
     form: InputForm,
     value: &Value,
     fault: InputFault,
-) -> Result<String, NoMemory> {
+) -> Result<String, NoMemory>
+    ensures place { IfOk result (λ lines. fault_of (reading_of form) (view value.now) ≡ Some fault
+        → NamesPlace fault (view value.now) (string_bytes lines)) }
+{
     let place = place(alloc, form, value, fault)?;
-    at_path(alloc, form, value, fault, place.path.as_slice())
+    let keys = place.path.as_slice();
+    let path = path_text(alloc, keys)?;
+    let reasons = reasons(alloc, form, value, fault, keys)?;
+    Ok(format!(in alloc; "  where: {path}\n{reasons}")?)
 }
 
-/// Bytes as text, with `?` for each that is no printable ASCII.
+/// Bytes as text, with `?` for each that is no printable ASCII, and `nothing` for none.
 fn printable(alloc: Global, bytes: &[u8]) -> Result<String, NoMemory> {
+    if bytes.is_empty() {
+        return Ok(String::from_str(alloc, "nothing")?);
+    }
     let mut text = String::new(alloc);
     for byte in bytes {
         if byte.is_ascii_graphic() || *byte == b' ' {
@@ -131,6 +132,15 @@ fn around(input: &[u8], line: usize, column: usize) -> &[u8] {
     }
 }
 
+/// Why a text is no JSON: it is not UTF-8, which is told at the first byte that is none, or what
+/// the JSON crate says.
+fn why_no_json(alloc: Global, input: &[u8], error: &Error) -> Result<String, NoMemory> {
+    if str::from_utf8(input).is_err() {
+        return Ok(String::from_str(alloc, "the text is not UTF-8 from here on")?);
+    }
+    cut(alloc, format!(in alloc; "{error}")?)
+}
+
 /// The explanation of a text that is no JSON.
 fn of_text(alloc: Global, input: &[u8]) -> Result<String, NoMemory> {
     match Value::from_slice(alloc, input) {
@@ -140,10 +150,11 @@ fn of_text(alloc: Global, input: &[u8]) -> Result<String, NoMemory> {
                 return Err(NoMemory);
             }
             let (line, column) = (error.line(), error.column());
-            let place = format!(in alloc; "line {line} column {column}")?;
             let found = printable(alloc, around(input, line, column))?;
-            let why = cut(alloc, format!(in alloc; "{error}")?)?;
-            lines(alloc, place.as_str(), found.as_str(), why.as_str())
+            let why = why_no_json(alloc, input, &error)?;
+            Ok(format!(in alloc;
+                "  where: line {line} column {column}\n  found: {found}\n  why:   {why}\n"
+            )?)
         }
     }
 }
@@ -151,15 +162,17 @@ fn of_text(alloc: Global, input: &[u8]) -> Result<String, NoMemory> {
 /// The lines that explain a fault of an input: where it is, what stands there, and why it is one.
 ///
 /// Each line begins with two spaces and a word, `where:`, `found:` or `why:`, and ends with a
-/// newline. There is none where no part of the input has the fault: memory ran out, or the input is
-/// too long. The fault is the one that reading the input in this form gives. Fails only if memory
-/// runs out.
+/// newline. The first one names the place of the fault, which is the one that reading the input in
+/// this form gives. There is none where no part of the input has the fault: memory ran out, or the
+/// input is too long. Fails only if memory runs out.
 pub fn explanation(
     alloc: Global,
     form: InputForm,
     input: &[u8],
     fault: InputFault,
-) -> Result<String, NoMemory> {
+) -> Result<String, NoMemory>
+    ensures place { IfOk result (λ lines. Explains form input.now fault (string_bytes lines)) }
+{
     match fault {
         InputFault::NoMemory | InputFault::TooLong => Ok(String::new(alloc)),
         InputFault::NotJson => of_text(alloc, input),
@@ -171,7 +184,9 @@ pub fn explanation(
 }
 
 /// No explanation, unless memory ran out.
-fn nothing_of(alloc: Global, fault: Fault) -> Result<String, NoMemory> {
+fn nothing_of(alloc: Global, fault: Fault) -> Result<String, NoMemory>
+    ensures other { IfOk result (λ _. fault.kind ≢ no_memory) }
+{
     if fault.kind == TextFault::Input(InputFault::NoMemory) {
         return Err(NoMemory);
     }

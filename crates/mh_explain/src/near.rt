@@ -7,7 +7,8 @@ use strsim::levenshtein;
 const MOST_EDITS: usize = 2;
 
 /// The nearest of the words within two edits, the first where several are as near. A word of two
-/// letters or fewer is meant for none, since each is near to each.
+/// letters is meant for one within one edit, and a word of one letter for none, since to such words
+/// most short ones are near.
 pub(crate) fn nearest<'a>(
     alloc: Global,
     word: &str,

@@ -1,4 +1,9 @@
 //! Paths as text.
+ghost use Rattle.std.specs.Prelude.{Some};
+ghost use Rattle.std.specs.Fmt.{WritesOnOk};
+ghost use Rattle.std.specs.List.{flat_map};
+ghost use Rattle.mh_explain.specs.Keys.{first_text, path_text, step_text};
+
 use crate::key::Key;
 use mh_base::NoMemory;
 use std::alloc::Global;
@@ -10,22 +15,50 @@ pub(crate) struct Path<'a> {
     pub keys: &'a [Key],
 }
 
+/// The keys with a dot, and the numbers of items in brackets: `definition.sites[3].target[1]`.
 impl fmt::Display for Path<'_> {
-    /// The keys with a dot, and the numbers of items in brackets: `definition.sites[3].target[1]`.
+    ghost output = { λ path. Some (path_text path.keys.now) };
+
     fn fmt<W: fmt::Write>(&self, f: &mut fmt::Formatter<W>) -> fmt::Result {
-        for (i, key) in self.keys.iter().enumerate() {
-            match key {
-                Key::Member(field) => {
-                    if i > 0 {
-                        write!(f, ".")?;
-                    }
-                    write!(f, "{}", field.name())?;
-                }
-                Key::Item(item) => write!(f, "[{item}]")?,
-            }
-        }
-        Ok(())
+        let [first, others @ ..] = self.keys else {
+            return Ok(());
+        };
+        write_first(*first, f)?;
+        write_others(others, f)
     }
+}
+
+/// The first key of a path: a name without a dot.
+fn write_first<W: fmt::Write>(key: Key, f: &mut fmt::Formatter<W>) -> fmt::Result
+    ensures text { WritesOnOk W.write_str_gives f.old result (first_text key) f.new }
+{
+    match key {
+        Key::Member(field) => f.write_str(field.name()),
+        Key::Item(_) => write_step(key, f),
+    }
+}
+
+/// A key behind others.
+fn write_step<W: fmt::Write>(key: Key, f: &mut fmt::Formatter<W>) -> fmt::Result
+    ensures text { WritesOnOk W.write_str_gives f.old result (step_text key) f.new }
+{
+    match key {
+        Key::Member(field) => {
+            f.write_str(".")?;
+            f.write_str(field.name())
+        }
+        Key::Item(item) => write!(f, "[{item}]"),
+    }
+}
+
+/// The keys behind the first.
+fn write_others<W: fmt::Write>(keys: &[Key], f: &mut fmt::Formatter<W>) -> fmt::Result
+    ensures text { WritesOnOk W.write_str_gives f.old result (flat_map step_text keys.now) f.new }
+{
+    for key in keys {
+        write_step(*key, f)?;
+    }
+    Ok(())
 }
 
 /// The keys, and one more.

@@ -29,8 +29,8 @@ fn place_alone(
 
 /// The place of a fault of a problem.
 ///
-/// As `place_in_script`. A fault of the links and costs as a whole is no fault of reading, and has
-/// the problem itself as its place. Fails only if memory runs out.
+/// As `place_in_script`. Links and costs that make no problem have the problem itself as the place
+/// of their fault, since each of them is read without one. Fails only if memory runs out.
 pub fn place_in_problem(alloc: Global, value: &Value, fault: InputFault) -> Result<Place, NoMemory>
     ensures leads { IfOk result (λ place. Leads fault problem (view value.now) place.path) }
     ensures place { IfOk result (λ place. fault_of problem (view value.now) ≡ Some fault
@@ -41,7 +41,8 @@ pub fn place_in_problem(alloc: Global, value: &Value, fault: InputFault) -> Resu
 
 /// The place of a fault of a problem with a plan, each at its key.
 ///
-/// As `place_in_problem`. Fails only if memory runs out.
+/// As `place_in_problem`: links and costs that make no problem have what stands at the key `problem`
+/// as their place. Fails only if memory runs out.
 pub fn place_in_claim(alloc: Global, value: &Value, fault: InputFault) -> Result<Place, NoMemory>
     ensures leads { IfOk result (λ place. Leads fault claim (view value.now) place.path) }
     ensures place { IfOk result (λ place. fault_of claim (view value.now) ≡ Some fault

@@ -4,7 +4,8 @@ ghost use Rattle.std.specs.List.{slice_get};
 ghost use Rattle.serde_json.specs.View.{view};
 ghost use Rattle.mh_text.specs.Gives.{Gives};
 ghost use Rattle.mh_text.specs.Versions.{version_of};
-ghost use Rattle.mh_explain.specs.Forms.{claim_in, version_in, version_or_two, workers_in, truth_in, shared_in, site_in, form_at, form_fault, items_fault, list_fault, shape_fault};
+ghost use Rattle.mh_explain.specs.Problems.{claim_in, problem_in};
+ghost use Rattle.mh_explain.specs.Forms.{version_in, version_or_two, workers_in, truth_in, shared_in, site_in, form_at, form_fault, items_fault, list_fault, shape_fault};
 ghost use Rattle.mh_explain.specs.Told.{Told, Known};
 ghost use Rattle.mh_explain.specs.Trees.{items_in};
 
@@ -12,12 +13,12 @@ use crate::form::{Form, Shape};
 use mh_base::NoMemory;
 use mh_site::Version;
 use mh_text::readers::{
-    Scope, count, kind_at, member, read_charge_row, read_constant, read_declared,
+    Scope, count, kind_at, make_problem, member, read_charge_row, read_constant, read_declared,
     read_filter_or_none, read_flow_row, read_given_limits, read_kind, read_link, read_new_name,
     read_op, read_place_or_none, read_plan_value, read_point, read_row, read_rows, read_shared,
     read_signed, read_site, read_tree, read_type, read_value, text, version,
 };
-use mh_text::{InputFault, Plan};
+use mh_text::{InputFault, Plan, Problem};
 use mh_tree::Handle;
 use serde_json::Value;
 use std::alloc::Global;
@@ -100,11 +101,22 @@ fn read_site_name(alloc: Global, scope: &Scope, value: &Value) -> Result<Handle,
     scope.invocation_named(alloc, text(value)?)
 }
 
-/// The plan of a problem, which is read before it.
+/// A problem: its version, its costs and its links are read, and make it.
+fn read_problem(alloc: Global, value: &Value) -> Result<Problem, InputFault>
+    ensures value { Gives (λ x. x) result (problem_in (view value.now)) }
+{
+    let rows = read_rows(alloc, value)?;
+    match make_problem(alloc, &rows) {
+        Ok(problem) => Ok(problem),
+        Err(cause) => Err(InputFault::from(cause)),
+    }
+}
+
+/// The plan of a problem, which is read and made before it.
 fn read_claim(alloc: Global, value: &Value) -> Result<Plan, InputFault>
     ensures value { Gives (λ x. x) result (claim_in (view value.now)) }
 {
-    let _rows = read_rows(alloc, member(value, "problem")?)?;
+    let _problem = read_problem(alloc, member(value, "problem")?)?;
     read_plan_value(alloc, member(value, "plan")?)
 }
 
@@ -158,7 +170,7 @@ pub(crate) fn fault_by_form(
         Form::FlowRow => fault(read_flow_row(value)),
         Form::ChargeRow => fault(read_charge_row(value)),
         Form::Row(version) => fault(read_row(alloc, version, value)),
-        Form::Problem => fault(read_rows(alloc, value)),
+        Form::Problem => fault(read_problem(alloc, value)),
         Form::Claim => fault(read_claim(alloc, value)),
     }
 }

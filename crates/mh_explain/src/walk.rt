@@ -1,6 +1,7 @@
 //! The walk to the least part that has a fault.
-ghost use Rattle.std.specs.Prelude.{◌≡◌, ◌∷◌, [], map, IfOk};
+ghost use Rattle.std.specs.Prelude.{◌≡◌, ◌∷◌, [], Some, map, IfOk};
 ghost use Rattle.serde_json.specs.View.{view};
+ghost use Rattle.mh_explain.specs.Keys.{path_text};
 ghost use Rattle.mh_explain.specs.Looks.{IsFirst, IsLooked};
 ghost use Rattle.mh_explain.specs.Places.{Leads, LeadsFrom, at_field, entry, item_entry, over};
 
@@ -47,8 +48,10 @@ impl Place {
     }
 }
 
+/// The keys with a dot, and the numbers of items in brackets: `definition.sites[3].target[1]`.
 impl fmt::Display for Place {
-    /// The keys with a dot, and the numbers of items in brackets: `definition.sites[3].target[1]`.
+    ghost output = { λ place. Some (path_text place.path) };
+
     fn fmt<W: fmt::Write>(&self, f: &mut fmt::Formatter<W>) -> fmt::Result {
         let path = Path {
             keys: self.path.as_slice(),

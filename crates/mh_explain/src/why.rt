@@ -7,7 +7,6 @@ mod trees;
 mod types;
 mod values;
 
-use crate::key::Field;
 use crate::spot::Spot;
 use mh_base::NoMemory;
 use mh_text::InputFault;
@@ -28,16 +27,8 @@ pub(crate) fn why(
         InputFault::UnknownSite => names::why_unknown_site(alloc, input, spot.value),
         InputFault::Tree(cause) => trees::why_refused(alloc, cause, spot),
         InputFault::Definition(cause) => definitions::why_definition(alloc, cause, spot.value),
-        InputFault::Problem(cause) => problems::why_none(alloc, cause, problem_of(input)),
+        InputFault::Problem(cause) => problems::why_none(alloc, cause, spot.value),
         InputFault::BadType(_) => types::why_none(alloc, spot.value),
         InputFault::NoMemory | InputFault::TooLong | InputFault::NotJson => Ok(String::new(alloc)),
-    }
-}
-
-/// The problem of an input: what it has at that key, or else the input itself.
-fn problem_of(input: &Value) -> &Value {
-    match input.get(Field::Problem.name()) {
-        Some(problem) => problem,
-        None => input,
     }
 }

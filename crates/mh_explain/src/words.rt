@@ -51,6 +51,21 @@ pub(crate) fn counted(
     Ok(format!(in alloc; "{count} {noun}")?)
 }
 
+/// Which numbers there are of a thing: `the points are 0 to 2`.
+pub(crate) fn numbered(
+    alloc: Global,
+    count: usize,
+    one: &str,
+    many: &str,
+) -> Result<String, NoMemory> {
+    let last = count.saturating_sub(1);
+    Ok(match count {
+        0 => format!(in alloc; "there is no {one}")?,
+        1 => format!(in alloc; "the only {one} is 0")?,
+        _ => format!(in alloc; "the {many} are 0 to {last}")?,
+    })
+}
+
 /// The words of a text, between spaces.
 pub(crate) fn words_of<'a>(alloc: Global, text: &'a str) -> Result<Vec<&'a str>, NoMemory> {
     let mut words = Vec::new(alloc);

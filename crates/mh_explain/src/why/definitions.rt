@@ -224,13 +224,21 @@ fn why_other_kind(alloc: Global, site: &Site) -> Result<Option<String>, NoMemory
 
 fn why_key_twice(alloc: Global, links: &[Link]) -> Result<Option<String>, NoMemory> {
     for (i, link) in links.iter().enumerate() {
-        for (j, earlier) in links[..i].iter().enumerate() {
-            if same_value(&earlier.when, &link.when) {
-                return Ok(Some(format!(in alloc; "has one key in links[{j}] and links[{i}]")?));
-            }
+        if let Some(j) = link_keyed_as(link, &links[..i]) {
+            return Ok(Some(format!(in alloc; "has one key in links[{j}] and links[{i}]")?));
         }
     }
     Ok(None)
+}
+
+/// The first of the earlier links that has the key of this one.
+fn link_keyed_as(link: &Link, earlier: &[Link]) -> Option<usize> {
+    for (i, other) in earlier.iter().enumerate() {
+        if same_value(&other.when, &link.when) {
+            return Some(i);
+        }
+    }
+    None
 }
 
 fn why_other_type(alloc: Global, site: &Site) -> Result<Option<String>, NoMemory> {

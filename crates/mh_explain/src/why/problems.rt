@@ -1,6 +1,6 @@
 //! Links and costs that make no problem.
 use crate::reading::known;
-use crate::words::counted;
+use crate::words::numbered;
 use mh_base::NoMemory;
 use mh_network::{GREATEST_SUM, LinkRow, MOST_NEEDS, ProblemFault};
 use mh_text::readers::{most_links, read_rows};
@@ -68,10 +68,8 @@ fn sum_of_charges(links: &[LinkRow]) -> u128 {
 fn why_out_of_range(alloc: Global, links: &[LinkRow], points: usize) -> Result<String, NoMemory> {
     for (i, link) in links.iter().enumerate() {
         if let Some(need) = need_past(link.needs.as_slice(), points) {
-            let points = counted(alloc, points, "point", "points")?;
-            return Ok(format!(in alloc;
-                "links[{i}] needs point {need} of {points}, which count from 0"
-            )?);
+            let points = numbered(alloc, points, "point", "points")?;
+            return Ok(format!(in alloc; "links[{i}] needs point {need}, and {points}")?);
         }
     }
     Ok(String::new(alloc))

@@ -1,7 +1,7 @@
 //! Trees that their constructors refuse.
 use crate::reading::{items, known};
 use crate::spot::Spot;
-use crate::words::counted;
+use crate::words::{counted, numbered};
 use mh_base::NoMemory;
 use mh_text::readers::{Scope, place, read_filter_or_none, read_tree, read_type, read_value};
 use mh_tree::{DEEPEST, DEEPEST_DECLARED, Handle, LARGEST, LARGEST_DECLARED, TreeFault};
@@ -249,10 +249,8 @@ fn why_no_permutation(
     if reorder.len() != target.count() {
         return Ok(format!(in alloc; "the list has {numbers}, and {target} {parameters}")?);
     }
-    let most = counted(alloc, new_type.count(), "parameter", "parameters")?;
-    Ok(format!(in alloc;
-        "the list has a number past the {most} of {new_type}, which count from 0"
-    )?)
+    let last = numbered(alloc, new_type.count(), "parameter", "parameters")?;
+    Ok(format!(in alloc; "the list has a number past the end of {new_type}, where {last}")?)
 }
 
 fn why_no_filters(

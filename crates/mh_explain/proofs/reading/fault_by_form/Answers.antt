@@ -120,7 +120,7 @@ returns-in-Row c = record { value = rw c.in-Row.is (told_ok _ _ _ _ c.read_row.e
 
 pub returns-in-Problem : goal.returns-in-Problem
 unfolding form_fault
-returns-in-Problem c = record { value = rw c.in-Problem.is (told_ok _ _ _ _ c.read_rows.ensures.value c.fault-in-Problem.ensures.value) }
+returns-in-Problem c = record { value = rw c.in-Problem.is (told_ok _ _ _ _ c.read_problem.ensures.value c.fault-in-Problem.ensures.value) }
 
 pub returns-in-Claim : goal.returns-in-Claim
 unfolding form_fault
