@@ -4,7 +4,7 @@ ghost use Rattle.std.specs.Prelude.{◌≡◌, ◌≤◌, ◌<◌, length, ℕ, 
 ghost use Rattle.mh_network.specs.Selection.{member};
 ghost use Rattle.mh_flow.specs.Charged.{paid_charges as charges_paid, paid_of};
 ghost use Rattle.mh_flow.specs.Run.{is_reached, positive_rows};
-ghost use Rattle.mh_network.specs.Limits.{most_links};
+ghost use Rattle.mh_network.specs.Limits.{greatest_count};
 
 use crate::levels::UNREACHED;
 use crate::need_row::NeedRow;
@@ -48,7 +48,7 @@ pub(crate) fn paid_charges(alloc: Global, problem: &Problem) -> Result<Vec<(u32,
 
 /// The links that have a level.
 pub(crate) fn reached_links(alloc: Global, levels: &[u32]) -> Result<Vec<u32>, NoMemory>
-    requires { length levels.now ≤ most_links }
+    requires { length levels.now ≤ greatest_count }
     ensures { IfOk result (λ v. (j : ℕ) → member v.items j ≡ is_reached levels.now j) }
 {
     let mut reached = Vec::new(alloc);

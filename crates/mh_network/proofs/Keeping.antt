@@ -3,14 +3,18 @@ use Rattle.std.proofs.Common.{◌≡◌, ◌<◌, ◌∙◌, ℕ, zero, suc, ◌
 use Rattle.std.specs.List.{slice_index_or, slice_set}
 use Rattle.std.proofs.lemmas.List.{get_or_default}
 use Rattle.mh_network.specs.declared.link_row.LinkRow.{LinkRow}
-use Rattle.mh_network.specs.Problems.{IsProblem, kept_gain, kept_row, no_link, problem_tests}
+use Rattle.mh_network.specs.Problems.{IsProblem, kept_gain, kept_row, no_link, problem_tests, large_tests}
 use Rattle.mh_base.specs.Tests.{Passes}
-use Rattle.mh_network.specs.Laws.Kept.{tested_problem}
+use Rattle.mh_network.specs.Laws.Kept.{tested_problem, large_problem}
 
 -- rows that pass all tests make a problem
 pub kept_problem : (rows : List LinkRow) (costs : List ℕ) (kept : List LinkRow) (copied : List ℕ) → Passes (problem_tests rows costs) → kept ≡ map kept_row rows → copied ≡ costs
     → IsProblem record { links = kept; costs = copied }
 kept_problem rows costs kept copied h e same = rw (e, same) (tested_problem rows costs h)
+
+pub kept_large : (rows : List LinkRow) (costs : List ℕ) (kept : List LinkRow) (copied : List ℕ) → Passes (large_tests rows costs) → kept ≡ map kept_row rows → copied ≡ costs
+    → IsProblem record { links = kept; costs = copied }
+kept_large rows costs kept copied h e same = rw (e, same) (large_problem rows costs h)
 
 next_at : (rows : List LinkRow) (i : ℕ) → i < length rows → slice_index_or (map kept_row (take i rows) ++ drop i rows) i no_link ≡ slice_index_or rows i no_link
 next_at [] i l = absurd (omega (arith, l))

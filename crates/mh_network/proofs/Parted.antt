@@ -126,7 +126,6 @@ module _ (P : ProblemData) (part : Part) (h : IsPartOf P part) (problem : IsProb
   part_is_problem = record {
     links = omega (arith, length-map part.links (part_row P part), ascending_few part.links (length P.links) h.links h.links_in, problem.links);
     points = omega (arith, length-map part.points (cost_of P), ascending_few part.points (length P.costs) h.points h.points_in, problem.points);
-    few = each_row (λ r. length r.needs ≤ 8) (omega arith) (λ j inside. omega (arith, length-map (link_at P j).needs (place_of part.points), problem.few j));
     in_range = each_row (λ r. (p : ℕ) → list_any (λ q. q == p) r.needs ≡ true → p < length (part_problem P part).costs) (λ p e. absurd (true≢false (sym e)))
         (λ j inside p e. omega (arith, length-map part.points (cost_of P), needs_placed j p inside e));
     ascending = each_row (λ r. IsStrictlyIncreasing r.needs) (λ k l. absurd (omega arith)) needs_rise;

@@ -1,5 +1,5 @@
 -- Sets of links that a flow cuts off.
-use Rattle.std.specs.Prelude.{ℕ, ◌+◌, ◌≡◌, ◌<◌, List, Bool, true, All, length, pos, ◌+ℤ◌}
+use Rattle.std.specs.Prelude.{ℕ, ◌+◌, ◌≡◌, ◌<◌, List, Bool, true, false, All, length, pos, ◌+ℤ◌}
 use Rattle.mh_network.specs.Problems.{ProblemData, gain_of, charge_of, cost_of, needs_point, sum_of_gains}
 use Rattle.mh_network.specs.Selection.{Row, Charge, AllEligible, IsFlow, IsLeast, from_link, into_charge, into_point, union_of_needs, value_of, worth}
 
@@ -22,3 +22,8 @@ abbrev pub CutsAreLeast : ProblemData → Type 0
 CutsAreLeast P = (rows : List Row) → (charges : List Charge) → IsFlow P rows charges → (S : ℕ → Bool) → IsCut P rows charges S →
     ((links points : ℕ → Bool) → IsClosed P rows charges links points → (j : ℕ) → S j ≡ true → links j ≡ true) →
     (worth P S +ℤ pos (value_of rows charges) ≡ pos (sum_of_gains P)) × IsLeast P S
+
+-- where links and a flow are worth all gains, a link that is left out spends its whole gain, on its charge and on points
+abbrev pub LeftSpendAll : ProblemData → Type 0
+LeftSpendAll P = (rows : List Row) → (charges : List Charge) → IsFlow P rows charges → (S : ℕ → Bool) → worth P S +ℤ pos (value_of rows charges) ≡ pos (sum_of_gains P) →
+    (j : ℕ) → S j ≡ false → from_link rows j + into_charge charges j ≡ gain_of P j

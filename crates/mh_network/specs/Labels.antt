@@ -1,5 +1,5 @@
 -- Labels of points.
-use Rattle.std.specs.Prelude.{ℕ, ◌≡◌, ◌<◌, ◌⊎◌, ◌==◌, List, true, cond, length}
+use Rattle.std.specs.Prelude.{ℕ, ◌≡◌, ◌≤◌, ◌<◌, ◌⊎◌, ◌==◌, List, true, cond, length}
 use Rattle.std.specs.List.{slice_index_or}
 use Rattle.mh_network.specs.Problems.{ProblemData, needs_point}
 use Rattle.mh_network.specs.Selection.{member}
@@ -25,6 +25,14 @@ pub record IsRelabelled (needs old new : List ℕ) : Type 0 where
   pub origin : (p q : ℕ) → p < length old → q < length old → label_of new p ≡ label_of new q →
       (label_of old p ≡ label_of old q)
       ⊎ ((a : ℕ) × (b : ℕ) × (member needs a ≡ true) × (member needs b ≡ true) × (label_of old p ≡ label_of old a) × (label_of old q ≡ label_of old b))
+
+-- a table in which each point leads down to its label, which leads to itself
+pub record LeadsDown (table labels : List ℕ) : Type 0 where
+  pub count : length table ≡ length labels
+  pub down : (p : ℕ) → label_of table p ≤ p
+  pub low : (p : ℕ) → label_of labels p ≤ p
+  pub same : (p : ℕ) → p < length table → label_of labels (label_of table p) ≡ label_of labels p
+  pub root : (p : ℕ) → p < length table → label_of table p ≡ p → label_of labels p ≡ p
 
 -- two points that one of the first n links needs have one label, and points of one label are joined
 pub record AreLabels (P : ProblemData) (n : ℕ) (labels : List ℕ) : Type 0 where

@@ -5,6 +5,6 @@ pub mod Members
 pub mod Net
 pub mod Optimal
 pub mod SumLaws
-pub use Rattle.mh_network.specs.Laws.Kept.{kept_charges, kept_costs, kept_gains, tested_problem}
+pub use Rattle.mh_network.specs.Laws.Kept.{kept_charges, kept_costs, kept_gains, large_problem, tested_problem}
 pub use Rattle.mh_network.specs.Laws.Members.{member_is}
 pub use Rattle.mh_network.specs.Laws.Optimal.{best_by_flow}

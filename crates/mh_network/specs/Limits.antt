@@ -1,7 +1,7 @@
--- The limits of a problem.
+-- The limits of problems.
 use Rattle.std.specs.Prelude.{ℕ, ◌^◌}
 
--- the most links, points, and needs of a link
+-- the most links, points, and needs of a link, of a problem of the documents
 abbrev pub most_links : ℕ
 most_links = 16384
 
@@ -10,6 +10,10 @@ most_points = 4096
 
 abbrev pub most_needs : ℕ
 most_needs = 8
+
+-- the most links, the most points, and the most needs of a link, of any problem
+abbrev pub greatest_count : ℕ
+greatest_count = 1048576
 
 -- the greatest sum of the gains, and of the costs and charges
 abbrev pub greatest_sum : ℕ

@@ -5,7 +5,7 @@ ghost use Rattle.std.specs.List.Sorted.{IsStrictlyIncreasing};
 ghost use Rattle.mh_network.specs.Problems.{IsProblem, cost_of};
 ghost use Rattle.mh_network.specs.Parts.{ArePlaces, IsPartOf, part_problem, part_row as row_in_part};
 ghost use Rattle.mh_network.specs.Selection.{member};
-ghost use Rattle.mh_network.specs.Limits.{most_points};
+ghost use Rattle.mh_network.specs.Limits.{greatest_count};
 
 use crate::link_row::LinkRow;
 use crate::part::Part;
@@ -15,30 +15,34 @@ use std::alloc::Global;
 
 impl Problem {
     /// A part as a problem of its own: its links and points get the numbers from 0 on, in their
-    /// order. O(links + points of the part + points of the problem).
-    pub fn part(&self, alloc: Global, part: &Part) -> Result<Problem, NoMemory>
+    /// order. It writes into `places`, which has a number for each point of the problem, so that
+    /// one such table serves for all parts. O(links, needs and points of the part).
+    pub fn part(&self, alloc: Global, part: &Part, places: &mut [u32]) -> Result<Problem, NoMemory>
         requires part { IsPartOf self.now part.now }
+        requires room { length places.old ≡ length self.now.costs }
+        ensures room { length places.new ≡ length places.old }
         ensures value { IfOk result (λ p. p ≡ part_problem self.now part.now) }
     {
-        let places = places(alloc, self.points(), part.points.as_slice())?;
-        let rows = part_rows(alloc, self, part, &places)?;
+        // What it ensures says that this is a problem.
+        let _ = self.points();
+        set_places(places, part.points.as_slice());
+        let rows = part_rows(alloc, self, part, places)?;
         let costs = part_costs(alloc, self, part.points.as_slice())?;
         Ok(Problem::made(rows, costs))
     }
 }
 
-// For each of these points where it stands among them.
-fn places(alloc: Global, count: usize, points: &[u32]) -> Result<Vec<u32>, NoMemory>
-    requires inside { All (λ p. p < count) points.now }
+// Writes for each of these points where it stands among them.
+fn set_places(places: &mut [u32], points: &[u32])
+    requires inside { All (λ p. p < length places.old) points.now }
     requires ascending { IsStrictlyIncreasing points.now }
-    requires few { length points.now ≤ most_points }
-    ensures value { IfOk result (λ places. ArePlaces points.now count places.items) }
+    requires few { length points.now ≤ greatest_count }
+    ensures count { length places.new ≡ length places.old }
+    ensures value { ArePlaces points.now (length places.old) places.new }
 {
-    let mut places = vec![in alloc; 0; count]?;
     for at in 0..points.len() {
         places[points[at] as usize] = at as u32;
     }
-    Ok(places)
 }
 
 fn part_rows(

@@ -3,46 +3,57 @@
 ghost use Rattle.std.specs.Prelude.{◌≡◌, ◌+◌, ◌↔◌, ◌≤◌, ◌<◌, ◌^◌, IsTrue, MatchResult, All, length, nat_le, true, false, sum};
 ghost use Rattle.std.specs.List.{sum_by};
 ghost use Rattle.std.specs.List.Sorted.{IsStrictlyIncreasing};
-ghost use Rattle.mh_network.specs.Problems.{kept_gain, problem_tests};
+ghost use Rattle.mh_network.specs.Problems.{kept_gain, limited_tests};
 ghost use Rattle.mh_base.specs.Tests.{Passes, Refuses};
-ghost use Rattle.mh_network.specs.Limits.{most_needs, greatest_sum};
+ghost use Rattle.mh_network.specs.Limits.{greatest_sum};
 
 use crate::fault::ProblemFault;
 use crate::link_row::LinkRow;
 use mh_base::{are_below, demand, is_ascending};
 
-/// The most links of a problem.
+/// The most links of a problem that `Problem::new` makes.
 pub const MOST_LINKS: usize = 16384;
 
-/// The most points of a problem.
+/// The most points of a problem that `Problem::new` makes.
 pub const MOST_POINTS: usize = 4096;
 
-/// The most needs of a link.
+/// The most needs of a link of a problem that `Problem::new` makes.
 pub const MOST_NEEDS: usize = 8;
+
+/// The most links, points, and needs of a link, of a problem that `Problem::large` makes.
+pub const GREATEST_COUNT: usize = 1048576;
 
 /// The greatest sum of gains, and of costs and charges.
 pub const GREATEST_SUM: u64 = 1 << 62;
 
+/// How many links, points, and needs of a link may be.
+#[derive(Drop)]
+pub(crate) struct Most {
+    pub(crate) links: usize,
+    pub(crate) points: usize,
+    pub(crate) needs: usize,
+}
+
 // All tests, in order.
 #[tactic(auto, using(crate::specs::Laws::Kept::kept_gains, crate::specs::Laws::Kept::kept_costs, crate::specs::Laws::Kept::kept_charges))]
-pub(crate) fn test(rows: &[LinkRow], costs: &[u64]) -> Result<(), ProblemFault>
-    ensures value { MatchResult result (λ _. Passes (problem_tests rows.now costs.now))
-        (λ e. Refuses (problem_tests rows.now costs.now) e) }
+pub(crate) fn test(rows: &[LinkRow], costs: &[u64], most: &Most) -> Result<(), ProblemFault>
+    ensures value { MatchResult result
+        (λ _. Passes (limited_tests most.now.links most.now.points most.now.needs rows.now costs.now))
+        (λ e. Refuses (limited_tests most.now.links most.now.points most.now.needs rows.now costs.now) e) }
 {
-    demand(rows.len() <= MOST_LINKS, ProblemFault::TooManyLinks)?;
-    demand(costs.len() <= MOST_POINTS, ProblemFault::TooManyPoints)?;
-    demand(need_few(rows), ProblemFault::TooManyNeeds)?;
+    demand(rows.len() <= most.links, ProblemFault::TooManyLinks)?;
+    demand(costs.len() <= most.points, ProblemFault::TooManyPoints)?;
+    demand(need_few(rows, most.needs), ProblemFault::TooManyNeeds)?;
     demand(need_known(rows, costs.len()), ProblemFault::NeedOutOfRange)?;
     demand(need_in_order(rows), ProblemFault::NeedsNotAscending)?;
     demand(gains_fit(rows), ProblemFault::GainTooLarge)?;
     demand(costs_fit(rows, costs), ProblemFault::CostTooLarge)
 }
 
-fn need_few(rows: &[LinkRow]) -> bool
-    ensures value { IsTrue result ↔ All (λ r. length r.needs ≤ most_needs) rows.now }
+fn need_few(rows: &[LinkRow], most: usize) -> bool
+    ensures value { IsTrue result ↔ All (λ r. length r.needs ≤ most) rows.now }
 {
-    rows.iter()
-        .all(|row| row.needs.as_slice().len() <= MOST_NEEDS)
+    rows.iter().all(|row| row.needs.as_slice().len() <= most)
 }
 
 fn need_known(rows: &[LinkRow], points: usize) -> bool

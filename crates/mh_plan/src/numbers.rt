@@ -5,7 +5,7 @@ ghost use Rattle.std.specs.List.{list_any};
 ghost use Rattle.std.specs.List.Sorted.{IsStrictlyIncreasing};
 ghost use Rattle.mh_network.specs.Problems.{IsProblem, needs_point};
 ghost use Rattle.mh_network.specs.Selection.{member};
-ghost use Rattle.mh_network.specs.Limits.{most_links};
+ghost use Rattle.mh_network.specs.Limits.{greatest_count};
 
 use mh_base::NoMemory;
 use mh_network::Problem;
@@ -14,7 +14,7 @@ use std::alloc::Global;
 /// These numbers in ascending order, each once. O(bound + numbers).
 pub(crate) fn ascending(alloc: Global, bound: usize, numbers: &[u32]) -> Result<Vec<u32>, NoMemory>
     requires inside { All (λ j. j < bound) numbers.now }
-    requires small { bound ≤ most_links }
+    requires small { bound ≤ greatest_count }
     ensures ascending { IfOk result (λ listed. IsStrictlyIncreasing listed.items) }
     ensures same { IfOk result (λ listed. (j : ℕ) → member listed.items j ≡ member numbers.now j) }
 {
@@ -38,7 +38,7 @@ fn mark(marks: &mut Vec<bool>, numbers: &[u32])
 
 /// The numbers that are marked.
 fn list_marked(alloc: Global, marks: &[bool]) -> Result<Vec<u32>, NoMemory>
-    requires small { length marks.now ≤ most_links }
+    requires small { length marks.now ≤ greatest_count }
     ensures ascending { IfOk result (λ listed. IsStrictlyIncreasing listed.items) }
     ensures same { IfOk result (λ listed. (j : ℕ) → member listed.items j
         ≡ slice_index_or marks.now j false) }

@@ -1,6 +1,6 @@
 //! What a worker does: it plans each part of its share in turn.
 
-ghost use Rattle.std.specs.Prelude.{◌<◌, ◌+◌, ◌^◌, length, IfOk};
+ghost use Rattle.std.specs.Prelude.{◌≡◌, ◌<◌, ◌+◌, ◌^◌, length, IfOk};
 ghost use Rattle.mh_network.specs.Parts.{AreParts, IsPartOf, part_problem};
 ghost use Rattle.mh_network.specs.Problems.{IsProblem};
 ghost use Rattle.mh_plan.specs.Shares.{IsShare};
@@ -28,11 +28,12 @@ pub(crate) fn plan_share<G: Gate>(
     ensures share { IfOk result (λ runs. IsShare problem.now parts.now workers worker runs) }
 {
     parts_join(problem);
+    let mut places = vec![in alloc; 0; problem.points()]?;
     let mut runs = Vec::new(alloc);
     let mut part = worker;
     while part < parts.len() {
         gate.enter(part);
-        let run = solve(alloc, problem, &parts[part]);
+        let run = solve(alloc, problem, &parts[part], &mut places);
         gate.leave(part);
         let run = run?;
         runs.push(run)?;
@@ -41,12 +42,20 @@ pub(crate) fn plan_share<G: Gate>(
     Ok(Listing::from_vec(runs))
 }
 
-/// A greatest flow of a part, by the part's numbers.
-fn solve(alloc: Global, problem: &Problem, part: &Part) -> Result<FlowRun, NoMemory>
+/// A greatest flow of a part, by the part's numbers. `places` has a number for each point of the
+/// problem, and is written over.
+fn solve(
+    alloc: Global,
+    problem: &Problem,
+    part: &Part,
+    places: &mut [u32],
+) -> Result<FlowRun, NoMemory>
     requires part { IsPartOf problem.now part.now }
+    requires room { length places.old ≡ length problem.now.costs }
+    ensures room { length places.new ≡ length places.old }
     ensures solved { IfOk result (λ run. IsSolved (part_problem problem.now part.now) run) }
 {
-    let problem = problem.part(alloc, part)?;
+    let problem = problem.part(alloc, part, places)?;
     let run = max_flow(alloc, &problem)?;
     Ok(run)
 }

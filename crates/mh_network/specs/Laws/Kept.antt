@@ -11,7 +11,7 @@ use Rattle.mh_network.specs.declared.link_row.LinkRow.{LinkRow}
 use Rattle.mh_network.specs.Sums.{sum_below}
 use Rattle.mh_network.specs.Laws.Members.{member_is}
 use Rattle.mh_base.specs.Tests.{Passes}
-use Rattle.mh_network.specs.Problems.{IsProblem, sum_of_gains, sum_of_costs, sum_of_charges, no_link, kept_gain, kept_row, problem_of, problem_tests}
+use Rattle.mh_network.specs.Problems.{IsProblem, sum_of_gains, sum_of_costs, sum_of_charges, no_link, kept_gain, kept_row, problem_of, limited_tests, problem_tests, large_tests}
 
 -- a sum by index is a sum over the list
 sum_below-take : {X : Type 0} (f : X → ℕ) (d : X) (xs : List X) (k : ℕ) → k ≤ length xs → sum_below k (λ j. f (slice_index_or xs j d)) ≡ sum_by f (take k xs)
@@ -50,12 +50,11 @@ each_link Q none [] h j = none
 each_link Q none (r ∷ rs) h zero = All-head (λ r. Q (kept_row r)) r rs h
 each_link Q none (r ∷ rs) h (suc j) = each_link Q none rs (All-tail (λ r. Q (kept_row r)) r rs h) j
 
--- rows and costs that pass the tests are a problem
-pub tested_problem : (rows : List LinkRow) (costs : List ℕ) → Passes (problem_tests rows costs) → IsProblem (problem_of rows costs)
-tested_problem rows costs h = record {
-  links = simp length-map h.0;
-  points = h.1.0;
-  few = each_link (λ r. length r.needs ≤ 8) (omega arith) rows h.1.1.0;
+-- rows and costs that pass the tests, under limits that are no greater than those of a large problem, are a problem
+pub limited_problem : (links points needs : ℕ) (rows : List LinkRow) (costs : List ℕ) → links ≤ 1048576 → points ≤ 1048576 → Passes (limited_tests links points needs rows costs) → IsProblem (problem_of rows costs)
+limited_problem links points needs rows costs few_links few_points h = record {
+  links = simp length-map (omega (arith, h.0, few_links));
+  points = omega (arith, h.1.0, few_points);
   in_range = each_link (λ r. (p : ℕ) → list_any (λ q. q == p) r.needs ≡ true → p < length costs) (λ p e. absurd (true≢false (sym e))) rows
       (λ k d l p e. member_is (λ q. q < length costs) (slice_index_or rows k d).needs (h.1.1.1.0 k d l) p e);
   ascending = each_link (λ r. IsStrictlyIncreasing r.needs) (λ k l. absurd (omega arith)) rows h.1.1.1.1.0;
@@ -63,3 +62,9 @@ tested_problem rows costs h = record {
   gains = h.1.1.1.1.1.0;
   costs = h.1.1.1.1.1.1.0;
 }
+
+pub tested_problem : (rows : List LinkRow) (costs : List ℕ) → Passes (problem_tests rows costs) → IsProblem (problem_of rows costs)
+tested_problem rows costs h = limited_problem 16384 4096 8 rows costs (omega arith) (omega arith) h
+
+pub large_problem : (rows : List LinkRow) (costs : List ℕ) → Passes (large_tests rows costs) → IsProblem (problem_of rows costs)
+large_problem rows costs h = limited_problem 1048576 1048576 1048576 rows costs (omega arith) (omega arith) h

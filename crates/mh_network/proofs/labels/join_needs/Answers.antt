@@ -1,11 +1,10 @@
-use Rattle.std.proofs.Common.{◌≡◌, ◌<◌, ◌≤◌, ◌+◌, ℕ, List, [], ◌∷◌, ◌++◌, length, arith, sym, subst, take, true, refl}
+use Rattle.std.proofs.Common.{◌≡◌, ◌<◌, ◌≤◌, ◌+◌, ◌∙◌, ℕ, List, [], ◌∷◌, ◌++◌, length, arith, sym, subst, take, true}
 use Rattle.std.specs.List.{slice_index_or}
 use Rattle.mh_network.specs.Selection.{member}
-use Rattle.mh_network.specs.Labels.{label_of, IsRelabelled}
+use Rattle.mh_network.specs.Labels.{IsRelabelled}
 use Rattle.mh_network.specs.Laws.Members.{member_is}
-use Rattle.mh_network.proofs.Labelling.{relabel_step, relabel_same, first_taken, member_take, taken_more}
+use Rattle.mh_network.proofs.Labelling.{relabel_either, first_taken, member_take, taken_more}
 use Rattle.mh_network.proofs.labels.join_needs.Goals as goal
-use Rattle.mh_network.proofs.labels.join_needs.Goals.{then-from-to, else-from-to}
 
 pub loop-at-preserved : goal.loop-at-preserved
 loop-at-preserved c =
@@ -14,16 +13,16 @@ loop-at-preserved c =
     let x : ℕ = slice_index_or needs c.loop-at.at 0 in
     let more : take (c.loop-at.at + 1) needs ≡ take c.loop-at.at needs ++ x ∷ [] = taken_more needs c.loop-at.at c.loop-at-test.true in
     let some : 1 ≤ length needs = omega (arith, c.loop-at-test.true) in
-    let in_first : first < length c.args.labels.now = c.requires.inside 0 0 some in
-    let in_x : x < length c.args.labels.now = c.requires.inside c.loop-at.at 0 c.loop-at-test.true in
     let done : member (take c.loop-at.at needs) first ≡ true = first_taken c.loop-at.at needs (omega (arith, c.loop-at.auto.at)) some in
-    let inside : (p : ℕ) → member (take c.loop-at.at needs) p ≡ true → p < length c.args.labels.now = λ p e.
-    member_is (λ q. q < length c.args.labels.now) needs c.requires.inside p (member_take c.loop-at.at needs p e) in
-    let step : IsRelabelled (take c.loop-at.at needs ++ x ∷ []) c.args.labels.now c.if-from-to.labels = elim c.if-from-to.branch [
-      | then-from-to w ↦
-          rw w.labels-is (relabel_step (take c.loop-at.at needs) c.args.labels.now c.loop-at.labels w.relabel.new.labels first x c.loop-at.invariant done in_first in_x w.relabel.ensures.count w.relabel.ensures.value inside)
-      | else-from-to w ↦
-          rw w.labels-is (relabel_step (take c.loop-at.at needs) c.args.labels.now c.loop-at.labels c.loop-at.labels first x c.loop-at.invariant done in_first in_x refl
-          (λ p l. relabel_same (label_of c.loop-at.labels x) (label_of c.loop-at.labels first) (label_of c.loop-at.labels p) w.if-from-to.false) inside)
-    ] in
-    subst (λ (ns : List ℕ). IsRelabelled ns c.args.labels.now c.if-from-to.labels) (sym more) step
+    record {
+      down = c.join.ensures.down;
+      count = c.join.ensures.count ∙ c.loop-at.invariant.count;
+      value = λ labels leads.
+          let old = c.loop-at.invariant.value labels leads in
+          let below : (p : ℕ) → p < length c.args.table.now → p < length labels = λ p l. omega (arith, l, leads.count) in
+          let inside : (p : ℕ) → member (take c.loop-at.at needs) p ≡ true → p < length labels = λ p e.
+          below p (member_is (λ q. q < length c.args.table.now) needs c.requires.inside p (member_take c.loop-at.at needs p e)) in
+          let next = relabel_either (take c.loop-at.at needs) labels old.0 c.join.new.table first x old.2 done (below first (c.requires.inside 0 0 some)) (below x (c.requires.inside c.loop-at.at 0 c.loop-at-test.true)) inside
+          (c.join.ensures.value old.0 old.1) in
+          (next.0, next.1, subst (λ (ns : List ℕ). IsRelabelled ns labels next.0) (sym more) next.2);
+    }

@@ -1,5 +1,6 @@
-use Rattle.std.proofs.Common.{◌≡◌, ◌+◌, ◌*◌, ◌∙◌, sym, ap, subst, arith, length, length-append}
-use Rattle.std.proofs.lemmas.List.{get_or_default}
+use Rattle.std.proofs.Common.{◌≡◌, ◌+◌, ◌*◌, ◌∙◌, ℕ, List, sym, ap, subst, arith, length, length-append}
+use Rattle.std.specs.Vec.{with_items}
+use Rattle.std.proofs.lemmas.List.{get_or_default, with_items_is}
 use Rattle.mh_network.specs.declared.part.Part.{Part}
 use Rattle.mh_network.specs.Parts.{IsPartOf, no_part, part_at, part_problem}
 use Rattle.mh_plan.specs.Solved.{IsSolved}
@@ -9,7 +10,10 @@ use Rattle.mh_plan.proofs.worker.plan_share.Goals as goal
 pub solve-run-requires : goal.solve-run-requires
 solve-run-requires g c =
     let same : part_at c.args.parts.now c.loop-part.part ≡ c.index-parts-part.result = get_or_default c.args.parts.now c.loop-part.part no_part _ c.loop-part-test.true ∙ sym c.index-parts-part.is in
-    record { part = subst (λ (part : Part). IsPartOf c.args.problem.now part) same ((c.parts_join.ensures.alone c.args.parts.now c.requires.parts).part c.loop-part.part) }
+    record {
+      part = subst (λ (part : Part). IsPartOf c.args.problem.now part) same ((c.parts_join.ensures.alone c.args.parts.now c.requires.parts).part c.loop-part.part);
+      room = ap (λ (xs : List ℕ). length xs) c.deref_mut.ensures.value ∙ c.loop-part.invariant.room;
+    }
 
 pub loop-part-preserved : goal.loop-part-preserved
 loop-part-preserved g c =
@@ -19,7 +23,10 @@ loop-part-preserved g c =
     let more = c.in_ok-push.ensures.items in
     let count : length c.push.new.self.items ≡ length c.loop-part.runs.items + 1 = ap length more ∙ length-append c.loop-part.runs.items _ in
     let product : length c.push.new.self.items * c.args.workers ≡ (length c.loop-part.runs.items + 1) * c.args.workers = ap (λ n. n * c.args.workers) count in
+    let kept : length c.solve-run.new.places ≡ length c.loop-part.places.items = c.solve-run.ensures.room ∙ ap (λ (xs : List ℕ). length xs) c.deref_mut.ensures.value in
+    let same_places : (with_items c.loop-part.places c.solve-run.new.places).items ≡ c.solve-run.new.places = with_items_is c.loop-part.places c.solve-run.new.places (kept ∙ sym c.loop-part.places.ok.0) in
     record {
+      room = ap (λ (xs : List ℕ). length xs) same_places ∙ (kept ∙ c.loop-part.invariant.room);
       place = omega (arith, product, c.loop-part.invariant.place);
       solved = share_more _ _ _ _ _ _ _ _ more c.loop-part.invariant.place c.loop-part.invariant.solved solved;
     }

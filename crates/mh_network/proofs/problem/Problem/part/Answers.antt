@@ -3,13 +3,13 @@ use Rattle.mh_network.specs.Laws.Members.{all_members}
 use Rattle.mh_network.proofs.Parted.{ascending_few, part_is_problem}
 use Rattle.mh_network.proofs.problem.Problem.part.Goals as goal
 
-pub places-requires-clause-inside : goal.places-requires-clause-inside
-places-requires-clause-inside c =
-    rw (c.as_slice.ensures.value, c.points.ensures.count)
+pub set_places-requires-clause-inside : goal.set_places-requires-clause-inside
+set_places-requires-clause-inside c =
+    rw (c.as_slice.ensures.value, c.requires.room)
     (all_members (λ p. p < length c.args.self.now.costs) c.args.part.now.points c.requires.part.points_in)
 
-pub places-requires-clause-few : goal.places-requires-clause-few
-places-requires-clause-few c =
+pub set_places-requires-clause-few : goal.set_places-requires-clause-few
+set_places-requires-clause-few c =
     rw c.as_slice.ensures.value
     (let few = ascending_few c.args.part.now.points (length c.args.self.now.costs) c.requires.part.points c.requires.part.points_in in
     omega (arith, few, c.points.ensures.problem.points))

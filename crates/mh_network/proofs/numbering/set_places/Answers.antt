@@ -3,15 +3,15 @@ use Rattle.std.proofs.Math.ListN.{length-set}
 use Rattle.std.proofs.lemmas.Bool.{cases_lt}
 use Rattle.std.proofs.lemmas.List.Kept.{AllPairs-from_increasing}
 use Rattle.mh_network.proofs.Renumbering.{num, place_in}
-use Rattle.mh_network.proofs.numbering.places.Goals as goal
+use Rattle.mh_network.proofs.numbering.set_places.Goals as goal
 
 pub loop-at-preserved : goal.loop-at-preserved
 loop-at-preserved c =
     let at : ℕ = c.loop-at.at in
     let here : ℕ = num c.args.points.now at in
-    let within : here < length c.loop-at.places.items = omega (arith, c.requires.inside at 0 (omega arith), c.loop-at.invariant.count) in
+    let within : here < length c.loop-at.places = omega (arith, c.requires.inside at 0 (omega arith), c.loop-at.invariant.count) in
     record {
-      count = length-set c.loop-at.places.items here at ∙ c.loop-at.invariant.count;
+      count = length-set c.loop-at.places here at ∙ c.loop-at.invariant.count;
       value = λ i l. elim (cases_lt i at) [
         | inl below ↦
             let rising = AllPairs-from_increasing c.args.points.now c.requires.ascending i at 0 below (omega arith) in
@@ -23,12 +23,11 @@ loop-at-preserved c =
       ];
     }
 
-pub returns : goal.returns
-returns c = record {
-  value = record {
-    count = c.loop-at.invariant.count;
-    value = λ p e.
-        let there = place_in c.args.points.now p e in
-        sym (ap (λ (q : ℕ). get_or c.loop-at.places.items q 0) there.1) ∙ c.loop-at.invariant.value _ (omega (arith, there.0));
-  };
-}
+pub returns-clause-value : goal.returns-clause-value
+returns-clause-value c =
+    record {
+      count = c.loop-at.invariant.count;
+      value = λ p e.
+          let there = place_in c.args.points.now p e in
+          sym (ap (λ (q : ℕ). get_or c.loop-at.places q 0) there.1) ∙ c.loop-at.invariant.value _ (omega (arith, there.0));
+    }

@@ -1,8 +1,0 @@
-use Rattle.std.proofs.Common.{◌≡◌, ◌<◌, ℕ, length, get_or}
-use Rattle.mh_network.proofs.numbering.places.Given as goal
-
-abbrev pub invariant-loop-at : goal.invariant-loop-at
-invariant-loop-at l = record {
-  count : length l.places.items ≡ l.count;
-  value : (i : ℕ) → i < l.at → get_or l.places.items (get_or l.points i 0) 0 ≡ i;
-}

@@ -1,0 +1,71 @@
+//! What the program reads.
+
+ghost use Rattle.std.specs.Prelude.{◌≡◌, All, IfOk, length, map, true};
+
+use crate::numbers::Numbers;
+use mh_network::{LinkRow, Listing, Problem};
+use std::alloc::Global;
+
+/// What is to be made of which problem, and how often.
+#[derive(Drop)]
+pub(crate) struct Input {
+    pub(crate) kind: u64,
+    pub(crate) rounds: u64,
+    pub(crate) problem: Problem,
+}
+
+impl Input {
+    /// Reads the kind, the rounds, the numbers of links and of points, the gains, the charges, the costs, and
+    /// for each link the number of its needs and the needs, ascending.
+    pub(crate) fn read(alloc: Global, text: &str) -> anyhow::Result<Input> {
+        let mut numbers = Numbers::of(text);
+        let kind = numbers.next()?;
+        let rounds = numbers.next()?;
+        let links = numbers.next()?;
+        let points = numbers.next()?;
+        let gains = numbers.list(alloc, links)?;
+        let charges = numbers.list(alloc, links)?;
+        let costs = numbers.list(alloc, points)?;
+        let rows = rows(alloc, &mut numbers, &gains, &charges)?;
+        let problem = Problem::large(rows, costs)?;
+        Ok(Input {
+            kind,
+            rounds,
+            problem,
+        })
+    }
+}
+
+/// A link for each gain and charge, which may be chosen, with the needs that come next.
+fn rows(
+    alloc: Global,
+    numbers: &mut Numbers<'_>,
+    gains: &[u64],
+    charges: &[u64],
+) -> anyhow::Result<Vec<LinkRow>>
+    requires same { length gains.now ≡ length charges.now }
+    ensures charges { IfOk result (λ rows. map (λ r. r.charge) rows.items ≡ charges.now) }
+    ensures gains { IfOk result (λ rows. map (λ r. r.gain) rows.items ≡ gains.now) }
+    ensures eligible { IfOk result (λ rows. All (λ r. r.eligible ≡ true) rows.items) }
+{
+    let mut rows = Vec::new(alloc);
+    for link in 0..gains.len() {
+        rows.push(LinkRow {
+            gain: gains[link],
+            eligible: true,
+            needs: needs(alloc, numbers)?,
+            charge: charges[link],
+        })?;
+    }
+    Ok(rows)
+}
+
+/// The needs of a link, after their number.
+fn needs(alloc: Global, numbers: &mut Numbers<'_>) -> anyhow::Result<Listing<u32>> {
+    let count = numbers.next()?;
+    let mut needs = Vec::new(alloc);
+    for _ in 0..count {
+        needs.push(u32::try_from(numbers.next()?)?)?;
+    }
+    Ok(Listing::from_vec(needs))
+}
