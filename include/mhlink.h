@@ -1,12 +1,18 @@
 /* mhlink.h: a runtime for dynamic calls after java.lang.invoke, proved, for C and for every VM.
 
-   Nothing checks a C caller. It passes a struct that mhlink_open filled, to one call at a time, and to none after
-   mhlink_close or from a signal handler; pointers that lead to as much as the lengths beside them say, and to nothing that
-   another argument leads to; no null pointer, but for a buffer or an array whose length is 0.
+   Nothing checks a C caller. It passes a struct that mhlink_open filled, to one call at a time, from the thread that opened
+   it, and to none after mhlink_close or from a signal handler; pointers that lead to as much as the lengths beside them
+   say, and to nothing that another argument leads to; no null pointer, but for a buffer or an array whose length is 0.
 
    Every answer but a version is a status: MHLINK_OK, or what is wrong. After any other status than MHLINK_OK the machine is
    as before, and no number is written but a length, a count or a part. Sites, points, links, snapshots and plans have
-   numbers: the first three from 0 in the order of the definition, links through all sites; the last two from 1. */
+   numbers: the first three from 0 in the order of the definition, links through all sites; the last two from 1.
+
+   A history ends: after 1,024 snapshots or plans, or as many records as its limit allows, changes are refused with
+   MHLINK_HISTORY_FULL, and the machine is opened anew. After an invalidation or a retargeting that was refused the sites
+   that it concerns answer as before, so a host that relies on the change makes no call of them. Each flush, retargeting and
+   snapshot keeps some memory until mhlink_close. docs/EMBEDDING.md, "From C", has the figures, and how a site dispatches to
+   methods of the host. */
 #ifndef MHLINK_H
 #define MHLINK_H
 

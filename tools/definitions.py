@@ -1,7 +1,7 @@
 """Which definitions of specs/ a reader of clauses has to read: those that the clauses and what their functions require cite, those
 that these cite, and the views by which contracts see the types that they speak of. `tools/check_believe` and
 `tools/read_promise` ask it. Lines are those of definitions, with the comments that stand on them, without imports. What the kit
-defines is left out."""
+defines is left out. A declaration of a kind that is not known here ends the program, so that none is left out unseen."""
 import re, sys
 from dataclasses import dataclass
 from functools import cache
@@ -10,8 +10,11 @@ from pathlib import Path
 ROOT = Path(__file__).resolve().parent.parent
 USES = {line.split(":")[0].split()[0]: line.split(":")[1].split()
         for line in (ROOT / "crates.txt").read_text(encoding="utf-8").splitlines() if ":" in line and line[0] != "#"}
-BLOCK = re.compile(r"(?:abbrev|pub|module|mutual|infix[lr]?)\b")
-HEAD = re.compile(r"(?:abbrev |pub |record |data )+([^\s:(){}]+)")
+IMPORT = re.compile(r"(?:pub )?(?:use|mod) ")
+BLOCK = re.compile(r"(?:abbrev|unfoldable|pub|module|mutual|infix[lr]?)\b")
+INNER = re.compile(r"  (?:abbrev |unfoldable )?pub ")
+WORDS_OF_HEAD = r"(?:abbrev |unfoldable |pub |record |data )"
+HEAD = re.compile(WORDS_OF_HEAD + r"+([^\s:(){}]+)")
 WORD = re.compile(r"[^\s(){}\[\],;]+")
 TYPE = re.compile(r"\b[A-Z]\w*")
 
@@ -28,9 +31,18 @@ class Spec:
                 self.imports.update(renamed(found[1], found[2]))
             elif found := re.match(r"use (\S+) as (\S+)$", line):
                 self.modules[found[2]] = found[1]
-        heads = [at for at, line in enumerate(self.lines) if BLOCK.match(line)]
+        heads = [at for at, line in enumerate(self.lines) if BLOCK.match(line) and not IMPORT.match(line)]
         for at, after in zip(heads, heads[1:] + [len(self.lines)]):
             self.read_block(at, self.above(after) if after < len(self.lines) else after)
+        self.refuse_unknown()
+
+    def refuse_unknown(self):
+        """Ends the program at a line that begins a declaration of a kind that is not known."""
+        for at, line in enumerate(self.lines):
+            declared = re.match(r"( *)([a-z]+) (?:[a-z]+ )*pub ", line) or re.match(r"()([a-z]+) [^=:]+? : ", line)
+            known = declared and (declared[2] in self.units or BLOCK.match(line.strip()) or IMPORT.match(line))
+            if declared and not known:
+                sys.exit(f"{self.path.relative_to(ROOT)}:{at + 1}: a declaration of a kind that is not known: {declared[2]}")
 
     def above(self, at):
         """Where the comments that stand on a line begin."""
@@ -41,7 +53,7 @@ class Spec:
     def read_block(self, at, end):
         """Reads the definitions of a block that begins at column 0: one, those of a module, or some that call each other."""
         head = self.lines[at]
-        inner = [it for it in range(at + 1, end) if re.match(r"  (abbrev )?pub ", self.lines[it])]
+        inner = [it for it in range(at + 1, end) if INNER.match(self.lines[it])]
         if head.startswith("module"):
             for it, after in zip(inner, inner[1:] + [end]):
                 self.add(HEAD.match(self.lines[it].strip())[1], [at], self.above(it), self.above(after) if after < end else end)
