@@ -24,7 +24,7 @@ pub record IsFirst (rows : List NeedRow) (gain_left : List ℕ) (links points : 
   pub start : links (row_at rows first).link ≡ 1
   pub some : 0 < number_at gain_left (row_at rows first).link
 
--- a path from the source to point p, told from p on: turns, and the row over which it begins. Each edge has room
+-- a path from the source to point p, kept from p on: turns, and the row over which it begins. Each edge has room
 -- and leads from one level to the next.
 abbrev pub IsPath : List NeedRow → List ℕ → (ℕ → ℕ) → (ℕ → ℕ) → ℕ → List Turn → ℕ → Type 0
 IsPath rows gain_left links points p [] first = IsFirst rows gain_left links points p first

@@ -7,7 +7,7 @@ ghost use Rattle.mh_flow.specs.Chains.{IsChained};
 use mh_base::NoMemory;
 use std::alloc::Global;
 
-/// For each key its places, from the last to the first. A place is told as one more than its
+/// For each key its places, from the last to the first. A place is kept as one more than its
 /// number, and 0 is none.
 #[derive(Drop)]
 pub(crate) struct Chain {

@@ -14,7 +14,7 @@ use std::alloc::Global;
 /// best links (Picard 1976). The rows are positive amounts by link and then point, the charges
 /// positive amounts by link. At most two phases more than there are links and points.
 ///
-/// Refused only where a growth was refused.
+/// Fails only if an allocation is refused.
 pub fn max_flow(alloc: Global, problem: &Problem) -> Result<FlowRun, NoMemory>
     ensures flow { IfOk result (λ run. IsFlow problem.now run.rows run.charges) }
     ensures positive { IfOk result (λ run. All (λ r. 0 < r.2) run.rows) }

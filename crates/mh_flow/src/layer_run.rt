@@ -6,7 +6,7 @@ ghost use Rattle.mh_network.specs.Selection.{member};
 ghost use Rattle.mh_flow.specs.Carried.{carried, number_at};
 ghost use Rattle.mh_flow.specs.Charged.{paid_charges, paid_of};
 ghost use Rattle.mh_flow.specs.Distances.{AreDistances};
-ghost use Rattle.mh_flow.specs.LayerData.{IsLayerRun, IsSameFlow, IsEnd, IsPathPushed, IsSinkLevel};
+ghost use Rattle.mh_flow.specs.LayerData.{HasNoLevels, IsLayerRun, IsSameFlow, IsEnd, IsPathPushed, IsSinkLevel};
 ghost use Rattle.mh_flow.specs.Layers.{IsPath, room};
 ghost use Rattle.mh_flow.specs.Levels.{far, IsLower};
 ghost use Rattle.mh_flow.specs.Run.{IsLayered, is_reached, positive_rows};
@@ -117,6 +117,7 @@ impl<'p> LayerRun<'p> {
     /// level built.
     pub fn new(alloc: Global, problem: &'p Problem) -> Result<LayerRun<'p>, NoMemory>
         ensures problem { IfOk result (λ run. run.problem ≡ problem.now) }
+        ensures levels { IfOk result HasNoLevels }
         ensures phases { IfOk result (λ run. run.phases ≡ 0) }
         ensures idle { IfOk result (λ run. carried run.rows ≡ 0) }
         ensures paid { IfOk result (λ run. (j : ℕ) → j < length run.gain_left
@@ -259,7 +260,7 @@ impl<'p> LayerRun<'p> {
         }
     }
 
-    /// Finds a path to the path's point, or tells that none is left.
+    /// Finds a path to the path's point; false where none is left.
     pub(crate) fn search(&self, places: &mut Places, path: &mut Path) -> Result<bool, NoMemory>
         requires phase { IsPhase self.now.rows self.now.gain_left self.now.links self.now.points }
         requires spent { IsSpent self.now.rows self.now.gain_left self.now.links self.now.points

@@ -1,4 +1,4 @@
-//! Paths from the source to the sink, told from their end.
+//! Paths from the source to the sink, kept from their end.
 
 /// Forth over one row of a link to a point, and back over another row of that link.
 #[derive(Clone, Copy, Debug)]

@@ -23,7 +23,7 @@ CutsAreLeast P = (rows : List Row) → (charges : List Charge) → IsFlow P rows
     ((links points : ℕ → Bool) → IsClosed P rows charges links points → (j : ℕ) → S j ≡ true → links j ≡ true) →
     (worth P S +ℤ pos (value_of rows charges) ≡ pos (sum_of_gains P)) × IsLeast P S
 
--- where links and a flow are worth all gains, a link that is left out spends its whole gain, on its charge and on points
+-- where links and a flow are worth all gains, a link that is left out spends its whole gain on its charge and on points
 abbrev pub LeftSpendAll : ProblemData → Type 0
 LeftSpendAll P = (rows : List Row) → (charges : List Charge) → IsFlow P rows charges → (S : ℕ → Bool) → worth P S +ℤ pos (value_of rows charges) ≡ pos (sum_of_gains P) →
     (j : ℕ) → S j ≡ false → from_link rows j + into_charge charges j ≡ gain_of P j

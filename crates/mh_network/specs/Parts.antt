@@ -60,7 +60,7 @@ abbrev pub place_of : List ℕ → ℕ → ℕ
 place_of [] p = 0
 place_of (x ∷ xs) p = cond (x == p) 0 (suc (place_of xs p))
 
--- a table that tells for each point of a list where it stands
+-- a table with the place of each point of a list in that list
 pub record ArePlaces (points : List ℕ) (bound : ℕ) (places : List ℕ) : Type 0 where
   pub count : length places ≡ bound
   pub value : (p : ℕ) → member points p ≡ true → slice_index_or places p 0 ≡ place_of points p

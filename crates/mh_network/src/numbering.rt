@@ -15,15 +15,15 @@ use std::alloc::Global;
 
 impl Problem {
     /// A part as a problem of its own: its links and points get the numbers from 0 on, in their
-    /// order. It writes into `places`, which has a number for each point of the problem, so that
-    /// one such table serves for all parts. O(links, needs and points of the part).
+    /// order. `places` is working memory, a number for each point of the problem: what it holds
+    /// does not matter, and one serves all parts. O(links, needs and points of the part).
     pub fn part(&self, alloc: Global, part: &Part, places: &mut [u32]) -> Result<Problem, NoMemory>
         requires part { IsPartOf self.now part.now }
         requires room { length places.old ≡ length self.now.costs }
         ensures room { length places.new ≡ length places.old }
         ensures value { IfOk result (λ p. p ≡ part_problem self.now part.now) }
     {
-        // What it ensures says that this is a problem.
+        // Its contract says that this is a problem, which the proof needs.
         let _ = self.points();
         set_places(places, part.points.as_slice());
         let rows = part_rows(alloc, self, part, places)?;
@@ -32,7 +32,7 @@ impl Problem {
     }
 }
 
-// Writes for each of these points where it stands among them.
+// Writes the place of each of these points among them.
 fn set_places(places: &mut [u32], points: &[u32])
     requires inside { All (λ p. p < length places.old) points.now }
     requires ascending { IsStrictlyIncreasing points.now }

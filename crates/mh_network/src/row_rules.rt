@@ -20,15 +20,16 @@ pub const MOST_POINTS: usize = 4096;
 /// The most needs of a link of a problem that `Problem::new` makes.
 pub const MOST_NEEDS: usize = 8;
 
-/// The most links, points, and needs of a link, of a problem that `Problem::large` makes.
+/// The most links, the most points, and the most needs of a link, of a problem that
+/// `Problem::large` makes.
 pub const GREATEST_COUNT: usize = 1048576;
 
 /// The greatest sum of gains, and of costs and charges.
 pub const GREATEST_SUM: u64 = 1 << 62;
 
-/// How many links, points, and needs of a link may be.
+/// The most links, the most points, and the most needs of a link.
 #[derive(Drop)]
-pub(crate) struct Most {
+pub(crate) struct Limits {
     pub(crate) links: usize,
     pub(crate) points: usize,
     pub(crate) needs: usize,
@@ -36,14 +37,16 @@ pub(crate) struct Most {
 
 // All tests, in order.
 #[tactic(auto, using(crate::specs::Laws::Kept::kept_gains, crate::specs::Laws::Kept::kept_costs, crate::specs::Laws::Kept::kept_charges))]
-pub(crate) fn test(rows: &[LinkRow], costs: &[u64], most: &Most) -> Result<(), ProblemFault>
+pub(crate) fn test(rows: &[LinkRow], costs: &[u64], limits: &Limits) -> Result<(), ProblemFault>
     ensures value { MatchResult result
-        (λ _. Passes (limited_tests most.now.links most.now.points most.now.needs rows.now costs.now))
-        (λ e. Refuses (limited_tests most.now.links most.now.points most.now.needs rows.now costs.now) e) }
+        (λ _. Passes (limited_tests limits.now.links limits.now.points limits.now.needs
+        rows.now costs.now))
+        (λ e. Refuses (limited_tests limits.now.links limits.now.points limits.now.needs
+        rows.now costs.now) e) }
 {
-    demand(rows.len() <= most.links, ProblemFault::TooManyLinks)?;
-    demand(costs.len() <= most.points, ProblemFault::TooManyPoints)?;
-    demand(need_few(rows, most.needs), ProblemFault::TooManyNeeds)?;
+    demand(rows.len() <= limits.links, ProblemFault::TooManyLinks)?;
+    demand(costs.len() <= limits.points, ProblemFault::TooManyPoints)?;
+    demand(need_few(rows, limits.needs), ProblemFault::TooManyNeeds)?;
     demand(need_known(rows, costs.len()), ProblemFault::NeedOutOfRange)?;
     demand(need_in_order(rows), ProblemFault::NeedsNotAscending)?;
     demand(gains_fit(rows), ProblemFault::GainTooLarge)?;

@@ -1,12 +1,12 @@
-//! What is told of the work as it goes on.
+//! Reports of the work as it goes on.
 
-/// Is told when the planning of a part begins and ends, by the worker that plans it. Parts are
-/// counted from 0, in the order of `Problem::parts`.
+/// Called by the worker that plans a part when it begins and when it ends. Parts are counted from 0,
+/// in the order of `Problem::parts`.
 pub trait Gate: Sync {
     /// The planning of a part begins.
     fn enter(&self, part: usize);
 
-    /// The planning of a part is over, whether it found memory or not.
+    /// The planning of a part is over, also if it ran out of memory.
     fn leave(&self, part: usize);
 }
 

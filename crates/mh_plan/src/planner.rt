@@ -25,10 +25,10 @@ use std::thread::Threads;
 
 /// The best plan of a problem with the fewest links, and a flow that shows that no links are worth
 /// more. It does not depend on the number of workers, from 1 to 64: worker k plans the parts k,
-/// k + workers and so on, each worker in a thread of its own where one can be started, and tells
-/// `gate` when it begins and ends a part.
+/// k + workers and so on, each worker in a thread of its own where one can be started, and
+/// reports to `gate` when it begins and ends a part.
 ///
-/// Refused only where a growth was refused.
+/// Fails only if an allocation is refused.
 pub fn plan<R: Threads + Sync, G: Gate>(
     rt: &R,
     alloc: Global,
@@ -48,7 +48,7 @@ pub fn plan<R: Threads + Sync, G: Gate>(
 /// The plan that `plan` gives, and for each part, in the order of `Problem::parts`, how many phases
 /// its flow took: at least 1, and at most 2 more than it has links and points.
 ///
-/// Refused only where a growth was refused.
+/// Fails only if an allocation is refused.
 pub fn plan_counted<R: Threads + Sync, G: Gate>(
     rt: &R,
     alloc: Global,
@@ -73,7 +73,7 @@ pub fn plan_counted<R: Threads + Sync, G: Gate>(
 /// The plan that `plan` gives, made on the thread of the caller: it starts no thread, and needs no
 /// runtime that could.
 ///
-/// Refused only where a growth was refused.
+/// Fails only if an allocation is refused.
 pub fn plan_alone(alloc: Global, problem: &Problem) -> Result<Plan, NoMemory>
     ensures matching { IfOk result (λ plan. Matches problem.now plan) }
     ensures least { IfOk result (λ plan. IsLeast problem.now (member plan.links)) }

@@ -42,8 +42,8 @@ pub(crate) fn plan_share<G: Gate>(
     Ok(Listing::from_vec(runs))
 }
 
-/// A greatest flow of a part, by the part's numbers. `places` has a number for each point of the
-/// problem, and is written over.
+/// A greatest flow of a part, by the part's numbers. `places` is working memory, a number for each
+/// point of the problem.
 fn solve(
     alloc: Global,
     problem: &Problem,

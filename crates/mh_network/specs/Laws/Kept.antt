@@ -10,6 +10,7 @@ use Rattle.std.proofs.lemmas.Bool.{cond-false, true≢false}
 use Rattle.mh_network.specs.declared.link_row.LinkRow.{LinkRow}
 use Rattle.mh_network.specs.Sums.{sum_below}
 use Rattle.mh_network.specs.Laws.Members.{member_is}
+use Rattle.mh_network.specs.Limits.{most_links, most_points, most_needs, greatest_count}
 use Rattle.mh_base.specs.Tests.{Passes}
 use Rattle.mh_network.specs.Problems.{IsProblem, sum_of_gains, sum_of_costs, sum_of_charges, no_link, kept_gain, kept_row, problem_of, limited_tests, problem_tests, large_tests}
 
@@ -50,8 +51,8 @@ each_link Q none [] h j = none
 each_link Q none (r ∷ rs) h zero = All-head (λ r. Q (kept_row r)) r rs h
 each_link Q none (r ∷ rs) h (suc j) = each_link Q none rs (All-tail (λ r. Q (kept_row r)) r rs h) j
 
--- rows and costs that pass the tests, under limits that are no greater than those of a large problem, are a problem
-pub limited_problem : (links points needs : ℕ) (rows : List LinkRow) (costs : List ℕ) → links ≤ 1048576 → points ≤ 1048576 → Passes (limited_tests links points needs rows costs) → IsProblem (problem_of rows costs)
+-- rows and costs that pass the tests make a problem, whatever the limits, where no more links and points may be than any problem has
+pub limited_problem : (links points needs : ℕ) (rows : List LinkRow) (costs : List ℕ) → links ≤ greatest_count → points ≤ greatest_count → Passes (limited_tests links points needs rows costs) → IsProblem (problem_of rows costs)
 limited_problem links points needs rows costs few_links few_points h = record {
   links = simp length-map (omega (arith, h.0, few_links));
   points = omega (arith, h.1.0, few_points);
@@ -64,7 +65,7 @@ limited_problem links points needs rows costs few_links few_points h = record {
 }
 
 pub tested_problem : (rows : List LinkRow) (costs : List ℕ) → Passes (problem_tests rows costs) → IsProblem (problem_of rows costs)
-tested_problem rows costs h = limited_problem 16384 4096 8 rows costs (omega arith) (omega arith) h
+tested_problem rows costs h = limited_problem most_links most_points most_needs rows costs (omega arith) (omega arith) h
 
 pub large_problem : (rows : List LinkRow) (costs : List ℕ) → Passes (large_tests rows costs) → IsProblem (problem_of rows costs)
-large_problem rows costs h = limited_problem 1048576 1048576 1048576 rows costs (omega arith) (omega arith) h
+large_problem rows costs h = limited_problem greatest_count greatest_count greatest_count rows costs (omega arith) (omega arith) h

@@ -1,4 +1,4 @@
-use Rattle.std.proofs.Common.{◌∙◌, ap, ℕ}
+use Rattle.std.proofs.Common.{◌∙◌, ap, refl, ℕ}
 use Rattle.std.specs.Prelude.{replicate}
 use Rattle.mh_flow.specs.Levels.{far}
 use Rattle.mh_flow.proofs.Running.{links_inside, points_inside, begun}
@@ -25,3 +25,10 @@ returns-clause-kept c =
 
 pub returns-clause-idle : goal.returns-clause-idle
 returns-clause-idle c = begun-idle c.args.problem.now c.in_ok-rows.rows.items c.in_ok-rows.ensures
+
+pub returns-clause-levels : goal.returns-clause-levels
+returns-clause-levels c = record {
+  links = c.in_ok-links.ensures.value ∙ ap (λ (n : ℕ). replicate n far) c.links-2.ensures.count;
+  points = c.in_ok-points.ensures.value ∙ ap (λ (n : ℕ). replicate n far) c.points-2.ensures.count;
+  sink = refl;
+}
