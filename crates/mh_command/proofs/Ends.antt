@@ -86,8 +86,8 @@ stream_failed A B NoReader three end = absurd (omega (arith, three))
 
 -- what was left written stands after a flush, which keeps it
 module _ (old mid new : Option (List ℕ)) (kept : Keeps mid new) where
-  ends_kept : (m : MachineState) (steps : List Step) (n : ℕ) → output.EndsIn m steps n old mid → output.EndsIn m steps n old new
-  ends_kept m steps n (replies, reply, last, front, rest, count, left, run, line, written) =
+  ends_kept : (m : MachineState) (steps : List Step) (e : Fault) → output.EndsIn m steps e old mid → output.EndsIn m steps e old new
+  ends_kept m steps e (replies, reply, last, front, rest, count, left, run, line, written) =
       (replies, reply, last, front, rest, count, left, run, line, Appends-kept old mid new (lines_of m.setting.definition replies ++ front) written kept)
 
   report_kept : (options : RunOptions) (m : MachineState) (before : Option (List ℕ)) (B : Type 0) (e : Fault)

@@ -99,9 +99,9 @@ module _ (options : RunOptions) (script : Script) (machine : MachineState) (step
       (replies, last.history, run, report_behind options.report (first script).setting last (lines_of script.definition replies) o p q setting lines report)
 
   -- a run that ended in the line of a step ended early
-  pub early_in_line : (old new : Option (List ℕ)) (WriteHasFailed : Type 0) (e : Fault) → IsEnd WriteHasFailed e.kind → EndsIn machine steps e.at old new → EndsEarly options script old new WriteHasFailed e
+  pub early_in_line : (old new : Option (List ℕ)) (WriteHasFailed : Type 0) (e : Fault) → IsEnd WriteHasFailed e.kind → EndsIn machine steps e old new → EndsEarly options script old new WriteHasFailed e
   early_in_line old new WriteHasFailed e kind ends =
-      inr (inl (kind, subst (λ (m : MachineState). EndsIn m script.steps e.at old new) opened (subst (λ (ss : List Step). EndsIn machine ss e.at old new) same ends)))
+      inr (inl (kind, subst (λ (m : MachineState). EndsIn m script.steps e old new) opened (subst (λ (ss : List Step). EndsIn machine ss e old new) same ends)))
 
   -- and so did one that ended in its report
   pub early_in_report : {X : Type 0} (r : Result X Fault) (last : MachineState) (o p q : Option (List ℕ)) (before between after : ℕ) → between ≡ before → RunsTo machine steps last o p

@@ -6,6 +6,9 @@ use Rattle.mh_text.specs.declared.fault.Fault.{Fault}
 use Rattle.mh_text.specs.declared.fault.TextFault.{TextFault}
 use Rattle.mh_text.specs.declared.fault.TextFault.TheVariants as fault
 use Rattle.mh_core.specs.declared.event.Event.{Event}
+use Rattle.mh_core.specs.declared.refusal.Refusal.TheVariants.{NoMemory}
+use Rattle.mh_core.specs.declared.reply.Reply.{Reply}
+use Rattle.mh_core.specs.declared.reply.Reply.TheVariants.{Refused}
 use Rattle.mh_text.specs.declared.json.script.Script.{Script}
 use Rattle.mh_text.specs.declared.json.step.Step.{Step}
 use Rattle.mh_text.specs.declared.streams.run.RunOptions.{RunOptions}
@@ -48,13 +51,17 @@ abbrev pub RunsTo : MachineState → List Step → MachineState → Option (List
 RunsTo first steps last old new =
     (replies : List Told) × Run first.setting first.history steps replies last.history × (last.setting ≡ first.setting) × Appends old new (lines_of first.setting.definition replies)
 
--- The run ended in step n: the lines of the steps before it were appended, and a beginning of its own line, of which bytes are
--- left. So where the writer fails at the end of a line, n is the next step.
-abbrev pub EndsIn : MachineState → List Step → ℕ → Option (List ℕ) → Option (List ℕ) → Type 0
-EndsIn first steps n old new =
+-- memory ends a run in no line of an event that was itself refused for memory: that line takes none
+abbrev pub MayEnd : TextFault → Reply → Type 0
+MayEnd kind reply = kind ≡ no_memory → reply ≡ Refused NoMemory → ⊥
+
+-- The run ended in the step of a fault's number: the lines of the steps before it were appended, and a beginning of its own line, of
+-- which bytes are left. So where the writer fails at the end of a line, it is the next step.
+abbrev pub EndsIn : MachineState → List Step → Fault → Option (List ℕ) → Option (List ℕ) → Type 0
+EndsIn first steps e old new =
     (replies : List Told) × (reply : Told) × (last : List Event) × (front : List ℕ) × (rest : List ℕ)
-    × (n ≡ length replies + 1) × (0 < length rest)
-    × Run first.setting first.history (take n steps) (replies ++ reply ∷ []) last
+    × (e.at ≡ length replies + 1) × ((0 < length rest) × MayEnd e.kind reply.1)
+    × Run first.setting first.history (take e.at steps) (replies ++ reply ∷ []) last
     × (line_of first.setting.definition reply ≡ front ++ rest)
     × Appends old new (lines_of first.setting.definition replies ++ front)
 
@@ -102,7 +109,7 @@ EndsInReport options first steps old new WriteHasFailed e =
 abbrev pub EndsEarly : RunOptions → Script → Option (List ℕ) → Option (List ℕ) → Type 0 → Fault → Type 0
 EndsEarly options script old new WriteHasFailed e =
     (Keeps old new × (e ≡ outside no_memory))
-    ⊎ (IsEnd WriteHasFailed e.kind × EndsIn (first script) script.steps e.at old new)
+    ⊎ (IsEnd WriteHasFailed e.kind × EndsIn (first script) script.steps e old new)
     ⊎ EndsInReport options (first script) script.steps old new WriteHasFailed e
 
 -- Where a fault leaves the writer: as it was, where the script was not read, and else where its run ended.

@@ -33,6 +33,7 @@ pub use lines::report::{push_tables, report_lines};
 pub use lines::verdict::Verdict;
 pub use mh_core::{Definition, Event, Limits, Machine, Plan, Problem, Refusal, Reply, SharedPlan};
 pub use streams::check::check_bytes;
+pub use streams::failing::{Sink, Source};
 pub use streams::input::read_input;
 pub use streams::planning::{PlanOptions, plan_bytes, write_lines};
 pub use streams::run::{RunOptions, read_script_from, run_bytes};

@@ -2,6 +2,7 @@
 
 pub(crate) mod check;
 pub(crate) mod claim;
+pub(crate) mod failing;
 pub(crate) mod input;
 pub(crate) mod planning;
 pub(crate) mod run;

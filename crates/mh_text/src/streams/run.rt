@@ -1,12 +1,12 @@
 //! Bytes in, lines out.
-ghost use Rattle.std.specs.Prelude.{◌≡◌, true, Ok, IfOk, IfErr, OnOk, IfSome, MatchResult};
+ghost use Rattle.std.specs.Prelude.{◌≡◌, ◌↔◌, true, Ok, IfOk, IfErr, IsTrue, OnOk, IfSome, MatchResult};
 ghost use Rattle.std.specs.Io.KnownBytes.{Appends, Keeps};
 ghost use Rattle.mh_text.specs.declared.json.script.Script.{Script};
 ghost use Rattle.mh_text.specs.Bytes.{AppendsFront, HasFailed};
 ghost use Rattle.mh_text.specs.Gives.{IsHonest, IsHonestReading};
 ghost use Rattle.mh_text.specs.Lines.{line_of};
 ghost use Rattle.mh_text.specs.Steps.{Told, Takes};
-ghost use Rattle.mh_text.specs.Output.{script_of_input, first, report_where, AppendsRun, EndsIn, EndsEarly, EndsReading, FailsReport, IsUnread, Failed, IsEnd, RunsTo};
+ghost use Rattle.mh_text.specs.Output.{script_of_input, first, report_where, AppendsRun, EndsIn, EndsEarly, EndsReading, FailsReport, IsUnread, Failed, IsEnd, MayEnd, RunsTo};
 
 use crate::fault::{Fault, InputFault, TextFault};
 use crate::json::script::{Script, read_script};
@@ -17,7 +17,7 @@ use crate::streams::input::read_input;
 use crate::streams::planning::write_lines;
 use crate::streams::stepping::answer;
 use crate::streams::watched::Watched;
-use mh_core::{Machine, Reply};
+use mh_core::{Machine, Refusal, Reply};
 use mh_site::Definition;
 use std::alloc::Global;
 use std::io::{Read, Write};
@@ -30,7 +30,31 @@ pub struct RunOptions {
     pub report: bool,
 }
 
-/// The line of a reply to the step of this number, which names this number.
+/// Writes a line of the step of this number.
+fn write_text<W: Write>(line: &str, at: u64, writer: &mut Watched<W>) -> Result<(), Fault>
+    ensures line { MatchResult result
+        (λ _. Appends (W.contents writer.old.inner) (W.contents writer.new.inner) line.now)
+        (λ e. (e.at ≡ at) × AppendsFront (W.contents writer.old.inner)
+        (W.contents writer.new.inner) line.now) }
+    ensures kind { IfErr result (λ e. (e.kind ≡ TextFault.WriteFailed)
+        × HasFailed writer.old.failures writer.new.failures) }
+    ensures kept { OnOk result (writer.new.failures ≡ writer.old.failures) }
+{
+    match writer.write_all(line.as_bytes()) {
+        Ok(()) => Ok(()),
+        Err(kind) => Err(Fault { kind, at }),
+    }
+}
+
+/// Whether an event was refused since it found no memory.
+fn is_out_of_memory(reply: &Reply) -> bool
+    ensures decides { IsTrue result ↔ reply.now ≡ Reply.Refused Refusal.NoMemory }
+{
+    matches!(reply, Reply::Refused(Refusal::NoMemory))
+}
+
+/// The line of a reply to the step of this number, which names this number. That of an event that
+/// found no memory takes none to make, so that the run goes on.
 fn write_line<W: Write>(
     alloc: Global,
     definition: &Definition,
@@ -46,18 +70,19 @@ fn write_line<W: Write>(
         (line_of definition.now (named, reply.now))) }
     ensures kind { IfErr result (λ e. IsEnd (HasFailed writer.old.failures writer.new.failures)
         e.kind) }
+    ensures spared { IfErr result (λ e. MayEnd e.kind reply.now) }
     ensures kept { OnOk result (writer.new.failures ≡ writer.old.failures) }
 {
+    if is_out_of_memory(reply) {
+        return write_text("refused 1 NoMemory\n", at, writer);
+    }
     let Ok(text) = line(alloc, definition, named, reply) else {
         return Err(Fault {
             kind: TextFault::Input(InputFault::NoMemory),
             at,
         });
     };
-    match writer.write_all(text.as_bytes()) {
-        Ok(()) => Ok(()),
-        Err(kind) => Err(Fault { kind, at }),
-    }
+    write_text(text.as_str(), at, writer)
 }
 
 /// One step, and its line.
@@ -74,7 +99,8 @@ fn write_step<T: Threads + Sync, W: Write>(
         (λ _. Appends (W.contents writer.old.inner) (W.contents writer.new.inner)
         (line_of machine.old.setting.definition told)) (λ e. (e.at ≡ at)
         × AppendsFront (W.contents writer.old.inner) (W.contents writer.new.inner)
-        (line_of machine.old.setting.definition told)) }
+        (line_of machine.old.setting.definition told))
+        × IfErr result (λ e. MayEnd e.kind told.1) }
     ensures setting { machine.new.setting ≡ machine.old.setting }
     ensures kind { IfErr result (λ e. IsEnd (HasFailed writer.old.failures writer.new.failures)
         e.kind) }
@@ -99,7 +125,7 @@ fn run_steps<T: Threads + Sync, W: Write>(
     ensures kind { IfErr result (λ e. IsEnd (HasFailed writer.old.failures writer.new.failures)
         e.kind) }
     ensures kept { OnOk result (writer.new.failures ≡ writer.old.failures) }
-    ensures ends { IfErr result (λ e. EndsIn machine steps.items e.at (W.contents writer.old.inner)
+    ensures ends { IfErr result (λ e. EndsIn machine steps.items e (W.contents writer.old.inner)
         (W.contents writer.new.inner)) }
 {
     let mut machine = machine;
@@ -174,10 +200,11 @@ fn run_script<T: Threads + Sync, W: Write>(
 /// machine, where it is asked for (see `report_lines`).
 ///
 /// The input is read to its end, or to the first byte past 1,048,576, before the first event. A
-/// fault in it writes nothing. A run that memory or a failing write ends leaves the lines of the
-/// events before that one whole, and a beginning of its own. A plan that is asked for is made with
-/// as many workers as the script has. Where memory or a failing write ends the report, that is
-/// reported at 0; the lines of all events stand, and a beginning of the report.
+/// fault in it writes nothing. An event that finds no memory has its line, and the run goes on. A
+/// run that ends, since the line of another event finds no memory or a write fails, leaves the
+/// lines of the events before that one whole, and a beginning of its own. A plan that is asked for
+/// is made with as many workers as the script has. Where memory or a failing write ends the report,
+/// that is reported at 0; the lines of all events stand, and a beginning of the report.
 pub fn run_bytes<T: Threads + Sync, R: Read, W: Write>(
     rt: &T,
     alloc: Global,

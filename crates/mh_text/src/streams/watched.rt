@@ -1,10 +1,12 @@
 //! Readers and writers that count their failures.
-ghost use Rattle.std.specs.Prelude.{◌≡◌, ◌<◌, ◌≤◌, length, IfOk, IfErr, OnOk, OnErr};
+ghost use Rattle.std.specs.Prelude.{◌≡◌, ◌<◌, ◌≤◌, length, true, IfOk, IfErr, IsErr, OnOk, OnErr};
 ghost use Rattle.std.specs.Io.KnownBytes.{ReadConsumes, WriteAppends, Appends, Keeps};
 ghost use Rattle.mh_text.specs.Bytes.{AppendsFront, one_more};
 
 use crate::fault::TextFault;
-use std::io::{Error, ErrorKind, Read, Write};
+use crate::streams::failing::{Sink, Source};
+use std::io;
+use std::io::ErrorKind;
 
 /// A reader or a writer, and how often it has failed since it was put in here.
 ///
@@ -41,47 +43,57 @@ fn count_failure(failures: u64) -> u64
     failures.wrapping_add(1)
 }
 
-fn is_interrupted(error: &Error) -> bool {
-    error.kind() == ErrorKind::Interrupted
+/// Whether a signal interrupted a call.
+fn was_interrupted(answer: &io::Result<usize>) -> bool
+    ensures failed { result ≡ true → IsErr answer.now }
+{
+    match answer {
+        Ok(_) => false,
+        Err(error) => error.kind() == ErrorKind::Interrupted,
+    }
 }
 
 /// One read, which is tried again where a signal interrupts it.
-fn read_once<R: Read>(reader: &mut R, buffer: &mut [u8]) -> Result<usize, TextFault>
+fn read_once<R: Source>(reader: &mut R, buffer: &mut [u8]) -> Result<usize, TextFault>
     ensures bound { IfOk result (λ n. n ≤ length buffer.new) }
     ensures bytes { ReadConsumes (R.remaining reader.old)
         (R.remaining reader.new) result buffer.new }
     ensures fault { IfErr result (λ e. e ≡ TextFault.ReadFailed) }
+    ensures told { OnErr result (R.has_failed reader.new) }
 {
+    let mut answer = reader.try_read(buffer);
     for _ in 0..u64::MAX {
-        match reader.read(buffer) {
-            Ok(n) => return Ok(n),
-            Err(error) if is_interrupted(&error) => {}
-            Err(_) => break,
+        if !was_interrupted(&answer) {
+            break;
         }
+        answer = reader.try_read(buffer);
     }
-    Err(TextFault::ReadFailed)
+    answer.map_err(|_| TextFault::ReadFailed)
 }
 
 /// One write, which is tried again where a signal interrupts it, and fails where it takes no byte.
-fn write_once<W: Write>(writer: &mut W, bytes: &[u8]) -> Result<usize, TextFault>
+fn write_once<W: Sink>(writer: &mut W, bytes: &[u8]) -> Result<usize, TextFault>
     ensures some { IfOk result (λ n. 0 < n) }
     ensures bound { IfOk result (λ n. n ≤ length bytes.now) }
     ensures bytes { WriteAppends (W.contents writer.old) (W.contents writer.new) result bytes.now }
     ensures fault { IfErr result (λ e. e ≡ TextFault.WriteFailed) }
+    ensures told { OnErr result (W.has_failed writer.new) }
 {
+    let mut answer = writer.try_write(bytes);
     for _ in 0..u64::MAX {
-        match writer.write(bytes) {
-            Ok(0) => break,
-            Ok(n) => return Ok(n),
-            Err(error) if is_interrupted(&error) => {}
-            Err(_) => break,
+        if !was_interrupted(&answer) {
+            break;
         }
+        answer = writer.try_write(bytes);
     }
-    Err(TextFault::WriteFailed)
+    match answer {
+        Ok(0) | Err(_) => Err(TextFault::WriteFailed),
+        Ok(n) => Ok(n),
+    }
 }
 
-impl<R: Read> Watched<R> {
-    /// One read.
+impl<R: Source> Watched<R> {
+    /// One read. It fails only where the reader's failed in this call.
     pub fn read(&mut self, buffer: &mut [u8]) -> Result<usize, TextFault>
         ensures bound { IfOk result (λ n. n ≤ length buffer.new) }
         ensures bytes { ReadConsumes (R.remaining self.old.inner)
@@ -89,6 +101,7 @@ impl<R: Read> Watched<R> {
         ensures kept { OnOk result (self.new.failures ≡ self.old.failures) }
         ensures failed { OnErr result (self.new.failures ≡ one_more self.old.failures) }
         ensures fault { IfErr result (λ e. e ≡ TextFault.ReadFailed) }
+        ensures told { OnErr result (R.has_failed self.new.inner) }
     {
         match read_once(&mut self.inner, buffer) {
             Ok(n) => Ok(n),
@@ -100,8 +113,9 @@ impl<R: Read> Watched<R> {
     }
 }
 
-impl<W: Write> Watched<W> {
-    /// Writes the bytes, up to the first write that fails or takes none.
+impl<W: Sink> Watched<W> {
+    /// Writes the bytes, up to the first write that fails or takes none. It fails only where the
+    /// writer's failed in this call.
     pub fn write_all(&mut self, bytes: &[u8]) -> Result<(), TextFault>
         ensures ok { OnOk result (Appends (W.contents self.old.inner)
             (W.contents self.new.inner) bytes.now) }
@@ -110,6 +124,7 @@ impl<W: Write> Watched<W> {
         ensures kept { OnOk result (self.new.failures ≡ self.old.failures) }
         ensures failed { OnErr result (self.new.failures ≡ one_more self.old.failures) }
         ensures fault { IfErr result (λ e. e ≡ TextFault.WriteFailed) }
+        ensures told { OnErr result (W.has_failed self.new.inner) }
     {
         let mut rest = bytes;
         while !rest.is_empty() {
@@ -124,14 +139,15 @@ impl<W: Write> Watched<W> {
         Ok(())
     }
 
-    /// Flushes what was written.
+    /// Flushes what was written. It fails only where the writer's flush failed in this call.
     pub fn flush(&mut self) -> Result<(), TextFault>
         ensures bytes { Keeps (W.contents self.old.inner) (W.contents self.new.inner) }
         ensures kept { OnOk result (self.new.failures ≡ self.old.failures) }
         ensures failed { OnErr result (self.new.failures ≡ one_more self.old.failures) }
         ensures fault { IfErr result (λ e. e ≡ TextFault.WriteFailed) }
+        ensures told { OnErr result (W.has_failed self.new.inner) }
     {
-        match self.inner.flush() {
+        match self.inner.try_flush() {
             Ok(()) => Ok(()),
             Err(_) => {
                 self.failures = count_failure(self.failures);

@@ -18,7 +18,7 @@ loop-step-preserved g c =
     let made = c.into_iter-step-iterator.ensures.into_iter_gives in
     let t = YieldsList-turn (YieldsList-from_vec c.args.steps.items made.0 (made.1 ∙ vec_length c.args.steps)) c.loop-step.yielded c.loop-step.step-iterator c.loop-step.yielded_by c.next.result c.next.new.self c.in-Some.step c.in-Some.is c.next.ensures.steps in
     let (replies, count, run, written) = c.loop-step.invariant.told in
-    let (reply, step, told) = c.in_ok-write_step.ensures.step in
+    let (reply, step, told, spared) = c.in_ok-write_step.ensures.step in
     record {
       count = omega (arith, length_push c.loop-step.yielded c.in-Some.step, c.loop-step.invariant.count);
       quiet = c.in_ok-write_step.ensures.kept ∙ c.loop-step.invariant.quiet;
@@ -32,9 +32,9 @@ returns-in_err-write_step-clause-ends g c =
     let t = YieldsList-turn (YieldsList-from_vec c.args.steps.items made.0 (made.1 ∙ vec_length c.args.steps)) c.loop-step.yielded c.loop-step.step-iterator c.loop-step.yielded_by c.next.result c.next.new.self c.in-Some.step c.in-Some.is c.next.ensures.steps in
     let p = err_from_is_err_and c.from_residual.result c.from_residual.ensures.1 in
     let (replies, count, run, written) = c.loop-step.invariant.told in
-    let (reply, step, told) = c.in_err-write_step.ensures.step in
+    let (reply, step, told, spared) = c.in_err-write_step.ensures.step in
     let begun = told.1 in
-    rw (p.1, p.2, told.0) (replies, reply, c.write_step.new.machine.history, begun.0, begun.1, omega (arith, count), begun.2, run_next _ _ _ _ c.loop-step.at _ replies _ c.in-Some.step reply _ c.loop-step.invariant.count t run c.loop-step.invariant.setting step, ap (λ (y : Setting). line_of y.definition reply) (sym c.loop-step.invariant.setting) ∙ begun.3, Appends-trans _ _ _ _ _ written begun.4)
+    rw (p.1, p.2, told.0) (replies, reply, c.write_step.new.machine.history, begun.0, begun.1, omega (arith, count), (begun.2, spared), run_next _ _ _ _ c.loop-step.at _ replies _ c.in-Some.step reply _ c.loop-step.invariant.count t run c.loop-step.invariant.setting step, ap (λ (y : Setting). line_of y.definition reply) (sym c.loop-step.invariant.setting) ∙ begun.3, Appends-trans _ _ _ _ _ written begun.4)
 
 pub returns-clause-ok : goal.returns-clause-ok
 returns-clause-ok g c =

@@ -1,0 +1,59 @@
+//! Readers and writers of which a clause can say that they failed.
+ghost use Rattle.std.specs.Prelude.{◌≡◌, ◌≤◌, length, IfOk, OnErr};
+ghost use Rattle.std.specs.Io.KnownBytes.{ReadConsumes, WriteAppends, Keeps};
+
+use std::io;
+use std::io::{Read, Write};
+
+/// A reader, and what it means that its last call failed. Each reader is one.
+///
+/// A function over all sources can report a failure only where a read did: nothing else says that
+/// a source has failed, since each type gives `has_failed` a meaning of its own.
+pub trait Source: Read {
+    ghost has_failed: { Self → Type 0 };
+
+    /// One read, as by `Read::read`.
+    fn try_read(&mut self, buffer: &mut [u8]) -> io::Result<usize>
+        ensures bound { IfOk result (λ n. n ≤ length buffer.new) }
+        ensures bytes { ReadConsumes (Self.remaining self.old)
+            (Self.remaining self.new) result buffer.new }
+        ensures failed { OnErr result (has_failed self.new) };
+}
+
+/// A writer, and what it means that its last call failed, as of a `Source`. Each writer is one.
+pub trait Sink: Write {
+    ghost has_failed: { Self → Type 0 };
+
+    /// One write, as by `Write::write`. One that takes no byte has failed too.
+    fn try_write(&mut self, bytes: &[u8]) -> io::Result<usize>
+        ensures bound { IfOk result (λ n. n ≤ length bytes.now) }
+        ensures bytes { WriteAppends (Self.contents self.old)
+            (Self.contents self.new) result bytes.now }
+        ensures failed { OnErr result (has_failed self.new) }
+        ensures none { IfOk result (λ n. n ≡ 0 → has_failed self.new) };
+
+    /// A flush, as by `Write::flush`.
+    fn try_flush(&mut self) -> io::Result<()>
+        ensures bytes { Keeps (Self.contents self.old) (Self.contents self.new) }
+        ensures failed { OnErr result (has_failed self.new) };
+}
+
+impl<R: Read> Source for R {
+    ghost has_failed = { λ _. Unit {0} };
+
+    fn try_read(&mut self, buffer: &mut [u8]) -> io::Result<usize> {
+        self.read(buffer)
+    }
+}
+
+impl<W: Write> Sink for W {
+    ghost has_failed = { λ _. Unit {0} };
+
+    fn try_write(&mut self, bytes: &[u8]) -> io::Result<usize> {
+        self.write(bytes)
+    }
+
+    fn try_flush(&mut self) -> io::Result<()> {
+        self.flush()
+    }
+}
