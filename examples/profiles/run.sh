@@ -1,0 +1,25 @@
+#!/bin/sh
+# Turns the small logs here into profiles, and compares these with the lines beside them, which were worked out by hand from
+# what the tools say of themselves (tools/from_hotspot --help, tools/from_v8 --help). The last line is the sum.
+cd "$(dirname "$0")" || exit 1
+passed=0
+failed=0
+
+# case_of FILE WORD..: what the tool writes for these words is what stands in FILE.
+case_of() {
+    wanted=$1
+    shift
+    if [ "$("$@" 2>&1)" = "$(cat "$wanted")" ]; then
+        passed=$((passed + 1))
+    else
+        failed=$((failed + 1))
+        echo "failed: $*"
+    fi
+}
+
+case_of hotspot-path.jsonl ../../tools/from_hotspot hotspot-small.log
+case_of hotspot-site.jsonl ../../tools/from_hotspot --by site hotspot-small.log
+case_of hotspot-method.jsonl ../../tools/from_hotspot --by method hotspot-small.log
+case_of hotspot-two-runs.jsonl ../../tools/from_hotspot --virtual 3 --interface 1 --scale 0.5 hotspot-small.log hotspot-other.log
+echo "$passed passed, $failed failed"
+[ "$failed" -eq 0 ]
