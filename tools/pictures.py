@@ -1,5 +1,5 @@
 """What the tools that draw pictures share: how wide a text is, how a label finds room, and how a wrong input is reported."""
-import sys
+import os, sys
 
 # Widths of characters in parts of the height of the font, as DejaVu Sans has them, which is wider than most.
 NARROW = {**dict.fromkeys("iIlj|'", 0.29), **dict.fromkeys(" ,.:;/\\()[]{}\"!-ftr", 0.4), **dict.fromkeys("mwMW%@", 0.98)}
@@ -50,19 +50,18 @@ class Room:
 
 
 def run(main, name, usage):
-    """Runs a tool: prints its text for --help, and what is wrong with its words (status 2) or its input (status 1)."""
+    """Runs a tool that draws: prints its text for --help, or what is wrong with its words (status 2) or its input (status 1)."""
     words = sys.argv[1:]
-    if words in (["--help"], ["-h"]):
-        print(usage)
-        return 0
     try:
-        print(main(words))
+        print(usage if words in (["--help"], ["-h"]) else main(words), flush=True)
         return 0
     except UsageError:
         print(usage, file=sys.stderr)
         return 2
     except Wrong as error:
         print(f"{name}: {error}", file=sys.stderr)
+    except BrokenPipeError:
+        os.dup2(os.open(os.devnull, os.O_WRONLY), sys.stdout.fileno())
     except OSError as error:
         print(f"{name}: {error.filename}: {error.strerror}", file=sys.stderr)
     return 1
