@@ -57,12 +57,18 @@ line_written x start a b c replies told same before now =
     let here = subst (λ (y : Setting). Appends b c (line_of y.definition told)) same now in
     subst (Appends a c) (lines_more start.definition replies told) (Appends-trans a b c _ _ before here)
 
+-- what was written is the line of a reply, where it is the same text
+pub line_with : {X : Type 0} (r : Result X Fault) (old new : Option (List ℕ)) (at : ℕ) (text : List ℕ) (d : DefinitionData) (told : Told) → text ≡ line_of d told
+    → MatchResult r (λ _. Appends old new text) (λ f. (f.at ≡ at) × AppendsFront old new text)
+    → MatchResult r (λ _. Appends old new (line_of d told)) (λ f. (f.at ≡ at) × AppendsFront old new (line_of d told))
+line_with r old new at text d told same =
+    subst (λ (line : List ℕ). MatchResult r (λ _. Appends old new line) (λ f. (f.at ≡ at) × AppendsFront old new line)) same
+
 -- a line with the names of one definition is that of an equal one
 pub line_by : {X : Type 0} (r : Result X Fault) (old new : Option (List ℕ)) (at : ℕ) (d e : DefinitionData) (told : Told) → d ≡ e
     → MatchResult r (λ _. Appends old new (line_of d told)) (λ f. (f.at ≡ at) × AppendsFront old new (line_of d told))
     → MatchResult r (λ _. Appends old new (line_of e told)) (λ f. (f.at ≡ at) × AppendsFront old new (line_of e told))
-line_by r old new at d e told same =
-    subst (λ (b : DefinitionData). MatchResult r (λ _. Appends old new (line_of b told)) (λ f. (f.at ≡ at) × AppendsFront old new (line_of b told))) same
+line_by r old new at d e told same = line_with r old new at (line_of d told) e told (ap (λ (b : DefinitionData). line_of b told) same)
 
 pub json_found : (bytes : List ℕ) (d : Data) → IsUtf8 bytes → read bytes ≡ Some d → json_in bytes ≡ Ok d
 unfolding json_in
