@@ -1,5 +1,5 @@
 -- What a call of a pass answers, counts and is refused.
-use Rattle.std.specs.Prelude.{ℕ, ◌≡◌, ◌<◌, ◌≤◌, true, false, List, length}
+use Rattle.std.specs.Prelude.{ℕ, ◌≡◌, ◌⊎◌, ◌<◌, ◌≤◌, true, false, List, ◌∷◌, length}
 use Rattle.mh_type.specs.Fits.{Fits}
 use Rattle.mh_type.specs.declared.value.Value.{Value}
 use Rattle.mh_tree.specs.Meaning.{mean, steps}
@@ -9,6 +9,7 @@ use Rattle.mh_site.specs.Defined.{DefinitionData, site_at}
 use Rattle.mh_site.specs.Worlds.{environment_of_bases, environment_of_links, linked_sites, state_at}
 use Rattle.mh_site.specs.declared.control.Control.{Control}
 use Rattle.mh_core.specs.Hits.{hits}
+use Rattle.mh_live.specs.Passes.{PassState}
 use Rattle.mh_live.specs.Rules.{world_after}
 use Rattle.mh_live.specs.declared.call_fault.CallFault.{CallFault}
 use Rattle.mh_live.specs.declared.call_fault.CallFault.TheVariants.{NoSite, WrongType, LedgerFull, NotEntered, NoMemory}
@@ -45,6 +46,10 @@ abbrev pub IsUntried : CallFault → Type 0
 IsUntried NotEntered = ⊥
 IsUntried NoMemory = ⊥
 IsUntried _ = Unit {0}
+
+-- no world was entered; or one that is behind what the pass had seen, and nothing of it is kept
+abbrev pub IsKeptOut : PassState → PassState → Type 0
+IsKeptOut old new = (new ≡ old) ⊎ ((behind : List Control) × (length behind < length old.seen) × (new ≡ record old { entered = behind ∷ old.entered }))
 
 -- by the world after these controls no node is entered, of invoked trees too, that has String in its type, so that no memory is taken
 abbrev pub TakesNoMemory : DefinitionData → List Control → ℕ → List Value → Type 0

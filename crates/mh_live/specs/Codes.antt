@@ -21,7 +21,9 @@ abbrev pub coded_controls : Coded (List Control)
 coded_controls = coded_list control.the_row.coded
 
 abbrev pub coded_pass : Coded PassState
-coded_pass = code_by (List Control × LedgerState) (coded× coded_controls coded_ledger) (λ p. (p.seen, p.ledger)) (λ p. record { seen = p.0; ledger = p.1 }) (λ _. refl)
+coded_pass =
+    code_by (List Control × (LedgerState × List (List Control))) (coded× coded_controls (coded× coded_ledger (coded_list coded_controls))) (λ p. (p.seen, (p.ledger, p.entered)))
+    (λ p. record { seen = p.0; ledger = p.1.0; entered = p.1.1 }) (λ _. refl)
 
 abbrev pub coded_opening : Coded OpeningState
 coded_opening =

@@ -1,5 +1,5 @@
 -- What contracts see of an office and of its receipts.
-use Rattle.std.specs.Prelude.{ℕ, ◌≡◌, Bool, false, List, [], fold, length, reverse}
+use Rattle.std.specs.Prelude.{ℕ, ◌≡◌, ◌<◌, Bool, false, true, List, [], fold, length, reverse}
 use mathlib.Core.List.{IsPrefix}
 use Rattle.logbook.specs.Pages.{Book}
 use Rattle.mh_ledger.specs.Ledgers.{IsTotals, TotalsState}
@@ -33,12 +33,13 @@ pub record AreTotalsOf (d : DefinitionData) (l : LimitsData) (workers : ℕ) (t 
 abbrev pub list_of : BookState → List Control
 list_of b = reverse (controls b.definition b.records)
 
--- The list that is published is that of the records. Nothing is pending while the office is open
+-- The list that is published is that of the records. Nothing is pending while the office is open, and something where it is closed
 pub record InStep (name : Book) (d : DefinitionData) (l : LimitsData) (workers : ℕ) (shown : Published) (pending : List Step) (front : List Control) (b : BookState) (closed : Bool) : Type 0 where
   pub stands : Stands name d shown
   pub published : shown.past.log ≡ list_of b
   pub known : front ≡ list_of b
   pub still : closed ≡ false → pending ≡ []
+  pub halted : closed ≡ true → 0 < length pending
   pub definition : b.definition ≡ d
   pub limits : b.limits ≡ l
   pub shares : length b.totals.shares ≡ workers

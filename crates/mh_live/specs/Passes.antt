@@ -6,14 +6,15 @@ use Rattle.mh_site.specs.Defined.{DefinitionData}
 use Rattle.mh_site.specs.Links.{links}
 use Rattle.mh_site.specs.declared.control.Control.{Control}
 
--- the controls that it has seen or learnt, oldest first, and its worker's ledger
+-- the controls that it has seen or learnt, oldest first, its worker's ledger, and the lists of the worlds that it entered, newest first
 pub record PassState : Type 0 where
   pub seen : List Control
   pub ledger : LedgerState
+  pub entered : List (List Control)
 
 -- a pass with this ledger that has seen nothing
 abbrev pub new_pass : LedgerState → PassState
-new_pass l = record { seen = []; ledger = l }
+new_pass l = record { seen = []; ledger = l; entered = [] }
 
 -- one for each worker, in order, of which the ledger may hold so many hits of a link and has none
 abbrev pub new_passes : DefinitionData → ℕ → ℕ → List PassState

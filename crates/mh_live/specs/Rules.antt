@@ -1,5 +1,5 @@
 -- The rule over the published world.
-use Rattle.std.specs.Prelude.{ℕ, ◌≡◌, List, []}
+use Rattle.std.specs.Prelude.{ℕ, ◌≡◌, List, [], ◌∷◌, get_or}
 use mathlib.Core.Option.{some}
 use mathlib.Core.List.{IsPrefix}
 use lib.ListN.{get_elem?}
@@ -22,14 +22,18 @@ pub record Stands (book : Book) (d : DefinitionData) (x : Published) : Type 0 wh
   pub replays : x.world ≡ world_after d x.past.log
   pub standing : AreStanding d x.world
 
+-- the list of the world that a reader entered last, and none before the first
+abbrev pub last_entered : View → List Control
+last_entered v = get_or v.entered 0 []
+
 -- the published list begins with all that each reader has seen
 abbrev pub Keeps : Book → DefinitionData → Published → List View → Type 0
-Keeps book d x views = Stands book d x × ((seat : ℕ) (v : View) → get_elem? views seat ≡ some v → IsPrefix v.seen x.past.log)
+Keeps book d x views = Stands book d x × ((seat : ℕ) (v : View) → get_elem? views seat ≡ some v → IsPrefix (last_entered v) x.past.log)
 
--- the published list after the step is seen, and begins with all that was seen
+-- the published list after the step is entered, once, and begins with all that was seen
 abbrev pub Looks : Book → DefinitionData → View → Published → Published → View → Type 0
-Looks book d v x y w = Stands book d y × (w.seen ≡ y.past.log) × IsPrefix v.seen w.seen
+Looks book d v x y w = Stands book d y × (w.entered ≡ y.past.log ∷ v.entered) × IsPrefix (last_entered v) y.past.log
 
--- a reader that has seen nothing
+-- a reader that has entered no world
 abbrev pub newcomer : View
-newcomer = record { seen = [] }
+newcomer = record { entered = [] }

@@ -162,6 +162,7 @@ impl<N: Name> Live<N> {
         ensures ledger { OnOk result (pass.new.ledger ≡ settled pass.old.ledger) }
         ensures seen { OnOk result (IsPrefix pass.old.seen pass.new.seen) }
         ensures learnt { IfOk result (λ r. IsPrefix r.front pass.new.seen) }
+        ensures entered { OnOk result (pass.new.entered ≡ pass.old.entered) }
         ensures one { IfOk result (λ r. (pass.new.seen ≡ pass.old.seen)
             ⊎ (pass.new.seen ≡ r.front)) }
         ensures refused { IfErr result (IsFlushRefusal N.definition N.limits N.workers pass.old.ledger) }

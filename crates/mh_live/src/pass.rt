@@ -1,7 +1,8 @@
 //! What one worker calls through, without a lock.
 
-ghost use Rattle.std.specs.Prelude.{◌≡◌, ◌+◌, ◌<◌, ◌≤◌, ◌⊎◌, ℕ, [], length, true, false, IfOk, IfErr, IfSome, IfNone, IsOk, OnOk, OnErr};
+ghost use Rattle.std.specs.Prelude.{◌≡◌, ◌+◌, ◌<◌, ◌≤◌, ◌⊎◌, ◌∷◌, ℕ, [], length, true, false, IfOk, IfErr, IfSome, IfNone, IsOk, OnOk, OnErr};
 ghost use mathlib.Core.List.{IsPrefix};
+ghost use Rattle.left_right.specs.Sides.{view as view_of};
 ghost use Rattle.mh_type.specs.Fits.{Fits};
 ghost use Rattle.mh_tree.specs.Meaning.{mean, steps};
 ghost use Rattle.mh_ledger.specs.Ledgers.{at, made, with_hit};
@@ -9,8 +10,8 @@ ghost use Rattle.mh_site.specs.Defined.{site_at};
 ghost use Rattle.mh_site.specs.Links.{links};
 ghost use Rattle.mh_site.specs.Worlds.{environment_of_bases, environment_of_links, state_at};
 ghost use Rattle.mh_core.specs.Hits.{hits};
-ghost use Rattle.mh_live.specs.Calls.{MayCall, AnswersBy, Counts, RefusesCall, IsUntried, TakesNoMemory};
-ghost use Rattle.mh_live.specs.Rules.{Stands, world_after};
+ghost use Rattle.mh_live.specs.Calls.{MayCall, AnswersBy, Counts, RefusesCall, IsKeptOut, IsUntried, TakesNoMemory};
+ghost use Rattle.mh_live.specs.Rules.{Stands, newcomer, world_after};
 
 use crate::call_fault::CallFault;
 use crate::front::{Front, Name};
@@ -43,13 +44,18 @@ impl<N: Name> Model for Pass<N> {
     ghost use Rattle.std.specs.Prelude.{◌≡◌, length};
     ghost use Rattle.mh_site.specs.Links.{links};
     ghost use Rattle.mh_live.specs.Codes.{coded_pass};
+    ghost use Rattle.left_right.specs.Sides.{view as view_of};
     ghost use Rattle.mh_live.specs.Passes.{PassState};
 
     ghost Value = { PassState };
 
     ghost coded = { coded_pass };
 
-    ghost view = { λ p. record { seen = p.front; ledger = p.ledger } };
+    ghost view = { λ p. record {
+      seen = p.front;
+      ledger = p.ledger;
+      entered = (view_of p.reader.place).entered;
+    } };
 
     ghost invariant = { λ p. (p.definition ≡ N.definition) × (length p.ledger.unflushed ≡ length (links N.definition)) };
 }
@@ -134,6 +140,9 @@ fn visit<N: Name>(
     ensures memory { IfSome result.1
         (λ v. TakesNoMemory N.definition v.front request.entry.site request.entry.arguments.now
         → IsOk v.given) }
+    ensures entered { IfSome result.1 (λ v. (view_of result.0.place).entered
+        ≡ v.front ∷ (view_of reader.place).entered) }
+    ensures outside { IfNone result.1 (view_of result.0.place ≡ view_of reader.place) }
 {
     match reader.enter_as::<Sees<N>>() {
         Ok(reading) => {
@@ -204,7 +213,8 @@ impl<N: Name> Pass<N> {
     ) -> Pass<N>
         requires definition { definition ≡ N.definition }
         requires links { length ledger.unflushed ≡ length (links N.definition) }
-        ensures value { result ≡ record { seen = front; ledger = ledger } }
+        requires reader { view_of reader.place ≡ newcomer }
+        ensures value { result ≡ record { seen = front; ledger = ledger; entered = [] } }
     {
         Pass {
             reader,
@@ -269,9 +279,10 @@ impl<N: Name> Pass<N> {
     /// one of its links, the ledger counts a hit of that link.
     ///
     /// Refused with `NoSite`, with `WrongType` where the arguments do not fit the site's type, with
-    /// `LedgerFull`, with `NotEntered` where the office is gone, and then with `NoMemory`, which is
-    /// not told where no node that is entered has String in its type; no hit is counted. At the
-    /// last two the pass may have seen more controls than before.
+    /// `LedgerFull`, with `NotEntered` where the office is gone or the published world is behind
+    /// what this pass has seen, and then with `NoMemory`, which is not returned where no node that
+    /// is entered has String in its type; no hit is counted. At the last the pass may have seen
+    /// more controls than before.
     pub fn call(&mut self, site: usize, arguments: &[Value]) -> Result<Answer, CallFault>
         ensures passes { OnOk result (MayCall N.definition self.old.ledger site arguments.now) }
         ensures answer { IfOk result (λ answer. AnswersBy N.definition self.new.seen site
@@ -283,6 +294,11 @@ impl<N: Name> Pass<N> {
             (λ told. RefusesCall N.definition self.old.ledger site arguments.now told) }
         ensures kept { OnErr result (self.new.ledger ≡ self.old.ledger) }
         ensures untried { IfErr result (λ told. IsUntried told → self.new ≡ self.old) }
+        ensures entered { OnOk result (self.new.entered ≡ self.new.seen ∷ self.old.entered) }
+        ensures outside { IfErr result (λ told. told ≡ CallFault.NotEntered
+            → IsKeptOut self.old self.new) }
+        ensures visited { IfErr result (λ told. told ≡ CallFault.NoMemory
+            → self.new.entered ≡ self.new.seen ∷ self.old.entered) }
         ensures memory { IfErr result (λ told. told ≡ CallFault.NoMemory
             → TakesNoMemory N.definition self.new.seen site arguments.now → ⊥) }
     {
@@ -308,6 +324,11 @@ impl<N: Name> Pass<N> {
         ensures ledger { self.new.ledger ≡ self.old.ledger }
         ensures told { IfErr result (λ told. (told ≡ CallFault.NotEntered)
             ⊎ (told ≡ CallFault.NoMemory)) }
+        ensures entered { OnOk result (self.new.entered ≡ self.new.seen ∷ self.old.entered) }
+        ensures outside { IfErr result (λ told. told ≡ CallFault.NotEntered
+            → IsKeptOut self.old self.new) }
+        ensures visited { IfErr result (λ told. told ≡ CallFault.NoMemory
+            → self.new.entered ≡ self.new.seen ∷ self.old.entered) }
         ensures memory { IfErr result (λ told. told ≡ CallFault.NoMemory
             → TakesNoMemory N.definition self.new.seen site arguments.now → ⊥) }
     {
@@ -338,6 +359,7 @@ impl<N: Name> Pass<N> {
         ensures seen { IsPrefix self.old.seen self.new.seen }
         ensures learnt { IsPrefix receipt.now.front self.new.seen }
         ensures ledger { self.new.ledger ≡ self.old.ledger }
+        ensures entered { self.new.entered ≡ self.old.entered }
     {
         self.front = self.front.longer(receipt.front());
     }

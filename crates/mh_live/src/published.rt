@@ -20,9 +20,10 @@ pub enum Step {
     Stamp(Past),
 }
 
-/// What a reader has seen. No value of it is made.
+/// What a reader has seen: the list of each world that it entered, newest first. No value of it is
+/// made.
 pub struct View {
-    pub seen: LinkedList<Control>,
+    pub entered: LinkedList<LinkedList<Control>>,
 }
 
 impl Absorb<Step> for Published {

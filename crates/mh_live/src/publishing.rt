@@ -1,6 +1,6 @@
 //! How a control reaches the published world.
 
-ghost use Rattle.std.specs.Prelude.{◌≡◌, ◌++◌, ◌∷◌, ◌<◌, [], drop, fold, length, IfErr, IfOk, MatchBool, MatchResult, OnOk};
+ghost use Rattle.std.specs.Prelude.{◌≡◌, ◌++◌, ◌∷◌, ◌<◌, [], drop, fold, length, IfErr, IfOk, MatchBool, MatchResult, OnErr, OnOk};
 ghost use Rattle.mh_core.specs.Standing.{AreStanding};
 ghost use Rattle.mh_site.specs.Worlds.{after};
 ghost use Rattle.mh_live.specs.Limits.{most_controls};
@@ -35,8 +35,9 @@ fn publish<N: Name, R: Wait>(
     ensures shown { MatchResult result.1
         (λ _. (result.0.desk.shown.value
         ≡ fold stepped writer.desk.shown.value (drop writer.behind writer.log.items))
-        × (drop result.0.behind result.0.log.items ≡ [])) (λ _. result.0.desk.shown.value
-        ≡ writer.desk.shown.value) }
+        × (drop result.0.behind result.0.log.items ≡ [])) (λ _. (result.0.desk.shown.value
+        ≡ writer.desk.shown.value) × (drop result.0.behind result.0.log.items
+        ≡ drop writer.behind writer.log.items)) }
 {
     writer.publish_as::<Sees<N>, R>(rt)
 }
@@ -72,9 +73,11 @@ pub(crate) fn show<N: Name, R: Wait>(
         × (writer.new.desk.shown.value.past.log ≡ f)) }
     ensures stands { Stands N.book N.definition writer.new.desk.shown.value }
     ensures still { OnOk result (drop writer.new.behind writer.new.log.items ≡ []) }
-    ensures halted { IfErr result (λ halt. (writer.new.desk.shown.value
-        ≡ writer.old.desk.shown.value)
-        × (halt ≡ Halt.Before → drop writer.new.behind writer.new.log.items ≡ [])) }
+    ensures halted { OnErr result (writer.new.desk.shown.value ≡ writer.old.desk.shown.value) }
+    ensures before { IfErr result (λ halt. halt ≡ Halt.Before
+        → drop writer.new.behind writer.new.log.items ≡ []) }
+    ensures midway { IfErr result (λ halt. halt ≡ Halt.Midway
+        → 0 < length (drop writer.new.behind writer.new.log.items)) }
 {
     let intent = front.intend(&control);
     if !append(writer, Step::Change(control)) {

@@ -34,6 +34,7 @@ invariant_of-self g c =
       published = c.in-Ok.ensures.list.1 ∙ both.1;
       known = both.1;
       still = λ _. c.in-Ok.ensures.still;
+      halted = λ h. absurd (cc (h, c.if-self.false));
       definition = both.0.definition ∙ is.definition;
       limits = both.0.limits ∙ is.limits;
       shares = ap (λ (t : TotalsState). length t.shares) c.commit-reply.ensures.totals ∙ is.shares;

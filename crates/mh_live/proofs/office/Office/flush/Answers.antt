@@ -17,6 +17,7 @@ invariant_of-self g c =
       published = is.published ∙ sym kept.0;
       known = is.known ∙ sym kept.0;
       still = is.still;
+      halted = is.halted;
       definition = kept.1 ∙ is.definition;
       limits = kept.2 ∙ is.limits;
       shares = shares_stay b.totals c.flush.new.self.totals l.worker c.flush.new.ledger told.all ∙ is.shares;
