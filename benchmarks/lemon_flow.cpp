@@ -1,10 +1,12 @@
 // Times LEMON's Preflow on a problem of selection, for planner.py.
 //
 // Standard input has the numbers of links and points, the gains, the charges, the costs, and for each link the number of its
-// needs and the needs. A charge is a private point of its link: a node with an arc from the link, and an arc to the sink of that
-// capacity; where there is none there is no node. Standard output has the value of the flow, and the least seconds that several
-// runs took of a processor: Preflow made, run, and the source's side of a least cut read, over a network that was built before.
+// needs and the needs; a word of the command line says how many runs there are, else seven. A charge is a private point of its
+// link: a node with an arc from the link, and an arc to the sink of that capacity; where there is none there is no node. Standard
+// output has the value of the flow, and the least seconds that a run took of a processor: Preflow made, run, and the source's side
+// of a least cut read, over a network that was built before.
 #include <cstdio>
+#include <cstdlib>
 #include <ctime>
 #include <lemon/preflow.h>
 #include <lemon/smart_graph.h>
@@ -18,7 +20,8 @@ static long long number() {
     return read;
 }
 
-int main() {
+int main(int count, char **words) {
+    const int runs = count > 1 ? std::atoi(words[1]) : 7;
     const int links = static_cast<int>(number()), points = static_cast<int>(number());
     SmartDigraph graph;
     graph.reserveNode(links + points + 2);
@@ -45,7 +48,7 @@ int main() {
             room[graph.addArc(nodes[link], nodes[links + number()])] = all;
     double least = 1e9;
     long long value = 0;
-    for (int turn = 0; turn < 7; ++turn) {
+    for (int turn = 0; turn < runs; ++turn) {
         const std::clock_t start = std::clock();
         Preflow<SmartDigraph, SmartDigraph::ArcMap<long long>> preflow(graph, room, source, sink);
         preflow.run();

@@ -9,8 +9,14 @@ is the difference of the first and this; `max_flow` on the whole problem, read b
 that finds no flow; and LEMON's Preflow over a network that was built before. The last two are what they took of a processor,
 all others are by the clock. All have to find flows of the same value. Numbers are drawn from a fixed seed, so the problems are
 always the same: as large as version 1 lets them be, with charges too, and as large as version 2 does.
+
+A second table has problems past these limits: profiles that VMs logged (../examples/profiles), and made ones of 2^20 links. It
+has what a plan, `max_flow` and LEMON's Preflow took of a processor, the least of several runs, LEMON's time over that of
+`max_flow`, the most memory that FLOW_BENCH had while it made the plan and that LEMON's program had, both with the problem that
+they read, and the ratio of these (what starts them has 14 MiB itself, which count). Where LEMON takes longer than LIMIT it is
+stopped, and its columns are empty.
 """
-import json, random, resource, subprocess, sys, tempfile, time
+import json, lzma, random, resource, subprocess, sys, tempfile, time
 from pathlib import Path
 
 HERE = Path(__file__).resolve().parent
@@ -19,6 +25,9 @@ LARGEST = 16384, 4096
 RUNS = 9
 # how many links a run of FLOW_BENCH goes over: fifty flows of 4,096 links, twelve of 16,384
 ALL_LINKS = 204800
+# the most links of any problem, and after how many seconds by the clock a program is stopped on such a one
+MOST = 2**20
+LIMIT = 200
 
 
 def problem(gains, costs, needs):
@@ -89,6 +98,56 @@ PROBLEMS = {
 }
 
 
+def profile(name):
+    """A profile as a problem: its points and links in the order of its lines."""
+    costs, places, links = [], {}, []
+    with lzma.open(HERE.parent / f"examples/profiles/{name}.jsonl.xz", "rt", encoding="utf-8") as lines:
+        for line in map(json.loads, lines):
+            if "point" in line:
+                places[line["point"]] = len(costs)
+                costs.append(line["cost"])
+            else:
+                links.append({"gain": line["gain"], "needs": sorted(places[it] for it in line["needs"])})
+    return {"costs": costs, "links": links}
+
+
+def made(draw, needs, points):
+    """A problem of these needs: one gain of ten is large, costs are of the size of gains, and each link has a charge."""
+    gains = [draw.randint(0, 1000 if draw.random() < 0.9 else 100000) for _ in needs]
+    links = [{"gain": gain, "needs": its, "charge": draw.randint(0, 50)} for gain, its in zip(gains, needs)]
+    return {"costs": [draw.randint(0, 4000) for _ in range(points)], "links": links}
+
+
+def popular(points=200000):
+    """Half of all needs are of a hundred points, as in profiles."""
+    draw = random.Random(8)
+    bounds = [[100 if draw.random() < 0.5 else points for _ in range(draw.randint(1, 7))] for _ in range(MOST)]
+    return made(draw, [sorted({draw.randrange(bound) for bound in its}) for its in bounds], points)
+
+
+def shuffled_chain():
+    """One long chain, whose links come in any order."""
+    draw = random.Random(9)
+    needs = [[point, point + 1] for point in range(MOST - 1)]
+    draw.shuffle(needs)
+    return made(draw, needs, MOST)
+
+
+def dust():
+    """Each point has a link of its own: as many parts as points."""
+    return made(random.Random(10), [[point] for point in range(MOST)], MOST)
+
+
+LARGE = {
+    "javadoc of JDK 17, compiled methods": lambda: profile("javadoc17.nmethod"),
+    "javadoc of JDK 17, call sites": lambda: profile("javadoc17.site"),
+    "the TypeScript compiler, functions": lambda: profile("tsc.function"),
+    "popular points": popular,
+    "one long chain in any order": shuffled_chain,
+    "each point apart": dust,
+}
+
+
 def taken():
     """The seconds that the programs which have ended took of processors."""
     used = resource.getrusage(resource.RUSAGE_CHILDREN)
@@ -118,9 +177,46 @@ def numbers(given):
 def flow_alone(program, given):
     """The milliseconds of one `max_flow` without its reading, the value of the flow, and its phases."""
     often, text = ALL_LINKS // len(given["links"]), "\n".join(numbers(given))
-    (none, _), (some, said) = (least([program], f"{rounds}\n{text}".encode(), taken) for rounds in (0, often))
+    (none, _), (some, said) = (least([program, "flow"], f"{rounds}\n{text}".encode(), taken) for rounds in (0, often))
     _, value, _, phases = said.split()
     return (some - none) / often, value, phases
+
+
+def used(words, text):
+    """The seconds of a processor that a program took, its most memory in MiB, and what it printed; None where it was stopped."""
+    command = [sys.executable, str(HERE / "used.py"), str(LIMIT), *words]
+    return json.loads(subprocess.run(command, input=text, stdout=subprocess.PIPE, check=True).stdout)
+
+
+def done_alone(program, word, text, often, runs):
+    """The milliseconds of one work of FLOW_BENCH without its reading, its most memory in MiB, and what it printed."""
+    none = min(used([program, word], b"0\n" + text)[0] for _ in range(runs))
+    some = [used([program, word], b"%d\n" % often + text) for _ in range(runs)]
+    return (min(it[0] for it in some) - none) * 1000 / often, max(it[1] for it in some), some[0][2]
+
+
+def large_row(name, given, flow_bench, lemon):
+    """A row of the second table."""
+    links, needs = len(given["links"]), sum(len(link["needs"]) for link in given["links"])
+    text, often = "\n".join(numbers(given)).encode(), max(1, ALL_LINKS // links)
+    runs, turns = (RUNS, "7") if often > 1 else (3, "1")
+    plan, memory, _ = done_alone(flow_bench, "plan", text, often, runs)
+    flow, _, said = done_alone(flow_bench, "flow", text, often, runs)
+    beside = used([lemon, turns], text) if lemon else None
+    row = f"| {name} | {links:,} | {len(given['costs']):,} | {needs:,} | {plan:.2f} | {flow:.2f} | "
+    if beside is None:
+        return row + f"- | - | {memory:.0f} | - | - |"
+    found, seconds = beside[2].split()
+    assert found == said.split()[1], f"{name}: LEMON's flow is {found}, and max_flow says {said}"
+    took = float(seconds) * 1000
+    return row + f"{took:.2f} | {took / flow:.1f} | {memory:.0f} | {beside[1]:.0f} | {beside[1] / memory:.1f} |"
+
+
+def large_table(flow_bench, lemon):
+    print("| Problem | links | points | needs | plan | max_flow | LEMON | LEMON / max_flow | MiB | LEMON's MiB | ratio |")
+    print("|---|---|---|---|---|---|---|---|---|---|---|")
+    for name, problem_of in LARGE.items():
+        print(large_row(name, problem_of(), flow_bench, lemon), flush=True)
 
 
 def lemon_in(room):
@@ -136,7 +232,7 @@ def main():
     program = sys.argv[1] if len(sys.argv) > 1 else str(HERE.parent / "mhlink")
     flow_bench = sys.argv[2] if len(sys.argv) > 2 else str(HERE.parent / "crates/flow_bench/out/flow_bench")
     if not Path(flow_bench).is_file():
-        sys.exit(f"{flow_bench} is not built: run `rt run <stdin` in crates/flow_bench")
+        sys.exit(f"{flow_bench} is not built: run `rt run -- flow <stdin` in crates/flow_bench")
     with tempfile.TemporaryDirectory() as room:
         lemon = lemon_in(room)
         print("| Problem | phases | bound | plan | 2 workers | 4 workers | reading | planning | phases of the whole | max_flow | LEMON |")
@@ -157,6 +253,8 @@ def main():
             _, count, _, bound = phases.split()
             row = f"{whole:.1f} | {two:.1f} | {four:.1f} | {reading:.1f} | {whole - reading:.1f} | {rounds} | {alone:.2f} | {beside}"
             print(f"| {name} | {count} | {bound} | {row} |", flush=True)
+        print()
+        large_table(flow_bench, lemon)
 
 
 if __name__ == "__main__":

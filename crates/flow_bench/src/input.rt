@@ -6,7 +6,7 @@ use crate::numbers::Numbers;
 use mh_network::{LinkRow, Listing, Problem};
 use std::alloc::Global;
 
-/// How often a greatest flow is to be found, and of which problem.
+/// How often a work is to be done, and on which problem.
 #[derive(Drop)]
 pub(crate) struct Input {
     pub(crate) rounds: u64,
@@ -25,7 +25,7 @@ impl Input {
         let charges = numbers.list(alloc, links)?;
         let costs = numbers.list(alloc, points)?;
         let rows = rows(alloc, &mut numbers, &gains, &charges)?;
-        let problem = Problem::new(alloc, &rows, &costs)?;
+        let problem = Problem::large(rows, costs)?;
         Ok(Input { rounds, problem })
     }
 }
