@@ -5,7 +5,7 @@ use crate::machines::{try_run, try_steps};
 use crate::offices;
 use crate::openings::{try_new, try_open};
 use crate::passes::{Called, try_call};
-use crate::plans::try_plan;
+use crate::plans::{try_large_plan, try_large_problem, try_plan};
 use crate::settling::try_settle;
 use crate::trees::{Maker, try_maker};
 use std::alloc::Global;
@@ -21,6 +21,10 @@ pub(crate) enum Subject {
     PlanAlone,
     /// The planner on four workers.
     PlanByFour,
+    /// `Problem::large`.
+    LargeProblem,
+    /// The planner on four workers, over a problem past the limits of `Problem::new`.
+    LargePlan,
     /// `Book::open`.
     BookOpening,
     /// `Book::problem`.
@@ -44,7 +48,7 @@ pub(crate) enum Subject {
 }
 
 /// All subjects with their words.
-const ALL: [(&str, Subject); 38] = [
+const ALL: [(&str, Subject); 40] = [
     ("constant", Subject::Tree(Maker::Constant)),
     ("identity", Subject::Tree(Maker::Identity)),
     ("operation", Subject::Tree(Maker::Operation)),
@@ -62,6 +66,8 @@ const ALL: [(&str, Subject); 38] = [
     ("chain", Subject::Tree(Maker::Chain)),
     ("plan-alone", Subject::PlanAlone),
     ("plan-by-four", Subject::PlanByFour),
+    ("large-problem", Subject::LargeProblem),
+    ("large-plan", Subject::LargePlan),
     ("book-opening", Subject::BookOpening),
     ("book-problem", Subject::BookProblem),
     ("book-flush", Subject::Book(Change::Flush)),
@@ -107,6 +113,8 @@ pub(crate) fn try_subject<R: Print + Threads + Wait + Sync>(
         Subject::Tree(maker) => try_maker(rt, alloc, maker),
         Subject::PlanAlone => try_plan(rt, alloc, 1),
         Subject::PlanByFour => try_plan(rt, alloc, 4),
+        Subject::LargeProblem => try_large_problem(rt, alloc),
+        Subject::LargePlan => try_large_plan(rt, alloc),
         Subject::BookOpening => books::try_opening(rt, alloc),
         Subject::BookProblem => books::try_problem(rt, alloc),
         Subject::Book(change) => books::try_change(rt, alloc, change),
