@@ -1,0 +1,5 @@
+mod Lines
+mod NameTexts
+mod Needs
+mod Reading
+mod Streaming

@@ -1,0 +1,59 @@
+-- What is read of a reader's bytes, chunk by chunk.
+use Rattle.std.proofs.Common.{◌≡◌, ◌⊎◌, ℕ, List, [], ◌++◌, Option, Some, None, Result, Ok, Err, IfOk, IfErr, IfSome, refl, sym, ap, ◌∙◌, inl, inr}
+use Rattle.std.specs.Io.KnownBytes.{Consumes, IsAtEnd}
+use Rattle.std.proofs.lemmas.List.{append_assoc}
+use Rattle.mh_profile.specs.declared.fault.Fault.{Fault}
+use Rattle.mh_profile.specs.declared.profile.Profile.{Profile}
+use Rattle.mh_profile.specs.declared.reader.LineReader.{LineReader}
+use Rattle.mh_profile.specs.Faults.{GivesAt}
+use Rattle.mh_profile.specs.Inputs.{IsFaultOfLines}
+use Rattle.mh_profile.specs.Profiles.{profile_of}
+use Rattle.mh_profile.specs.Readers.{resumed, Takes}
+use Rattle.mh_profile.specs.Streams.{IsUnread}
+
+-- a reader that has taken these bytes, the first of an input
+abbrev pub HasTaken : List ℕ → LineReader → Type 0
+HasTaken front r = (rest : List ℕ) → profile_of (front ++ rest) ≡ resumed r rest
+
+pub more_taken : (front bytes : List ℕ) (r next : LineReader) → HasTaken front r → Takes r bytes (Ok next) → HasTaken (front ++ bytes) next
+more_taken front bytes r next taken more = λ rest. ap profile_of (append_assoc front bytes rest) ∙ (taken (bytes ++ rest) ∙ more rest)
+
+module _ (H : Type 0) where
+  told : (input : List ℕ) (s : Result Profile Fault) → GivesAt s (profile_of input) → IfErr s (IsUnread IsFaultOfLines (Some input) H)
+  told input (Ok x) gives = tt
+  told input (Err e) (inl memory) = inl memory
+  told input (Err e) (inr fails) = inr (inr fails)
+
+  given : (input : List ℕ) (s : Result Profile Fault) → GivesAt s (profile_of input) → IfOk s (λ x. profile_of input ≡ Ok x)
+  given input (Ok x) gives = gives
+  given input (Err e) gives = tt
+
+  whole : (input : List ℕ) (front rest : List ℕ) (r : LineReader) → HasTaken front r → input ≡ front ++ rest → rest ≡ [] → profile_of input ≡ resumed r []
+  whole input front rest r taken is none = ap profile_of is ∙ (taken rest ∙ ap (resumed r) none)
+
+  unknown_told : (s : Result Profile Fault) → IfErr s (IsUnread IsFaultOfLines None H)
+  unknown_told (Ok x) = tt
+  unknown_told (Err e) = inr (inr tt)
+
+  unknown_given : (s : Result Profile Fault) → IfOk s (λ x. IfSome None (λ (input : List ℕ). profile_of input ≡ Ok x))
+  unknown_given (Ok x) = tt
+  unknown_given (Err e) = tt
+
+  -- the end of the input
+  pub all_read : (initial now : Option (List ℕ)) (front : List ℕ) (r : LineReader) (s : Result Profile Fault) → Consumes initial now front → IsAtEnd now → HasTaken front r
+      → GivesAt s (resumed r []) → IfOk s (λ x. IfSome initial (λ input. profile_of input ≡ Ok x)) × IfErr s (IsUnread IsFaultOfLines initial H)
+  all_read None now front r s consumed end taken gives = (unknown_given s, unknown_told s)
+  all_read (Some input) None front r s consumed end taken gives = absurd consumed
+  all_read (Some input) (Some rest) front r s consumed end taken gives =
+      let is = whole input front rest r taken consumed end in
+      let gives′ : GivesAt s (profile_of input) = rw is gives in
+      (given input s gives′, told input s gives′)
+
+  -- a fault before it
+  pub fails_early : (initial now : Option (List ℕ)) (front bytes : List ℕ) (r : LineReader) (e : Fault) → Consumes initial now (front ++ bytes) → HasTaken front r
+      → Takes r bytes (Err e) → IsUnread IsFaultOfLines initial H e
+  fails_early initial now front bytes r e consumed taken (inl memory) = inl memory
+  fails_early None now front bytes r e consumed taken (inr fails) = inr (inr tt)
+  fails_early (Some input) None front bytes r e consumed taken (inr fails) = absurd consumed
+  fails_early (Some input) (Some rest) front bytes r e consumed taken (inr fails) =
+      inr (inr (ap profile_of (consumed ∙ append_assoc front bytes rest) ∙ (taken (bytes ++ rest) ∙ fails rest)))

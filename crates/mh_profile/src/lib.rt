@@ -1,0 +1,35 @@
+//! Profiles of a virtual machine: problems of selection as JSON Lines with names.
+//!
+//! A line of a profile is a point or a link, as JSON:
+//!
+//! ```
+//! {"point": "A has no subclass", "cost": 2500}
+//! {"link": "f@12 A", "gain": 1500, "needs": ["A has no subclass"], "charge": 20, "eligible": true}
+//! ```
+//!
+//! A point stands before the links that need it, and no two points have the same name; links may.
+//! `charge` is 0, `eligible` true and `needs` empty where absent; `needs` stand in any order, and
+//! each once. A line of white space says nothing, and the last line may lack its end. A line has at
+//! most 1,048,576 bytes, its end not counted, and all lines together, ends counted, 67,108,864.
+//! There are at most 1,048,576 points and as many links. A fault has the number of its line; that
+//! gains, or costs and charges, add up to more than 2^62 is a fault of the last line.
+//!
+//! ```
+//! let named = read_profile(alloc, &mut reader)?.into_problem()?;
+//! ```
+#![tactic(auto)]
+
+mod fault;
+mod line;
+mod named;
+mod names;
+mod profile;
+mod reader;
+mod streams;
+
+pub use fault::{Fault, ProfileFault};
+pub use named::NamedProblem;
+pub use names::{LinkNames, PointNames};
+pub use profile::Profile;
+pub use reader::LineReader;
+pub use streams::read_profile;

@@ -1,0 +1,195 @@
+//! A line of a profile: a point, or a link.
+ghost use Rattle.std.specs.Prelude.{◌≡◌, codes, IfErr};
+ghost use Rattle.serde_json.specs.Find.{get};
+ghost use Rattle.serde_json.specs.View.{view};
+ghost use Rattle.mh_text.specs.Gives.{Gives as GivesInput};
+ghost use Rattle.mh_text.specs.Inputs.{json_of_input};
+ghost use Rattle.mh_text.specs.Problems.{eligible_where};
+ghost use Rattle.mh_profile.specs.Faults.{Gives, GivesView, IsOfInput, of_bytes};
+ghost use Rattle.mh_profile.specs.Lines.{is_blank};
+ghost use Rattle.mh_profile.specs.Profiles.{amount_of, amount_where, entry_of, link_of, needs_among, needs_where, place_named, point_of, row_of, text_of_line};
+
+use crate::fault::ProfileFault;
+use crate::names::PointNames;
+use crate::profile::Profile;
+use mh_base::are_below;
+use mh_network::{LinkRow, Listing};
+use mh_text::readers::{count, each, list, member, read_json, text};
+use mh_text::{InputFault, TextFault};
+use serde_json::Value;
+use std::alloc::Global;
+
+/// The greatest amount of a line: 2^63 - 1.
+const MOST: u64 = 0x7fff_ffff_ffff_ffff;
+
+/// An amount that has to be there.
+fn amount(value: &Value, key: &str) -> Result<u64, InputFault>
+    ensures value { GivesInput (λ x. x) result (amount_of key.now (view value.now)) }
+{
+    count(member(value, key)?, MOST)
+}
+
+/// The charge of a link, 0 where it is absent.
+fn charge(link: &Value) -> Result<u64, InputFault>
+    ensures value { GivesInput (λ x. x) result
+        (amount_where (get (codes "charge") (view link.now))) }
+{
+    match link.get("charge") {
+        Some(charge) => count(charge, MOST),
+        None => Ok(0),
+    }
+}
+
+/// Whether a link may be chosen, which it may where nothing is said.
+fn eligible(link: &Value) -> Result<bool, InputFault>
+    ensures value { GivesInput (λ x. x) result
+        (eligible_where (get (codes "eligible") (view link.now))) }
+{
+    match link.get("eligible") {
+        Some(eligible) => eligible.as_bool().ok_or(InputFault::BadShape),
+        None => Ok(true),
+    }
+}
+
+/// The number of the point that a value names, or one past the last.
+fn place(points: &PointNames, name: &Value) -> Result<u32, InputFault>
+    ensures value { GivesInput (λ x. x) result (place_named points.now (view name.now)) }
+{
+    Ok(points.place(text(name)?) as u32)
+}
+
+/// The points that were named, ascending, where each is one of so many and none was named twice.
+fn needs_among_points(points: usize, named: Listing<u32>) -> Result<Listing<u32>, ProfileFault>
+    ensures value { Gives result (needs_among points named) }
+    ensures kind { IfErr result (λ e. IsOfInput e) }
+{
+    if !are_below(named.as_slice(), points) {
+        return Err(ProfileFault::UnknownPoint);
+    }
+    let count = named.len();
+    let mut needs = named.into_vec();
+    needs.sort_unstable();
+    needs.dedup();
+    let needs = Listing::from_vec(needs);
+    if needs.len() == count {
+        Ok(needs)
+    } else {
+        Err(ProfileFault::NeedTwice)
+    }
+}
+
+/// The points that a link needs, none where nothing is said.
+fn needs(alloc: Global, points: &PointNames, link: &Value) -> Result<Listing<u32>, ProfileFault>
+    ensures value { Gives result (needs_where points.now (get (codes "needs") (view link.now))) }
+    ensures kind { IfErr result (λ e. IsOfInput e) }
+{
+    let Some(names) = link.get("needs") else {
+        return Ok(Listing::from_vec(Vec::new(alloc)));
+    };
+    let named = each(alloc, list(names)?, |name| place(points, name))?;
+    needs_among_points(points.len(), named)
+}
+
+/// A link: its gain, its charge, whether it may be chosen, and its needs.
+fn read_row(alloc: Global, points: &PointNames, link: &Value) -> Result<LinkRow, ProfileFault>
+    ensures value { Gives result (row_of points.now (view link.now)) }
+    ensures kind { IfErr result (λ e. IsOfInput e) }
+{
+    let gain = amount(link, "gain")?;
+    let charge = charge(link)?;
+    let eligible = eligible(link)?;
+    let needs = needs(alloc, points, link)?;
+    Ok(LinkRow {
+        gain,
+        eligible,
+        needs,
+        charge,
+    })
+}
+
+/// A profile with the point of line `line`.
+fn read_point(
+    profile: Profile,
+    line: u64,
+    value: &Value,
+    name: &Value,
+) -> Result<Profile, ProfileFault>
+    ensures value { Gives result (point_of line profile (view value.now) (view name.now)) }
+    ensures kind { IfErr result (λ e. IsOfInput e) }
+{
+    let name = text(name)?;
+    let cost = amount(value, "cost")?;
+    profile.with_point(line, name, cost)
+}
+
+/// A profile with the link of line `line`.
+fn read_link(
+    alloc: Global,
+    profile: Profile,
+    line: u64,
+    value: &Value,
+    name: &Value,
+) -> Result<Profile, ProfileFault>
+    ensures value { Gives result (link_of line profile (view value.now) (view name.now)) }
+    ensures kind { IfErr result (λ e. IsOfInput e) }
+{
+    let name = text(name)?;
+    let row = read_row(alloc, &profile.points, value)?;
+    profile.with_link(line, name, row)
+}
+
+/// A profile with the point or the link of line `line`.
+fn read_entry(
+    alloc: Global,
+    profile: Profile,
+    line: u64,
+    value: &Value,
+) -> Result<Profile, ProfileFault>
+    ensures value { Gives result (entry_of line profile (view value.now)) }
+    ensures kind { IfErr result (λ e. IsOfInput e) }
+{
+    if let Some(name) = value.get("point") {
+        return read_point(profile, line, value, name);
+    }
+    match value.get("link") {
+        Some(name) => read_link(alloc, profile, line, value, name),
+        None => Err(ProfileFault::Text(TextFault::Input(InputFault::BadShape))),
+    }
+}
+
+/// Whether bytes are white space alone.
+fn blank(bytes: &[u8]) -> bool
+    ensures value { result ≡ is_blank bytes.now }
+{
+    bytes
+        .iter()
+        .all(|byte| matches!(*byte, b' ' | b'\t' | b'\r'))
+}
+
+/// The JSON value of a line.
+fn parse(alloc: Global, bytes: &[u8]) -> Result<Value, ProfileFault>
+    ensures value { GivesView view result (of_bytes (json_of_input bytes.now)) }
+    ensures kind { IfErr result (λ e. IsOfInput e) }
+{
+    match read_json(alloc, bytes) {
+        Ok(value) => Ok(value),
+        Err(fault) => Err(ProfileFault::from(fault.kind)),
+    }
+}
+
+/// A profile with what line `line` says, whose bytes are these.
+pub(crate) fn read_line(
+    alloc: Global,
+    profile: Profile,
+    line: u64,
+    bytes: &[u8],
+) -> Result<Profile, ProfileFault>
+    ensures value { Gives result (text_of_line line profile bytes.now) }
+    ensures kind { IfErr result (λ e. IsOfInput e) }
+{
+    if blank(bytes) {
+        return Ok(profile);
+    }
+    let value = parse(alloc, bytes)?;
+    read_entry(alloc, profile, line, &value)
+}

@@ -1,0 +1,51 @@
+//! Problems whose links and points have names.
+ghost use Rattle.std.specs.Prelude.{◌≡◌, IfOk, IfErr};
+ghost use Rattle.mh_profile.specs.Inputs.{IsNamed, IsNotMade};
+
+use crate::fault::{Fault, ProfileFault};
+use crate::names::{LinkNames, PointNames};
+use crate::profile::Profile;
+use mh_network::Problem;
+use mh_text::{InputFault, TextFault};
+
+/// A problem, and the names of its links and points.
+#[derive(Drop)]
+pub struct NamedProblem {
+    /// The names of the points, by number.
+    pub points: PointNames,
+    /// The names of the links, by number.
+    pub links: LinkNames,
+    /// The problem, by number.
+    pub problem: Problem,
+}
+
+impl Profile {
+    /// The problem of a profile. It needs no memory.
+    ///
+    /// What `Problem::large` refuses is a fault of the last line that is a point or a link: the
+    /// gains, or the costs and charges, add up to more than 2^62.
+    pub fn into_problem(self) -> Result<NamedProblem, Fault>
+        ensures made { IfOk result (IsNamed self) }
+        ensures refused { IfErr result (IsNotMade self) }
+    {
+        let Profile {
+            points,
+            costs,
+            names,
+            links,
+            last,
+        } = self;
+        let (rows, costs) = (links.into_vec(), costs.into_vec());
+        match Problem::large(rows, costs) {
+            Ok(problem) => Ok(NamedProblem {
+                points,
+                links: names,
+                problem,
+            }),
+            Err(cause) => Err(Fault {
+                kind: ProfileFault::Text(TextFault::Input(InputFault::Problem(cause))),
+                at: last,
+            }),
+        }
+    }
+}

@@ -1,0 +1,90 @@
+//! What the lines of a profile say.
+ghost use Rattle.std.specs.Prelude.{◌≡◌, IfErr};
+ghost use Rattle.mh_profile.specs.Faults.{Gives, IsOfInput};
+ghost use Rattle.mh_profile.specs.Profiles.{nothing, too_many as fault_of_many, with_link, with_point};
+
+use crate::fault::ProfileFault;
+use crate::names::{LinkNames, PointNames};
+use mh_network::{GREATEST_COUNT, LinkRow, Listing, ProblemFault};
+use mh_text::{InputFault, TextFault};
+use std::alloc::Global;
+
+/// The points and the links of the lines that were read, each by number in the order of the lines.
+#[derive(Drop)]
+pub struct Profile {
+    /// The names of the points.
+    pub points: PointNames,
+    /// The cost of each point.
+    pub costs: Listing<u64>,
+    /// The names of the links.
+    pub names: LinkNames,
+    /// The links, with the numbers of the points that they need.
+    pub links: Listing<LinkRow>,
+    /// The number of the last line that is a point or a link, from 1; 0 where there is none.
+    pub last: u64,
+}
+
+/// More points, or more links, than any problem has.
+fn too_many(cause: ProblemFault) -> ProfileFault
+    ensures value { result ≡ fault_of_many cause }
+{
+    ProfileFault::Text(TextFault::Input(InputFault::Problem(cause)))
+}
+
+impl Profile {
+    /// No points and no links.
+    pub fn new(alloc: Global) -> Profile
+        ensures value { result ≡ nothing }
+    {
+        Profile {
+            points: PointNames::new(alloc),
+            costs: Listing::from_vec(Vec::new(alloc)),
+            names: LinkNames::new(alloc),
+            links: Listing::from_vec(Vec::new(alloc)),
+            last: 0,
+        }
+    }
+
+    /// With one point more, of line `line`.
+    pub(crate) fn with_point(
+        self,
+        line: u64,
+        name: &str,
+        cost: u64,
+    ) -> Result<Profile, ProfileFault>
+        ensures value { Gives result (with_point line self name.now cost) }
+        ensures kind { IfErr result (λ e. IsOfInput e) }
+    {
+        let mut profile = self;
+        if profile.points.contains(name) {
+            return Err(ProfileFault::PointTwice);
+        }
+        if profile.points.len() >= GREATEST_COUNT {
+            return Err(too_many(ProblemFault::TooManyPoints));
+        }
+        profile.points.push(name)?;
+        profile.costs.push(cost)?;
+        profile.last = line;
+        Ok(profile)
+    }
+
+    /// With one link more, of line `line`.
+    pub(crate) fn with_link(
+        self,
+        line: u64,
+        name: &str,
+        link: LinkRow,
+    ) -> Result<Profile, ProfileFault>
+        ensures value { Gives result (with_link line self name.now link) }
+        ensures kind { IfErr result (λ e. IsOfInput e) }
+    {
+        let mut profile = self;
+        if profile.links.len() >= GREATEST_COUNT {
+            return Err(too_many(ProblemFault::TooManyLinks));
+        }
+        profile.names.push(name)?;
+        profile.links.push(link)?;
+        profile.last = line;
+        Ok(profile)
+    }
+}

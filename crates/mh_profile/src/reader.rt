@@ -1,0 +1,218 @@
+//! Lines from bytes, as they come.
+ghost use Rattle.std.specs.Prelude.{◌≡◌, ◌∷◌, ◌++◌, ◌≤◌, ◌+◌, ◌⊎◌, ◌==◌, ◌&&◌, [], List, ℕ, length, nat_le, IfOk, IfErr, IfSome, IfNone};
+ghost use Rattle.mh_text.specs.Bytes.{most_bytes};
+ghost use Rattle.std.specs.List.{position};
+ghost use Rattle.mh_profile.specs.Faults.{GivesAt, IsOfInput, at_line, no_memory, outside};
+ghost use Rattle.mh_profile.specs.Limits.{most_in_all};
+ghost use Rattle.mh_profile.specs.Lines.{IsInLine};
+ghost use Rattle.mh_profile.specs.Profiles.{profile_of, text_of_line};
+ghost use Rattle.mh_profile.specs.Readers.{resumed, taken_by, IsBegun, IsReading, Takes};
+
+use crate::fault::{Fault, ProfileFault};
+use crate::line::read_line;
+use crate::profile::Profile;
+use mh_base::Listing;
+use mh_text::{InputFault, TextFault};
+use std::alloc::Global;
+
+/// The most bytes of a line, its end not counted.
+const LONGEST_LINE: usize = 1_048_576;
+
+/// The most bytes of all lines together.
+const LIMIT: u64 = 67_108_864;
+
+/// A profile, as far as its lines were read. It holds the line that has begun, and no other.
+#[derive(Drop)]
+pub struct LineReader {
+    alloc: Global,
+    /// What the lines so far say.
+    profile: Profile,
+    /// The bytes of the line that has begun.
+    line: Listing<u8>,
+    /// The number of that line, from 1.
+    number: u64,
+    /// How many bytes stand before that line.
+    offset: u64,
+}
+
+/// Where the first line of bytes ends.
+fn line_end(bytes: &[u8]) -> Option<usize>
+    ensures value { result ≡ position (λ b. b == 10) bytes.now }
+{
+    bytes.iter().position(|byte| *byte == b'\n')
+}
+
+/// The first line of bytes, and what stands behind its end, where one ends in them.
+fn split_line(bytes: &[u8]) -> Option<(&[u8], &[u8])>
+    ensures found { IfSome result (λ parts. IsInLine parts.0.now
+        × (bytes.now ≡ (parts.0.now ++ 10 ∷ []) ++ parts.1.now)) }
+    ensures none { IfNone result (IsInLine bytes.now) }
+{
+    match line_end(bytes) {
+        Some(end) => Some((&bytes[..end], &bytes[end + 1..])),
+        None => None,
+    }
+}
+
+/// A fault of line `at`; out of memory is that of no line.
+fn placed(kind: ProfileFault, at: u64) -> Fault
+    ensures told { (result ≡ outside no_memory) ⊎ (result ≡ record { kind = kind; at = at }) }
+    ensures memory { kind ≡ no_memory → result ≡ outside no_memory }
+    ensures other { (kind ≡ no_memory → ⊥) → result ≡ record { kind = kind; at = at } }
+    ensures kind { result.kind ≡ kind }
+{
+    match kind {
+        ProfileFault::Text(TextFault::Input(InputFault::NoMemory)) => Fault { kind, at: 0 },
+        _ => Fault { kind, at },
+    }
+}
+
+/// A profile with what line `number` says, whose bytes are these.
+fn read_numbered(
+    alloc: Global,
+    profile: Profile,
+    number: u64,
+    bytes: &[u8],
+) -> Result<Profile, Fault>
+    ensures value { GivesAt result (at_line number (text_of_line number profile bytes.now)) }
+    ensures kind { IfErr result (λ e. IsOfInput e.kind) }
+{
+    match read_line(alloc, profile, number, bytes) {
+        Ok(profile) => Ok(profile),
+        Err(kind) => Err(placed(kind, number)),
+    }
+}
+
+/// Whether a line of so many bytes, behind so many others, is within the limits.
+fn is_within(offset: u64, length: usize) -> bool
+    requires started { offset ≤ most_in_all + 1 }
+    ensures value { result ≡ (nat_le length most_bytes && nat_le (offset + length) most_in_all) }
+{
+    length <= LONGEST_LINE && offset + length as u64 <= LIMIT
+}
+
+impl LineReader {
+    /// A reader before the first line.
+    pub fn new(alloc: Global) -> LineReader
+        ensures value { (input : List ℕ) → resumed result input ≡ profile_of input }
+        ensures reading { IsReading result }
+    {
+        LineReader {
+            alloc,
+            profile: Profile::new(alloc),
+            line: Listing::from_vec(Vec::new(alloc)),
+            number: 1,
+            offset: 0,
+        }
+    }
+
+    /// With more bytes of the line that has begun.
+    fn with_part(self, part: &[u8]) -> Result<LineReader, Fault>
+        requires begun { IsBegun self }
+        requires whole { IsInLine part.now }
+        ensures reading { IfOk result IsReading }
+        ensures counts { IfOk result (λ next. taken_by next ≡ taken_by self + length part.now) }
+        ensures takes { Takes self part.now result }
+        ensures kind { IfErr result (λ e. IsOfInput e.kind) }
+    {
+        let LineReader {
+            alloc,
+            profile,
+            line,
+            number,
+            offset,
+        } = self;
+        let mut line = line.into_vec();
+        line.extend_from_slice(part)?;
+        let line = Listing::from_vec(line);
+        if !is_within(offset, line.len()) {
+            return Err(Fault {
+                kind: ProfileFault::Text(TextFault::Input(InputFault::TooLong)),
+                at: number,
+            });
+        }
+        Ok(LineReader {
+            alloc,
+            profile,
+            line,
+            number,
+            offset,
+        })
+    }
+
+    /// With the end of the line that has begun, which is read.
+    fn with_end(self) -> Result<LineReader, Fault>
+        requires reading { IsReading self }
+        ensures begun { IfOk result IsBegun }
+        ensures counts { IfOk result (λ next. taken_by next ≡ taken_by self + 1) }
+        ensures takes { Takes self (10 ∷ []) result }
+        ensures kind { IfErr result (λ e. IsOfInput e.kind) }
+    {
+        let LineReader {
+            alloc,
+            profile,
+            line,
+            number,
+            offset,
+        } = self;
+        let profile = read_numbered(alloc, profile, number, line.as_slice())?;
+        let offset = offset + line.len() as u64 + 1;
+        let mut line = line.into_vec();
+        line.clear();
+        Ok(LineReader {
+            alloc,
+            profile,
+            line: Listing::from_vec(line),
+            number: number + 1,
+            offset,
+        })
+    }
+
+    /// With the rest of the line that has begun, and its end.
+    fn with_line(self, part: &[u8]) -> Result<LineReader, Fault>
+        requires begun { IsBegun self }
+        requires whole { IsInLine part.now }
+        ensures begun { IfOk result IsBegun }
+        ensures counts { IfOk result (λ next. taken_by next ≡ taken_by self + length part.now + 1) }
+        ensures takes { Takes self (part.now ++ 10 ∷ []) result }
+        ensures kind { IfErr result (λ e. IsOfInput e.kind) }
+    {
+        self.with_part(part)?.with_end()
+    }
+
+    /// With more bytes, which hold any number of ends of lines.
+    ///
+    /// Fails with the first fault of the lines that end in them, with `TooLong` as soon as a line,
+    /// or all lines, are past their limit, or if memory runs out.
+    pub fn take(self, bytes: &[u8]) -> Result<LineReader, Fault>
+        requires reading { IsReading self }
+        ensures reading { IfOk result IsReading }
+        ensures counts { IfOk result (λ next. taken_by next ≡ taken_by self + length bytes.now) }
+        ensures takes { Takes self bytes.now result }
+        ensures kind { IfErr result (λ e. IsOfInput e.kind) }
+    {
+        let mut reader = self;
+        let mut rest = bytes;
+        while let Some((part, more)) = split_line(rest) {
+            reader = reader.with_line(part)?;
+            rest = more;
+        }
+        reader.with_part(rest)
+    }
+
+    /// The profile, whose last line is the one that has begun.
+    pub fn finish(self) -> Result<Profile, Fault>
+        requires reading { IsReading self }
+        ensures value { GivesAt result (resumed self []) }
+        ensures kind { IfErr result (λ e. IsOfInput e.kind) }
+    {
+        let LineReader {
+            alloc,
+            profile,
+            line,
+            number,
+            ..
+        } = self;
+        read_numbered(alloc, profile, number, line.as_slice())
+    }
+}

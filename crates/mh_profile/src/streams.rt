@@ -1,0 +1,34 @@
+//! Profiles from a reader.
+ghost use Rattle.std.specs.Prelude.{◌≡◌, Ok, List, ℕ, IfErr, IfOk, IfSome};
+ghost use Rattle.mh_text.specs.Bytes.{HasFailed};
+ghost use Rattle.mh_profile.specs.Inputs.{IsFaultOfLines};
+ghost use Rattle.mh_profile.specs.Profiles.{profile_of};
+ghost use Rattle.mh_profile.specs.Streams.{IsHonestReading, IsUnread};
+
+use crate::fault::Fault;
+use crate::profile::Profile;
+use crate::reader::LineReader;
+use mh_text::Watched;
+use std::alloc::Global;
+use std::io::Read;
+
+/// What the lines that the reader gives say.
+///
+/// The input is read to its end, or to its first fault.
+pub fn read_profile<R: Read>(alloc: Global, reader: &mut Watched<R>) -> Result<Profile, Fault>
+    ensures ok { IfOk result (λ x. IfSome (R.remaining reader.old.inner)
+        (λ input. profile_of input ≡ Ok x)) }
+    ensures failed { IfErr result (IsUnread IsFaultOfLines (R.remaining reader.old.inner)
+        (HasFailed reader.old.failures reader.new.failures)) }
+    ensures honest { IsHonestReading result reader.old.failures reader.new.failures }
+{
+    let mut lines = LineReader::new(alloc);
+    let mut buffer = [0u8; 8192];
+    'chunks: loop {
+        let n = reader.read(&mut buffer)?;
+        if n == 0 {
+            return lines.finish();
+        }
+        lines = lines.take(&buffer[..n])?;
+    }
+}
