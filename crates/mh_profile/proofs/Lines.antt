@@ -1,7 +1,7 @@
 -- Lines as they are cut from bytes.
-use Rattle.std.proofs.Common.{◌≡◌, ◌≤◌, ◌<◌, ◌+◌, ℕ, zero, suc, List, [], ◌∷◌, ◌++◌, Bool, true, false, cond, length, take, drop, nat_lt, Some, None, ◌-◌, refl, sym, ap, ◌∙◌, subst, arith, inl, inr, get_or, take-append-drop}
+use Rattle.std.proofs.Common.{◌≡◌, ◌≤◌, ◌<◌, ◌+◌, ℕ, zero, suc, List, [], ◌∷◌, ◌++◌, Bool, true, false, cond, length, take, drop, nat_lt, Some, None, ◌-◌, refl, sym, ap, ◌∙◌, arith, inl, inr, get_or, take-append-drop}
 use Rattle.std.specs.Prelude.{◌==◌}
-use Rattle.std.specs.List.{All, onto_first, position, position_or_len, slice_split}
+use Rattle.std.specs.List.{onto_first, position, position_or_len}
 use Rattle.std.proofs.lemmas.Bool.{cases_lt, eqb-true}
 use Rattle.std.proofs.lemmas.Bool.Decides.{nat_tests}
 use Rattle.std.proofs.lemmas.Grind.{common_steps}

@@ -1,5 +1,5 @@
 -- Names as texts, and as the strings that hold them.
-use Rattle.std.proofs.Common.{◌≡◌, ◌≤◌, ◌<◌, ℕ, List, [], ◌∷◌, ◌++◌, cond, nat_lt, false, length, map, Some, None, String, Global, string_bytes, refl, sym, ◌∙◌, arith}
+use Rattle.std.proofs.Common.{◌≡◌, ◌≤◌, ℕ, List, [], ◌∷◌, ◌++◌, cond, nat_lt, false, length, map, Some, None, String, Global, string_bytes, refl, sym, ◌∙◌, arith}
 use Rattle.std.specs.List.{list_any, position_or_len, position}
 use Rattle.std.specs.Option.{unwrap_or}
 use Rattle.std.specs.Str.{bytes_eq}

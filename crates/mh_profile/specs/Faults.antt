@@ -3,7 +3,6 @@ use Rattle.std.specs.Prelude.{ℕ, ◌≡◌, ◌⊎◌, List, ◌++◌, Result,
 use Rattle.std.specs.Fmt.{decimal}
 use Rattle.mh_text.specs.declared.fault.Fault.{Fault as text_fault}
 use Rattle.mh_text.specs.declared.fault.InputFault.{InputFault}
-use Rattle.mh_text.specs.declared.fault.TextFault.{TextFault}
 use Rattle.mh_text.specs.declared.fault.TextFault.TheVariants.{Input}
 use Rattle.mh_text.specs.Faults as text
 use Rattle.mh_text.specs.Gives as gives
