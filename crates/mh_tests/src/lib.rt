@@ -11,6 +11,8 @@ mod planning;
 #[cfg(test)]
 mod problems;
 #[cfg(test)]
+mod profiles;
+#[cfg(test)]
 mod scripts;
 #[cfg(test)]
 mod streams;
