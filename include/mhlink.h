@@ -120,8 +120,9 @@ uint32_t mhlink_linked(mhlink_machine *machine, size_t site, uint64_t *links);
 /* A line for each point, site and link, as `mhlink run --report` writes them (docs/FORMATS.md). */
 uint32_t mhlink_report(mhlink_machine *machine, uint8_t *buffer, size_t capacity, size_t *length);
 
-/* The planner alone: which links are worth most, of such the fewest, and what they are worth. Needs are numbers of points,
-   of each link ascending, at most 8. */
+/* The planner alone: which links are worth most, of such the fewest, and what they are worth. At most 2^20 links, and as
+   many points, any of which a link may need. Needs are numbers of points, of each link ascending. After any other status
+   than MHLINK_OK `chosen` and `value` are as before. */
 uint32_t mhlink_plan_problem(const uint64_t *costs, size_t points, const mhlink_problem_link *links, size_t count,
                              const uint32_t *needs, size_t all_needs, uint32_t *chosen, size_t capacity, size_t *length,
                              int64_t *value);

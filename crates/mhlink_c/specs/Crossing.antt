@@ -1,46 +1,73 @@
--- What crosses to C of a value, and of the answer to a question.
-use Rattle.std.specs.Prelude.{◌≡◌, ℕ, ℤ, pos, Bool, true, false, length}
+-- What crosses to C of values, and of what a call gave.
+use Rattle.std.specs.Prelude.{◌≡◌, ℕ, ◌^◌, ◌-◌, ◌≤ℤ◌, ℤ, pos, Bool, true, false, List, [], ◌∷◌, drop, length, min, take, Option, Some, None}
 use Rattle.mh_core.specs.declared.reply.Reply.{Reply}
 use Rattle.mh_core.specs.declared.reply.Reply.TheVariants.{Called}
-use Rattle.mh_core.specs.Ledgers.{at, ledger_at}
 use Rattle.mh_core.specs.Outcome.{Outcome}
-use Rattle.mh_core.specs.Outcome.TheVariants.{Value, Thrown}
+use Rattle.mh_core.specs.Outcome.TheVariants as outcome
+use Rattle.mh_core.specs.Value.{Value}
 use Rattle.mh_core.specs.Value.TheVariants.{Int, Long, Boolean, Text}
-use Rattle.mh_core.specs.Runtimes.{RuntimeState}
 use Rattle.mh_type.specs.declared.outcome.Throw.TheVariants.{ArithmeticException, TextTooLong}
-use Rattle.mhlink_c.specs.declared.request.Question.{Question}
-use Rattle.mhlink_c.specs.declared.request.Question.TheVariants as question
 use Rattle.mhlink_c.specs.declared.value.MhlinkReply.{MhlinkReply}
 use Rattle.mhlink_c.specs.declared.value.MhlinkValue.{MhlinkValue}
 
--- an int
-abbrev pub int : ℤ → MhlinkValue
-int n = record { kind = 1; number = n }
+abbrev pub truth_number : Bool → ℤ
+truth_number true = pos 1
+truth_number false = pos 0
+
+abbrev pub value_kind : Value → ℕ
+value_kind (Int n) = 1
+value_kind (Long n) = 2
+value_kind (Boolean b) = 3
+value_kind (Text t) = 4
+
+-- the number, or the count of a text's bytes
+abbrev pub value_number : Value → ℤ
+value_number (Int n) = n
+value_number (Long n) = n
+value_number (Boolean b) = truth_number b
+value_number (Text t) = pos (length t)
+
+-- the bytes that a value has among the texts of a call
+abbrev pub bytes_of : Value → List ℕ
+bytes_of (Text t) = t
+bytes_of _ = []
+
+-- what C passes is this value, whose bytes begin the texts
+pub record IsValue (v : MhlinkValue) (texts : List ℕ) (x : Value) : Type 0 where
+  pub kind : v.kind ≡ value_kind x
+  pub number : v.number ≡ value_number x
+  pub bytes : take (length (bytes_of x)) texts ≡ bytes_of x
+
+-- the values in order, whose bytes stand one behind another
+abbrev pub AreValues : List MhlinkValue → List ℕ → List Value → Type 0
+AreValues [] texts [] = Unit {0}
+AreValues (v ∷ vs) texts (x ∷ xs) = IsValue v texts x × AreValues vs (drop (length (bytes_of x)) texts) xs
+AreValues _ texts _ = ⊥
 
 -- what a reply has of an outcome
 abbrev pub reply_kind : Outcome → ℕ
-reply_kind (Value (Int n)) = 1
-reply_kind (Value (Long n)) = 2
-reply_kind (Value (Boolean b)) = 3
-reply_kind (Value (Text t)) = 4
-reply_kind (Thrown t) = 5
+reply_kind (outcome.Value x) = value_kind x
+reply_kind (outcome.Thrown t) = 5
 
 abbrev pub reply_number : Outcome → ℤ
-reply_number (Value (Int n)) = n
-reply_number (Value (Long n)) = n
-reply_number (Value (Boolean true)) = pos 1
-reply_number (Value (Boolean false)) = pos 0
-reply_number (Value (Text t)) = pos (length t)
-reply_number (Thrown ArithmeticException) = pos 1
-reply_number (Thrown TextTooLong) = pos 2
+reply_number (outcome.Value x) = value_number x
+reply_number (outcome.Thrown ArithmeticException) = pos 1
+reply_number (outcome.Thrown TextTooLong) = pos 2
+
+-- the steps, or the greatest number where they are more
+abbrev pub reply_steps : ℕ → ℕ
+reply_steps steps = min steps (2 ^ 64 - 1)
 
 -- the reply of a call
 abbrev pub IsReply : MhlinkReply → Reply → Type 0
-IsReply r (Called o steps) = (r.kind ≡ reply_kind o) × (r.number ≡ reply_number o)
+IsReply r (Called o steps) = (r.kind ≡ reply_kind o) × ((r.number ≡ reply_number o) × (r.steps ≡ reply_steps steps))
 IsReply r _ = ⊥
 
--- a number that answers a question about hits; of other questions nothing is said
-abbrev pub Tells : RuntimeState → Question → ℕ → Type 0
-Tells r (question.Total j) n = n ≡ at r.book.totals.total j
-Tells r (question.Hits w j) n = n ≡ at (ledger_at r.ledgers w).unflushed j
-Tells r _ n = Unit {0}
+-- the text that a call gave, if it gave one
+abbrev pub text_of_outcome : Outcome → Option (List ℕ)
+text_of_outcome (outcome.Value (Text t)) = Some t
+text_of_outcome _ = None
+
+abbrev pub text_of_reply : Reply → Option (List ℕ)
+text_of_reply (Called o steps) = text_of_outcome o
+text_of_reply _ = None

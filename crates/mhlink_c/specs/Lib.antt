@@ -1,3 +1,12 @@
 pub mod Held
+pub mod Hosts
+pub mod Statuses
+pub mod Inputs
+pub mod Buffers
 pub mod Crossing
+pub mod Calls
+pub mod Questions
+pub mod Changes
+pub mod Opening
+pub mod Texts
 pub mod Problems

@@ -1,14 +1,23 @@
--- The problem that C passes as arrays, and what is chosen.
-use Rattle.std.specs.Prelude.{ℕ, ◌≡◌, ◌==◌, List, not, take, drop, map, ℤ}
+-- The problem that C passes as arrays, what is chosen, and why nothing is.
+use Rattle.std.specs.Prelude.{ℕ, ◌≡◌, ◌⊎◌, ◌+◌, ◌≤◌, ◌==◌, List, All, length, not, take, drop, map, ℤ}
 use Rattle.std.specs.List.Sorted.{IsStrictlyIncreasing}
+use Rattle.mh_base.specs.Tests.{Passes, Refuses}
+use Rattle.mh_network.specs.declared.fault.ProblemFault.{ProblemFault}
 use Rattle.mh_network.specs.declared.link_row.LinkRow.{LinkRow}
-use Rattle.mh_network.specs.Problems.{ProblemData}
+use Rattle.mh_network.specs.Problems.{ProblemData, large_tests, problem_of}
 use Rattle.mh_network.specs.Selection.{IsLeast, member, worth}
+use Rattle.mhlink_c.specs.Statuses.{no_memory, of_problem}
+use Rattle.mhlink_c.specs.declared.fault.Fault.{Fault}
+use Rattle.mhlink_c.specs.declared.fault.Fault.TheVariants.{Unknown, Short}
 use Rattle.mhlink_c.specs.declared.planning.MhlinkLink.{MhlinkLink}
 
 -- the needs of a link: so many of all from the first
 abbrev pub needs_of : List ℕ → MhlinkLink → List ℕ
 needs_of needs l = take l.count (drop l.first needs)
+
+-- the needs of a link stand among all
+abbrev pub HasNeeds : List ℕ → MhlinkLink → Type 0
+HasNeeds needs l = l.first + l.count ≤ length needs
 
 abbrev pub row_of : List ℕ → MhlinkLink → LinkRow
 row_of needs l = record { gain = l.gain; eligible = not (l.eligible == 0); needs = needs_of needs l; charge = l.charge }
@@ -21,3 +30,9 @@ pub record IsChoice (P : ProblemData) (links : List ℕ) (value : ℤ) : Type 0 
   pub least : IsLeast P (member links)
   pub ascending : IsStrictlyIncreasing links
   pub is_worth : value ≡ worth P (member links)
+
+-- needs that are not there, out of memory, or the first failing test of a large problem
+abbrev pub RefusesRows : List ℕ → List MhlinkLink → List ℕ → Fault → Type 0
+RefusesRows needs links costs e =
+    ((All (HasNeeds needs) links → ⊥) × (e ≡ Unknown)) ⊎ (e ≡ no_memory)
+    ⊎ ((fault : ProblemFault) × ((e ≡ of_problem fault) × Refuses (large_tests (rows_of needs links) costs) fault))

@@ -1,6 +1,8 @@
 //! Bytes and numbers into buffers of the caller's.
 
-ghost use Rattle.std.specs.Prelude.{◌≡◌, ◌<◌, length, take, OnErr, OnOk};
+ghost use Rattle.std.specs.Prelude.{◌≡◌, IfErr, OnErr, OnOk};
+ghost use Rattle.mhlink_c.specs.Buffers.{IsCopied, IsTooShort};
+ghost use Rattle.mhlink_c.specs.declared.fault.Fault.TheVariants.{Short};
 
 use crate::fault::Fault;
 
@@ -8,9 +10,8 @@ use crate::fault::Fault;
 ///
 /// Refused with `Short` where the buffer is shorter, which then is left alone.
 pub(crate) fn copy<T: Copy>(from: &[T], buffer: &mut [T], count: &mut usize) -> Result<(), Fault>
-    ensures count { count.new ≡ length from.now }
-    ensures copied { OnOk result (take count.new buffer.new ≡ from.now) }
-    ensures short { OnErr result (length buffer.old < length from.now) }
+    ensures copied { OnOk result (IsCopied from.now count.new buffer.new) }
+    ensures short { IfErr result (λ e. (e ≡ Short) × IsTooShort from.now count.new buffer.old) }
     ensures same { OnErr result (buffer.new ≡ buffer.old) }
 {
     *count = from.len();

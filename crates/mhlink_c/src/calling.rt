@@ -1,10 +1,9 @@
 //! Calls.
 
-ghost use Rattle.std.specs.Prelude.{◌≡◌, ◌≢◌, ◌∷◌, [], ℤ, true, IfOk, OnErr, OnOk};
-ghost use Rattle.mh_core.specs.Legal.{answer_of_call};
-ghost use Rattle.mh_core.specs.Runtimes.{CountsHit};
-ghost use Rattle.mh_core.specs.Value.TheVariants.{Int};
-ghost use Rattle.mhlink_c.specs.Crossing.{IsReply, int};
+ghost use Rattle.std.specs.Prelude.{◌≡◌, ◌≢◌, true, IfErr, IfOk, OnErr};
+ghost use Rattle.mhlink_c.specs.Calls.{Calls, RefusesCall};
+ghost use Rattle.mhlink_c.specs.Statuses.{status_of};
+ghost use Rattle.mhlink_c.specs.declared.fault.Fault.{Fault as FaultOf};
 
 use crate::fault::Fault;
 use crate::handle::MhlinkMachine;
@@ -27,13 +26,12 @@ fn call_held(machine: MhlinkMachine, call: Call<'_>) -> (MhlinkMachine, Result<M
     requires full { machine.full ≡ true }
     ensures full { result.0.full ≡ true }
     ensures kept { OnErr result.1 (result.0.value ≡ machine.value) }
-    ensures book { result.0.value.book ≡ machine.value.book }
-    ensures answer { (n : ℤ) → call.entry.values.now ≡ int n ∷ [] → IfOk result.1 (λ reply. IsReply reply
-        (answer_of_call machine.value.book.definition machine.value.book.records call.entry.site
-        (Int n ∷ []))) }
-    ensures counted { (n : ℤ) → call.entry.values.now ≡ int n ∷ [] → OnOk result.1
-        (CountsHit machine.value.book.definition call.entry.worker call.entry.site (Int n ∷ [])
-        machine.value.ledgers result.0.value.ledgers) }
+    ensures book { result.0.value.runtime.book ≡ machine.value.runtime.book }
+    ensures scope { result.0.value.scope ≡ machine.value.scope }
+    ensures answer { IfOk result.1 (λ reply. Calls machine.value call.entry.worker call.entry.site
+        call.entry.values.now call.entry.texts.now reply result.0.value) }
+    ensures refused { IfErr result.1 (RefusesCall machine.value call.entry.worker call.entry.site
+        call.entry.values.now call.entry.texts.now) }
 {
     let mut host = machine.into_box();
     let reply = host.call(call.alloc, call.worker, call.site, call.values, call.texts);
@@ -55,13 +53,13 @@ pub extern "C" fn mhlink_call(
     requires full { machine.old.full ≡ true }
     ensures full { machine.new.full ≡ true }
     ensures kept { result ≢ 0 → machine.new.value ≡ machine.old.value }
-    ensures book { machine.new.value.book ≡ machine.old.value.book }
-    ensures answer { (n : ℤ) → values.now ≡ int n ∷ [] → result ≡ 0 → IsReply reply.new
-        (answer_of_call machine.old.value.book.definition machine.old.value.book.records site
-        (Int n ∷ [])) }
-    ensures counted { (n : ℤ) → values.now ≡ int n ∷ [] → result ≡ 0 → CountsHit
-        machine.old.value.book.definition worker site (Int n ∷ []) machine.old.value.ledgers
-        machine.new.value.ledgers }
+    ensures untouched { result ≢ 0 → reply.new ≡ reply.old }
+    ensures book { machine.new.value.runtime.book ≡ machine.old.value.runtime.book }
+    ensures scope { machine.new.value.scope ≡ machine.old.value.scope }
+    ensures answer { result ≡ 0 → Calls machine.old.value worker site values.now texts.now reply.new
+        machine.new.value }
+    ensures refused { result ≢ 0 → (e : FaultOf) × ((result ≡ status_of e)
+        × RefusesCall machine.old.value worker site values.now texts.now e) }
 {
     let call = Call {
         alloc,

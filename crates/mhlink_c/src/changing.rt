@@ -1,6 +1,10 @@
 //! What changes a machine beside calls.
 
-ghost use Rattle.std.specs.Prelude.{◌≡◌, ◌≢◌, true};
+ghost use Rattle.std.specs.Prelude.{◌≡◌, ◌≢◌, ◌⊎◌, true};
+ghost use Rattle.mh_core.specs.declared.record.Record.TheVariants.{Invalidated, Snapped, Installed};
+ghost use Rattle.mhlink_c.specs.Changes.{Flushes, Installs, PublishesBest, PublishesOffer, Records, RefusesBest, RefusesOffer, RefusesRecord, RefusesTarget, RefusesToFlush, Retargets, TakesSnapshot};
+ghost use Rattle.mhlink_c.specs.Statuses.{no_memory, status_of};
+ghost use Rattle.mhlink_c.specs.declared.fault.Fault.{Fault as FaultOf};
 
 use crate::handle::MhlinkMachine;
 use crate::held::make_change;
@@ -12,6 +16,9 @@ use std::alloc::Global;
 pub extern "C" fn mhlink_flush(alloc: Global, machine: &mut MhlinkMachine, worker: u32) -> u32
     requires full { machine.old.full ≡ true }
     ensures full { machine.new.full ≡ true }
+    ensures flushed { result ≡ 0 → Flushes machine.old.value worker machine.new.value }
+    ensures refused { result ≢ 0 → (e : FaultOf) × ((result ≡ status_of e)
+        × RefusesToFlush machine.old.value worker e) }
     ensures kept { result ≢ 0 → machine.new.value ≡ machine.old.value }
 {
     let mut nothing = 0;
@@ -29,6 +36,9 @@ pub extern "C" fn mhlink_target(
 ) -> u32
     requires full { machine.old.full ≡ true }
     ensures full { machine.new.full ≡ true }
+    ensures taken { result ≡ 0 → Retargets machine.old.value site tree.now machine.new.value }
+    ensures refused { result ≢ 0 → (e : FaultOf) × ((result ≡ status_of e)
+        × RefusesTarget machine.old.value site tree.now e) }
     ensures kept { result ≢ 0 → machine.new.value ≡ machine.old.value }
 {
     let mut nothing = 0;
@@ -44,6 +54,10 @@ pub extern "C" fn mhlink_invalidate(
 ) -> u32
     requires full { machine.old.full ≡ true }
     ensures full { machine.new.full ≡ true }
+    ensures taken { result ≡ 0 → Records machine.old.value (Invalidated points.now)
+        machine.new.value }
+    ensures refused { result ≢ 0 → (e : FaultOf) × ((result ≡ status_of e)
+        × ((e ≡ no_memory) ⊎ RefusesRecord machine.old.value (Invalidated points.now) e)) }
     ensures kept { result ≢ 0 → machine.new.value ≡ machine.old.value }
 {
     let mut nothing = 0;
@@ -59,7 +73,11 @@ pub extern "C" fn mhlink_snapshot(
 ) -> u32
     requires full { machine.old.full ≡ true }
     ensures full { machine.new.full ≡ true }
+    ensures taken { result ≡ 0 → TakesSnapshot machine.old.value number.new machine.new.value }
+    ensures refused { result ≢ 0 → (e : FaultOf) × ((result ≡ status_of e)
+        × RefusesRecord machine.old.value Snapped e) }
     ensures kept { result ≢ 0 → machine.new.value ≡ machine.old.value }
+    ensures untouched { result ≢ 0 → number.new ≡ number.old }
 {
     make_change(alloc, machine, Change::Snapshot, number)
 }
@@ -75,7 +93,12 @@ pub extern "C" fn mhlink_plan(
 ) -> u32
     requires full { machine.old.full ≡ true }
     ensures full { machine.new.full ≡ true }
+    ensures taken { result ≡ 0 → PublishesBest machine.old.value snapshot number.new
+        machine.new.value }
+    ensures refused { result ≢ 0 → (e : FaultOf) × ((result ≡ status_of e)
+        × RefusesBest machine.old.value snapshot e) }
     ensures kept { result ≢ 0 → machine.new.value ≡ machine.old.value }
+    ensures untouched { result ≢ 0 → number.new ≡ number.old }
 {
     make_change(alloc, machine, Change::Plan(snapshot), number)
 }
@@ -91,7 +114,12 @@ pub extern "C" fn mhlink_offer(
 ) -> u32
     requires full { machine.old.full ≡ true }
     ensures full { machine.new.full ≡ true }
+    ensures taken { result ≡ 0 → PublishesOffer machine.old.value snapshot plan.now number.new
+        machine.new.value }
+    ensures refused { result ≢ 0 → (e : FaultOf) × ((result ≡ status_of e)
+        × RefusesOffer machine.old.value snapshot plan.now e) }
     ensures kept { result ≢ 0 → machine.new.value ≡ machine.old.value }
+    ensures untouched { result ≢ 0 → number.new ≡ number.old }
 {
     make_change(alloc, machine, Change::Offer { snapshot, plan }, number)
 }
@@ -106,7 +134,11 @@ pub extern "C" fn mhlink_install(
 ) -> u32
     requires full { machine.old.full ≡ true }
     ensures full { machine.new.full ≡ true }
+    ensures taken { result ≡ 0 → Installs machine.old.value plan linked.new machine.new.value }
+    ensures refused { result ≢ 0 → (e : FaultOf) × ((result ≡ status_of e)
+        × RefusesRecord machine.old.value (Installed plan) e) }
     ensures kept { result ≢ 0 → machine.new.value ≡ machine.old.value }
+    ensures untouched { result ≢ 0 → linked.new ≡ linked.old }
 {
     make_change(alloc, machine, Change::Install(plan), linked)
 }

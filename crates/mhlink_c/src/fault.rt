@@ -1,6 +1,7 @@
 //! Why an export did nothing, and the numbers that C gets for it.
 
-ghost use Rattle.std.specs.Prelude.{◌≡◌, ◌≢◌, ◌≤◌, OnErr, OnOk};
+ghost use Rattle.std.specs.Prelude.{◌≡◌, ◌≢◌, ◌≤◌, IfErr, OnErr, OnOk};
+ghost use Rattle.mhlink_c.specs.Statuses.{input_number as number_of_input, input_part as part_of_input, part_of, status_of};
 
 use mh_core::{NoMemory, ProblemFault, Refusal};
 use mh_text::{Fault as TextualFault, InputFault, TextFault};
@@ -30,6 +31,7 @@ impl Fault {
     /// of a problem, and 301 to 304.
     #[tactic(auto, using(crate::proofs::Statuses::some_number))]
     pub(crate) fn number(self) -> u32
+        ensures value { result ≡ status_of self }
         ensures some { result ≢ 0 }
     {
         match self {
@@ -44,14 +46,13 @@ impl Fault {
     }
 
     /// What the number leaves open: the number of the cause, the newest plan, or 0.
-    pub(crate) fn part(self) -> u64 {
+    pub(crate) fn part(self) -> u64
+        ensures value { result ≡ part_of self }
+    {
         match self {
             Fault::Refused(Refusal::PlanRefused(cause)) => u64::from(cause.number()),
             Fault::Refused(Refusal::OldPlan(newest)) => newest as u64,
-            Fault::Input(InputFault::Tree(cause)) => u64::from(cause.number()),
-            Fault::Input(InputFault::Definition(cause)) => u64::from(cause.number()),
-            Fault::Input(InputFault::Problem(cause)) => u64::from(cause.number()),
-            Fault::Input(InputFault::BadType(cause)) => u64::from(cause.number()),
+            Fault::Input(fault) => input_part(fault),
             _ => 0,
         }
     }
@@ -59,7 +60,7 @@ impl Fault {
 
 // The number under "Faults of inputs" of docs/FAULTS.md.
 fn input_number(fault: InputFault) -> u32
-    ensures some { 1 ≤ result }
+    ensures value { result ≡ number_of_input fault }
     ensures few { result ≤ 13 }
 {
     match fault {
@@ -77,31 +78,69 @@ fn input_number(fault: InputFault) -> u32
     }
 }
 
+// The number of the cause of an input's fault, or 0.
+fn input_part(fault: InputFault) -> u64
+    ensures value { result ≡ part_of_input fault }
+{
+    match fault {
+        InputFault::Tree(cause) => u64::from(cause.number()),
+        InputFault::Definition(cause) => u64::from(cause.number()),
+        InputFault::Problem(cause) => u64::from(cause.number()),
+        InputFault::BadType(cause) => u64::from(cause.number()),
+        _ => 0,
+    }
+}
+
 impl From<Refusal> for Fault {
+    ghost use Rattle.std.specs.Prelude.{◌≡◌};
+    ghost use Rattle.mhlink_c.specs.declared.fault.Fault.TheVariants.{Refused};
+
+    ghost from_gives = { λ told e. e ≡ Refused told };
+
     fn from(refusal: Refusal) -> Fault {
         Fault::Refused(refusal)
     }
 }
 
 impl From<NoMemory> for Fault {
+    ghost use Rattle.std.specs.Prelude.{◌≡◌};
+    ghost use Rattle.mhlink_c.specs.Statuses.{no_memory};
+
+    ghost from_gives = { λ _ e. e ≡ no_memory };
+
     fn from(_e: NoMemory) -> Fault {
         Fault::Refused(Refusal::NoMemory)
     }
 }
 
 impl From<AllocError> for Fault {
+    ghost use Rattle.std.specs.Prelude.{◌≡◌};
+    ghost use Rattle.mhlink_c.specs.Statuses.{no_memory};
+
+    ghost from_gives = { λ _ e. e ≡ no_memory };
+
     fn from(_e: AllocError) -> Fault {
         Fault::Refused(Refusal::NoMemory)
     }
 }
 
 impl<T: Drop> From<AllocFailed<T>> for Fault {
+    ghost use Rattle.std.specs.Prelude.{◌≡◌};
+    ghost use Rattle.mhlink_c.specs.Statuses.{no_memory};
+
+    ghost from_gives = { λ _ e. e ≡ no_memory };
+
     fn from(_e: AllocFailed<T>) -> Fault {
         Fault::Refused(Refusal::NoMemory)
     }
 }
 
 impl From<TextualFault> for Fault {
+    ghost use Rattle.std.specs.Prelude.{◌≡◌};
+    ghost use Rattle.mhlink_c.specs.Statuses.{of_text};
+
+    ghost from_gives = { λ fault e. e ≡ of_text fault };
+
     fn from(fault: TextualFault) -> Fault {
         match fault.kind {
             TextFault::Input(cause) => Fault::from(cause),
@@ -111,6 +150,11 @@ impl From<TextualFault> for Fault {
 }
 
 impl From<InputFault> for Fault {
+    ghost use Rattle.std.specs.Prelude.{◌≡◌};
+    ghost use Rattle.mhlink_c.specs.Statuses.{of_input};
+
+    ghost from_gives = { λ fault e. e ≡ of_input fault };
+
     fn from(fault: InputFault) -> Fault {
         match fault {
             InputFault::NoMemory => Fault::Refused(Refusal::NoMemory),
@@ -120,6 +164,11 @@ impl From<InputFault> for Fault {
 }
 
 impl From<ProblemFault> for Fault {
+    ghost use Rattle.std.specs.Prelude.{◌≡◌};
+    ghost use Rattle.mhlink_c.specs.Statuses.{of_problem};
+
+    ghost from_gives = { λ fault e. e ≡ of_problem fault };
+
     fn from(fault: ProblemFault) -> Fault {
         match fault {
             ProblemFault::NoMemory => Fault::Refused(Refusal::NoMemory),
@@ -132,6 +181,7 @@ impl From<ProblemFault> for Fault {
 pub(crate) fn status<T: Drop>(answer: Result<T, Fault>) -> u32
     ensures ok { OnOk answer (result ≡ 0) }
     ensures refused { OnErr answer (result ≢ 0) }
+    ensures status { IfErr answer (λ e. result ≡ status_of e) }
 {
     match answer {
         Ok(_) => 0,

@@ -1,13 +1,20 @@
 //! The numbers of names and keys.
 
-ghost use Rattle.std.specs.Prelude.{◌<◌, length, IfSome};
+ghost use Rattle.std.specs.Prelude.{◌≡◌, ◌<◌, ℕ, length, slice_index_or, IfErr, IfOk, IfNone, IfSome};
+ghost use Rattle.mh_core.specs.Defined.{no_link};
+ghost use Rattle.mhlink_c.specs.Questions.{HasNoLink, IsLink, IsPoint, IsSite};
+ghost use Rattle.mhlink_c.specs.declared.fault.Fault.TheVariants.{Unknown};
 
 use crate::fault::Fault;
 use mh_core::{Definition, Link, Value};
 use mh_type::same_value;
 
 /// The number of the site of this name.
-pub(crate) fn site_number(definition: &Definition, name: &[u8]) -> Result<u64, Fault> {
+pub(crate) fn site_number(definition: &Definition, name: &[u8]) -> Result<u64, Fault>
+    ensures value { IfOk result (IsSite definition.now name.now) }
+    ensures unknown { IfErr result (λ e. (e ≡ Unknown)
+        × ((s : ℕ) → IsSite definition.now name.now s → ⊥)) }
+{
     for site in 0..definition.sites().len() {
         if definition.site_name(site).as_bytes() == name {
             return Ok(site as u64);
@@ -17,7 +24,11 @@ pub(crate) fn site_number(definition: &Definition, name: &[u8]) -> Result<u64, F
 }
 
 /// The number of the point of this name.
-pub(crate) fn point_number(definition: &Definition, name: &[u8]) -> Result<u64, Fault> {
+pub(crate) fn point_number(definition: &Definition, name: &[u8]) -> Result<u64, Fault>
+    ensures value { IfOk result (IsPoint definition.now name.now) }
+    ensures unknown { IfErr result (λ e. (e ≡ Unknown)
+        × ((p : ℕ) → IsPoint definition.now name.now p → ⊥)) }
+{
     for point in 0..definition.points().len() {
         if definition.point_name(point).as_bytes() == name {
             return Ok(point as u64);
@@ -27,7 +38,10 @@ pub(crate) fn point_number(definition: &Definition, name: &[u8]) -> Result<u64, 
 }
 
 /// The number of the link of a site whose key is this value.
-pub(crate) fn link_number(definition: &Definition, site: usize, key: &Value) -> Result<u64, Fault> {
+pub(crate) fn link_number(definition: &Definition, site: usize, key: &Value) -> Result<u64, Fault>
+    ensures value { IfOk result (IsLink definition.now site key.now) }
+    ensures unknown { IfErr result (λ e. (e ≡ Unknown) × HasNoLink definition.now site key.now) }
+{
     if site >= definition.sites().len() {
         return Err(Fault::Unknown);
     }
@@ -42,6 +56,14 @@ pub(crate) fn link_number(definition: &Definition, site: usize, key: &Value) -> 
 // The place of the first link with this key.
 fn place_of(links: &[Link], key: &Value) -> Option<usize>
     ensures inside { IfSome result (λ k. k < length links.now) }
+    ensures key { IfSome result (λ k. (slice_index_or links.now k no_link).when ≡ key.now) }
+    ensures none { IfNone result ((k : ℕ) → k < length links.now
+        → (slice_index_or links.now k no_link).when ≡ key.now → ⊥) }
 {
-    links.iter().position(|link| same_value(&link.when, key))
+    for (place, link) in links.iter().enumerate() {
+        if same_value(&link.when, key) {
+            return Some(place);
+        }
+    }
+    None
 }

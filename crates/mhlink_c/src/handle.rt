@@ -1,8 +1,7 @@
 //! A boxed host as its pointer, which C keeps.
 
 ghost use Rattle.std.specs.Prelude.{◌≡◌, Bool, true};
-ghost use Rattle.mh_core.specs.Runtimes.{RuntimeState};
-ghost use Rattle.mh_core.specs.RuntimeCodes.{coded_runtime};
+ghost use Rattle.mhlink_c.specs.Hosts.{HostState, coded_host};
 ghost use Rattle.mhlink_c.specs.Held.{held};
 
 use crate::host::Host;
@@ -18,7 +17,7 @@ pub struct MhlinkMachine {
     at: *mut u8,
     alloc: Global,
     pub ghost full: { Bool },
-    pub ghost value: { RuntimeState } by { coded_runtime },
+    pub ghost value: { HostState } by { coded_host },
 }
 
 impl Model for MhlinkMachine {

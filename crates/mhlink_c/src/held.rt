@@ -1,7 +1,10 @@
 //! What is done with the host that a handle holds.
 
-ghost use Rattle.std.specs.Prelude.{◌≡◌, ◌≢◌, true, IfOk, OnErr, OnOk};
-ghost use Rattle.mhlink_c.specs.Crossing.{Tells};
+ghost use Rattle.std.specs.Prelude.{◌≡◌, ◌≢◌, true, IfErr, IfOk, OnErr, OnOk};
+ghost use Rattle.mhlink_c.specs.Changes.{Makes, RefusesChange};
+ghost use Rattle.mhlink_c.specs.Questions.{IsUnknown, Tells};
+ghost use Rattle.mhlink_c.specs.Statuses.{status_of};
+ghost use Rattle.mhlink_c.specs.declared.fault.Fault.{Fault as FaultOf};
 
 use crate::fault::Fault;
 use crate::handle::MhlinkMachine;
@@ -20,6 +23,9 @@ pub(crate) fn look_up(
     ensures full { machine.new.full ≡ true }
     ensures same { machine.new.value ≡ machine.old.value }
     ensures tells { result ≡ 0 → Tells machine.old.value question.entry out.new }
+    ensures unknown { result ≢ 0 → (e : FaultOf) × ((result ≡ status_of e)
+        × IsUnknown machine.old.value question.entry e) }
+    ensures untouched { result ≢ 0 → out.new ≡ out.old }
 {
     write_answer(replace_with(machine, (alloc, question), look_held), out)
 }
@@ -32,6 +38,7 @@ fn look_held(
     ensures full { result.0.full ≡ true }
     ensures same { result.0.value ≡ machine.value }
     ensures tells { IfOk result.1 (λ n. Tells machine.value asked.entry.1 n) }
+    ensures unknown { IfErr result.1 (IsUnknown machine.value asked.entry.1) }
 {
     let host = machine.into_box();
     let (alloc, question) = asked;
@@ -48,7 +55,11 @@ pub(crate) fn make_change(
 ) -> u32
     requires full { machine.old.full ≡ true }
     ensures full { machine.new.full ≡ true }
+    ensures makes { result ≡ 0 → Makes machine.old.value change.entry out.new machine.new.value }
+    ensures refused { result ≢ 0 → (e : FaultOf) × ((result ≡ status_of e)
+        × RefusesChange machine.old.value change.entry e) }
     ensures kept { result ≢ 0 → machine.new.value ≡ machine.old.value }
+    ensures untouched { result ≢ 0 → out.new ≡ out.old }
 {
     write_answer(replace_with(machine, (alloc, change), change_held), out)
 }
@@ -59,6 +70,8 @@ fn change_held(
 ) -> (MhlinkMachine, Result<u64, Fault>)
     requires full { machine.full ≡ true }
     ensures full { result.0.full ≡ true }
+    ensures makes { IfOk result.1 (λ n. Makes machine.value made.entry.1 n result.0.value) }
+    ensures refused { IfErr result.1 (RefusesChange machine.value made.entry.1) }
     ensures kept { OnErr result.1 (result.0.value ≡ machine.value) }
 {
     let mut host = machine.into_box();
@@ -72,6 +85,7 @@ fn write_answer(answer: Result<u64, Fault>, out: &mut u64) -> u32
     ensures ok { OnOk answer (result ≡ 0) }
     ensures answer { IfOk answer (λ n. out.new ≡ n) }
     ensures refused { OnErr answer (result ≢ 0) }
+    ensures status { IfErr answer (λ e. result ≡ status_of e) }
     ensures kept { OnErr answer (out.new ≡ out.old) }
 {
     match answer {

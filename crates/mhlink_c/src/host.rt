@@ -1,11 +1,13 @@
 //! What a handle leads to: a runtime, the names that its definition declares, and the text that the
 //! last call gave.
 
-ghost use Rattle.std.specs.Prelude.{◌≡◌, ◌∷◌, [], ℤ, IfOk, OnErr, OnOk};
-ghost use Rattle.mh_core.specs.Legal.{answer_of_call};
-ghost use Rattle.mh_core.specs.Runtimes.{CountsHit};
-ghost use Rattle.mh_core.specs.Value.TheVariants.{Int};
-ghost use Rattle.mhlink_c.specs.Crossing.{IsReply, Tells, int};
+ghost use Rattle.std.specs.Prelude.{◌≡◌, Some, IfErr, IfOk, OnErr};
+ghost use Rattle.mhlink_c.specs.Calls.{Answers, Calls, RefusesCall, RefusesRun};
+ghost use Rattle.mhlink_c.specs.Changes.{Makes, RefusesChange};
+ghost use Rattle.mhlink_c.specs.Crossing.{text_of_outcome};
+ghost use Rattle.mhlink_c.specs.Opening.{Opens, RefusesOpening};
+ghost use Rattle.mhlink_c.specs.Questions.{IsUnknown, Tells};
+ghost use Rattle.mhlink_c.specs.Texts.{HasNoText};
 
 use crate::fault::Fault;
 use crate::finding::{link_number, point_number, site_number};
@@ -20,7 +22,7 @@ use std::marker::Model;
 /// The most workers of a machine.
 const MOST_WORKERS: u32 = 64;
 
-/// A runtime for C. A contract sees the runtime.
+/// A runtime for C. A contract sees the runtime, the names and the text.
 #[derive(Drop)]
 pub(crate) struct Host {
     pub(crate) runtime: Runtime,
@@ -29,14 +31,13 @@ pub(crate) struct Host {
 }
 
 impl Model for Host {
-    ghost use Rattle.mh_core.specs.Runtimes.{RuntimeState};
-    ghost use Rattle.mh_core.specs.RuntimeCodes.{coded_runtime};
+    ghost use Rattle.mhlink_c.specs.Hosts.{HostState, coded_host};
 
-    ghost Value = { RuntimeState };
+    ghost Value = { HostState };
 
-    ghost coded = { coded_runtime };
+    ghost coded = { coded_host };
 
-    ghost view = { λ h. h.runtime };
+    ghost view = { λ h. record { runtime = h.runtime; scope = h.scope; given = h.given } };
 }
 
 impl Host {
@@ -46,7 +47,10 @@ impl Host {
         definition: &[u8],
         workers: u32,
         limits: &MhlinkLimits,
-    ) -> Result<Host, Fault> {
+    ) -> Result<Host, Fault>
+        ensures opened { IfOk result (Opens definition.now workers limits.now) }
+        ensures refused { IfErr result (RefusesOpening definition.now workers limits.now) }
+    {
         let limits = limits.limits()?;
         if workers == 0 || workers > MOST_WORKERS {
             return Err(Fault::BadLimits);
@@ -69,12 +73,11 @@ impl Host {
         given: &[MhlinkValue],
         texts: &[u8],
     ) -> Result<MhlinkReply, Fault>
-        ensures answer { (n : ℤ) → given.now ≡ int n ∷ [] → IfOk result (λ reply. IsReply reply
-            (answer_of_call self.old.book.definition self.old.book.records site (Int n ∷ []))) }
-        ensures counted { (n : ℤ) → given.now ≡ int n ∷ [] → OnOk result
-            (CountsHit self.old.book.definition worker site (Int n ∷ [])
-            self.old.ledgers self.new.ledgers) }
-        ensures book { self.new.book ≡ self.old.book }
+        ensures answer { IfOk result (λ reply. Calls self.old worker site given.now texts.now reply
+            self.new) }
+        ensures refused { IfErr result (RefusesCall self.old worker site given.now texts.now) }
+        ensures book { self.new.runtime.book ≡ self.old.runtime.book }
+        ensures scope { self.new.scope ≡ self.old.scope }
         ensures kept { OnErr result (self.new ≡ self.old) }
     {
         match given {
@@ -93,11 +96,11 @@ impl Host {
     // Calls a site, and keeps the text that it gives.
     #[inline(always)]
     fn run(&mut self, worker: u32, site: usize, arguments: &[Value]) -> Result<MhlinkReply, Fault>
-        ensures answer { IfOk result (λ reply. IsReply reply
-            (answer_of_call self.old.book.definition self.old.book.records site arguments.now)) }
-        ensures counted { OnOk result (CountsHit self.old.book.definition worker site arguments.now
-            self.old.ledgers self.new.ledgers) }
-        ensures book { self.new.book ≡ self.old.book }
+        ensures answer { IfOk result (λ reply. Answers self.old worker site arguments.now reply
+            self.new) }
+        ensures refused { IfErr result (RefusesRun self.old worker site arguments.now) }
+        ensures book { self.new.runtime.book ≡ self.old.runtime.book }
+        ensures scope { self.new.scope ≡ self.old.scope }
         ensures kept { OnErr result (self.new ≡ self.old) }
     {
         let (outcome, steps) = self.runtime.call(worker, site, arguments)?;
@@ -107,7 +110,10 @@ impl Host {
     }
 
     /// Another owner of the text that the last call gave.
-    pub(crate) fn text(&self) -> Result<Text, Fault> {
+    pub(crate) fn text(&self) -> Result<Text, Fault>
+        ensures value { IfOk result (λ text. self.now.given ≡ Some text) }
+        ensures refused { IfErr result (HasNoText self.now.given) }
+    {
         match &self.given {
             Some(text) => text.share().map_err(|_| Fault::from(NoMemory)),
             None => Err(Fault::Unknown),
@@ -117,6 +123,7 @@ impl Host {
     /// The answer to a question.
     pub(crate) fn look(&self, alloc: Global, question: Question<'_>) -> Result<u64, Fault>
         ensures tells { IfOk result (λ n. Tells self.now question.entry n) }
+        ensures unknown { IfErr result (IsUnknown self.now question.entry) }
     {
         let definition = self.runtime.book().definition();
         match question {
@@ -133,6 +140,8 @@ impl Host {
 
     /// Makes a change, and gives its answer.
     pub(crate) fn change(&mut self, alloc: Global, change: Change<'_>) -> Result<u64, Fault>
+        ensures makes { IfOk result (λ n. Makes self.old change.entry n self.new) }
+        ensures refused { IfErr result (RefusesChange self.old change.entry) }
         ensures kept { OnErr result (self.new ≡ self.old) }
     {
         match change {
@@ -148,7 +157,9 @@ impl Host {
 }
 
 // The text of an outcome, if it is one.
-fn text_of(outcome: Outcome) -> Option<Text> {
+fn text_of(outcome: Outcome) -> Option<Text>
+    ensures value { result ≡ text_of_outcome outcome }
+{
     match outcome {
         Outcome::Value(Value::Text(text)) => Some(text),
         _ => None,

@@ -1,6 +1,9 @@
 //! Machines are opened and closed.
 
-ghost use Rattle.std.specs.Prelude.{◌≡◌, ◌≢◌, true, IfOk};
+ghost use Rattle.std.specs.Prelude.{◌≡◌, ◌≢◌, true, IfErr, IfOk};
+ghost use Rattle.mhlink_c.specs.Opening.{Opens, RefusesOpening};
+ghost use Rattle.mhlink_c.specs.Statuses.{part_of, status_of};
+ghost use Rattle.mhlink_c.specs.declared.fault.Fault.{Fault as FaultOf};
 
 use crate::fault::Fault;
 use crate::handle::MhlinkMachine;
@@ -29,6 +32,10 @@ pub extern "C" fn mhlink_open(
     part: &mut u64,
 ) -> u32
     ensures full { result ≡ 0 → machine.new.full ≡ true }
+    ensures opened { result ≡ 0 → Opens definition.now workers limits.now machine.new.value }
+    ensures no_part { result ≡ 0 → part.new ≡ 0 }
+    ensures refused { result ≢ 0 → (e : FaultOf) × ((result ≡ status_of e)
+        × ((part.new ≡ part_of e) × RefusesOpening definition.now workers limits.now e)) }
     ensures kept { result ≢ 0 → machine.new ≡ machine.old }
 {
     match open(alloc, definition, workers, limits) {
@@ -51,6 +58,9 @@ fn open(
     limits: &MhlinkLimits,
 ) -> Result<MhlinkMachine, Fault>
     ensures full { IfOk result (λ machine. machine.full ≡ true) }
+    ensures opened { IfOk result (λ machine. Opens definition.now workers limits.now
+        machine.value) }
+    ensures refused { IfErr result (RefusesOpening definition.now workers limits.now) }
 {
     let host = Host::open(alloc, definition, workers, limits)?;
     let boxed = Box::new(alloc, host)?;

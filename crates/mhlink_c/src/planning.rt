@@ -1,8 +1,12 @@
 //! The planner over arrays, without a machine.
 
-ghost use Rattle.std.specs.Prelude.{◌≡◌, ◌≢◌, take, IfOk, OnErr, OnOk};
-ghost use Rattle.mh_network.specs.Problems.{problem_of};
-ghost use Rattle.mhlink_c.specs.Problems.{IsChoice, needs_of as its_needs, row_of, rows_of};
+ghost use Rattle.std.specs.Prelude.{◌≡◌, ◌≢◌, ◌⊎◌, ◌<◌, length, take, All, IfErr, IfOk, OnErr, OnOk};
+ghost use Rattle.mh_base.specs.Tests.{Passes};
+ghost use Rattle.mh_network.specs.Problems.{large_tests, problem_of};
+ghost use Rattle.mhlink_c.specs.Problems.{HasNeeds, IsChoice, RefusesRows, needs_of as its_needs, row_of, rows_of};
+ghost use Rattle.mhlink_c.specs.Statuses.{no_memory, status_of};
+ghost use Rattle.mhlink_c.specs.declared.fault.Fault.{Fault as FaultOf};
+ghost use Rattle.mhlink_c.specs.declared.fault.Fault.TheVariants.{Short, Unknown};
 
 use crate::buffers::copy;
 use crate::fault::{Fault, status};
@@ -28,9 +32,11 @@ pub struct MhlinkLink {
 }
 
 /// Chooses the links that are worth most, of such the fewest: their gains less their charges and
-/// the costs of the points that they need, which they share. Needs are numbers of points, those of
-/// a link ascending. The numbers of the links are copied to `chosen`, how many they are to `count`,
-/// also where `chosen` is too short, and what they are worth to `value`.
+/// the costs of the points that they need, which they share. There are at most 2^20 links, and as
+/// many points, any of which a link may need. Needs are numbers of points, those of a link
+/// ascending. The numbers of the links are copied to `chosen`, how many they are to `count`, also
+/// where `chosen` is too short, and what they are worth to `value`. Where the status is not 0,
+/// `chosen` and `value` are left alone.
 #[unsafe(no_mangle)]
 pub extern "C" fn mhlink_plan_problem(
     alloc: Global,
@@ -43,7 +49,12 @@ pub extern "C" fn mhlink_plan_problem(
 ) -> u32
     ensures chosen { result ≡ 0 → IsChoice (problem_of (rows_of needs.now links.now) costs.now)
         (take count.new chosen.new) value.new }
-    ensures kept { result ≢ 0 → value.new ≡ value.old }
+    ensures tested { result ≡ 0 → Passes (large_tests (rows_of needs.now links.now) costs.now) }
+    ensures value { result ≢ 0 → value.new ≡ value.old }
+    ensures untouched { result ≢ 0 → chosen.new ≡ chosen.old }
+    ensures refused { result ≢ 0 → (e : FaultOf) × ((result ≡ status_of e)
+        × (RefusesRows needs.now links.now costs.now e
+        ⊎ ((e ≡ Short) × (length chosen.old < count.new)))) }
 {
     status(choose(alloc, costs, links, needs, chosen, count, value))
 }
@@ -59,10 +70,15 @@ fn choose(
 ) -> Result<(), Fault>
     ensures chosen { OnOk result (IsChoice (problem_of (rows_of needs.now links.now) costs.now)
         (take count.new chosen.new) value.new) }
-    ensures kept { OnErr result (value.new ≡ value.old) }
+    ensures tested { OnOk result
+        (Passes (large_tests (rows_of needs.now links.now) costs.now)) }
+    ensures value { OnErr result (value.new ≡ value.old) }
+    ensures untouched { OnErr result (chosen.new ≡ chosen.old) }
+    ensures refused { IfErr result (λ e. RefusesRows needs.now links.now costs.now e
+        ⊎ ((e ≡ Short) × (length chosen.old < count.new))) }
 {
     let rows = rows(alloc, links, needs)?;
-    let problem = Problem::new(alloc, &rows, costs)?;
+    let problem = Problem::large(rows, Vec::from_slice(alloc, costs)?)?;
     let plan = plan_alone(alloc, &problem)?;
     copy(plan.links.as_slice(), chosen, count)?;
     *value = plan.value;
@@ -71,6 +87,8 @@ fn choose(
 
 fn rows(alloc: Global, links: &[MhlinkLink], needs: &[u32]) -> Result<Vec<LinkRow>, Fault>
     ensures value { IfOk result (λ rows. rows.items ≡ rows_of needs.now links.now) }
+    ensures refused { IfErr result (λ e. ((All (HasNeeds needs.now) links.now → ⊥) × (e ≡ Unknown))
+        ⊎ (e ≡ no_memory)) }
 {
     let mut rows = Vec::new(alloc);
     for link in links {
@@ -82,6 +100,8 @@ fn rows(alloc: Global, links: &[MhlinkLink], needs: &[u32]) -> Result<Vec<LinkRo
 
 fn row(alloc: Global, link: &MhlinkLink, needs: &[u32]) -> Result<LinkRow, Fault>
     ensures value { IfOk result (λ row. row ≡ row_of needs.now link.now) }
+    ensures refused { IfErr result (λ e. ((HasNeeds needs.now link.now → ⊥) × (e ≡ Unknown))
+        ⊎ (e ≡ no_memory)) }
 {
     let its = needs_of(link, needs)?;
     Ok(LinkRow {
@@ -94,6 +114,7 @@ fn row(alloc: Global, link: &MhlinkLink, needs: &[u32]) -> Result<LinkRow, Fault
 
 fn needs_of<'a>(link: &MhlinkLink, needs: &'a [u32]) -> Result<&'a [u32], Fault>
     ensures value { IfOk result (λ its. its.now ≡ its_needs needs.now link.now) }
+    ensures refused { IfErr result (λ e. (HasNeeds needs.now link.now → ⊥) × (e ≡ Unknown)) }
 {
     if link.first > needs.len() || link.count > needs.len() - link.first {
         return Err(Fault::Unknown);

@@ -1,7 +1,17 @@
 //! What C reads of a machine: numbers of names, hits, and texts.
 
-ghost use Rattle.std.specs.Prelude.{◌≡◌, true};
+ghost use Rattle.std.specs.Prelude.{◌≡◌, ◌≢◌, ◌⊎◌, ◌<◌, ℕ, List, Some, None, length, string_bytes, true, IfErr, IfOk};
+ghost use Rattle.mh_core.specs.Installations.{kept};
 ghost use Rattle.mh_core.specs.Ledgers.{at, ledger_at};
+ghost use Rattle.mh_core.specs.Value.{Value as AnyValue};
+ghost use Rattle.mhlink_c.specs.Buffers.{IsCopied, IsTooShort};
+ghost use Rattle.mhlink_c.specs.Changes.{HasNoBest};
+ghost use Rattle.mhlink_c.specs.Crossing.{IsValue};
+ghost use Rattle.mhlink_c.specs.Questions.{IsLink, IsPoint, IsSite, IsUnknownLink};
+ghost use Rattle.mhlink_c.specs.Statuses.{no_memory, status_of};
+ghost use Rattle.mhlink_c.specs.Texts.{HasNoText, IsCertificate, IsUncopied, report_of};
+ghost use Rattle.mhlink_c.specs.declared.fault.Fault.{Fault as FaultOf};
+ghost use Rattle.mhlink_c.specs.declared.fault.Fault.TheVariants.{Short, Unknown};
 
 use crate::buffers::copy;
 use crate::fault::{Fault, status};
@@ -24,6 +34,10 @@ pub extern "C" fn mhlink_site(
     requires full { machine.old.full ≡ true }
     ensures full { machine.new.full ≡ true }
     ensures same { machine.new.value ≡ machine.old.value }
+    ensures value { result ≡ 0 → IsSite machine.old.value.runtime.book.definition name.now number.new }
+    ensures unknown { result ≢ 0 → (result ≡ status_of Unknown)
+        × ((s : ℕ) → IsSite machine.old.value.runtime.book.definition name.now s → ⊥) }
+    ensures untouched { result ≢ 0 → number.new ≡ number.old }
 {
     look_up(alloc, machine, Question::Site(name), number)
 }
@@ -39,6 +53,11 @@ pub extern "C" fn mhlink_point(
     requires full { machine.old.full ≡ true }
     ensures full { machine.new.full ≡ true }
     ensures same { machine.new.value ≡ machine.old.value }
+    ensures value { result ≡ 0 → IsPoint machine.old.value.runtime.book.definition name.now
+        number.new }
+    ensures unknown { result ≢ 0 → (result ≡ status_of Unknown)
+        × ((p : ℕ) → IsPoint machine.old.value.runtime.book.definition name.now p → ⊥) }
+    ensures untouched { result ≢ 0 → number.new ≡ number.old }
 {
     look_up(alloc, machine, Question::Point(name), number)
 }
@@ -56,6 +75,11 @@ pub extern "C" fn mhlink_link(
     requires full { machine.old.full ≡ true }
     ensures full { machine.new.full ≡ true }
     ensures same { machine.new.value ≡ machine.old.value }
+    ensures value { result ≡ 0 → (x : AnyValue) × (IsValue key.now text.now x
+        × IsLink machine.old.value.runtime.book.definition site x number.new) }
+    ensures unknown { result ≢ 0 → (e : FaultOf) × ((result ≡ status_of e)
+        × IsUnknownLink machine.old.value.runtime.book.definition site key.now text.now e) }
+    ensures untouched { result ≢ 0 → number.new ≡ number.old }
 {
     let key = *key;
     look_up(alloc, machine, Question::Link { site, key, text }, number)
@@ -73,8 +97,12 @@ pub extern "C" fn mhlink_hits(
     requires full { machine.old.full ≡ true }
     ensures full { machine.new.full ≡ true }
     ensures same { machine.new.value ≡ machine.old.value }
+    ensures untouched { result ≢ 0 → hits.new ≡ hits.old }
     ensures value { result ≡ 0 → hits.new
-        ≡ at (ledger_at machine.old.value.ledgers worker).unflushed link }
+        ≡ at (ledger_at machine.old.value.runtime.ledgers worker).unflushed link }
+    ensures unknown { result ≢ 0 → (result ≡ status_of Unknown)
+        × (worker < length machine.old.value.runtime.ledgers
+        → link < length (ledger_at machine.old.value.runtime.ledgers worker).unflushed → ⊥) }
 {
     look_up(alloc, machine, Question::Hits { worker, link }, hits)
 }
@@ -90,7 +118,11 @@ pub extern "C" fn mhlink_total(
     requires full { machine.old.full ≡ true }
     ensures full { machine.new.full ≡ true }
     ensures same { machine.new.value ≡ machine.old.value }
-    ensures value { result ≡ 0 → total.new ≡ at machine.old.value.book.totals.total link }
+    ensures untouched { result ≢ 0 → total.new ≡ total.old }
+    ensures value { result ≡ 0 → total.new
+        ≡ at machine.old.value.runtime.book.totals.total link }
+    ensures unknown { result ≢ 0 → (result ≡ status_of Unknown)
+        × (link < length machine.old.value.runtime.book.totals.total → ⊥) }
 {
     look_up(alloc, machine, Question::Total(link), total)
 }
@@ -106,6 +138,11 @@ pub extern "C" fn mhlink_linked(
     requires full { machine.old.full ≡ true }
     ensures full { machine.new.full ≡ true }
     ensures same { machine.new.value ≡ machine.old.value }
+    ensures value { result ≡ 0 → links.new ≡ length (kept machine.old.value.runtime.book.definition
+        machine.old.value.runtime.book.records site) }
+    ensures unknown { result ≢ 0 → (result ≡ status_of Unknown)
+        × (site < length machine.old.value.runtime.book.definition.sites → ⊥) }
+    ensures untouched { result ≢ 0 → links.new ≡ links.old }
 {
     look_up(alloc, machine, Question::Linked(site), links)
 }
@@ -115,6 +152,8 @@ fn text_held(machine: MhlinkMachine, _: ()) -> (MhlinkMachine, Result<Text, Faul
     requires full { machine.full ≡ true }
     ensures full { result.0.full ≡ true }
     ensures same { result.0.value ≡ machine.value }
+    ensures text { IfOk result.1 (λ text. machine.value.given ≡ Some text) }
+    ensures refused { IfErr result.1 (HasNoText machine.value.given) }
 {
     let host = machine.into_box();
     let text = host.text();
@@ -133,6 +172,12 @@ pub extern "C" fn mhlink_text(
     requires full { machine.old.full ≡ true }
     ensures full { machine.new.full ≡ true }
     ensures same { machine.new.value ≡ machine.old.value }
+    ensures copied { result ≡ 0 → (text : List ℕ) × ((machine.old.value.given ≡ Some text)
+        × IsCopied text length.new buffer.new) }
+    ensures refused { result ≢ 0 → (e : FaultOf) × ((result ≡ status_of e)
+        × (HasNoText machine.old.value.given e ⊎ IsUncopied
+        (λ text. machine.old.value.given ≡ Some text) length.new buffer.old e)) }
+    ensures untouched { result ≢ 0 → buffer.new ≡ buffer.old }
 {
     match replace_with(machine, (), text_held) {
         Ok(text) => status(copy(text.as_str().as_bytes(), buffer, length)),
@@ -148,6 +193,9 @@ fn certificate_held(
     requires full { machine.full ≡ true }
     ensures full { result.0.full ≡ true }
     ensures same { result.0.value ≡ machine.value }
+    ensures text { IfOk result.1 (λ text. IsCertificate machine.value.runtime asked.1
+        (string_bytes text)) }
+    ensures refused { IfErr result.1 (HasNoBest machine.value.runtime.book asked.1) }
 {
     let host = machine.into_box();
     let (alloc, snapshot) = asked;
@@ -169,6 +217,12 @@ pub extern "C" fn mhlink_certificate(
     requires full { machine.old.full ≡ true }
     ensures full { machine.new.full ≡ true }
     ensures same { machine.new.value ≡ machine.old.value }
+    ensures copied { result ≡ 0 → (text : List ℕ) × (IsCertificate machine.old.value.runtime
+        snapshot text × IsCopied text length.new buffer.new) }
+    ensures refused { result ≢ 0 → (e : FaultOf) × ((result ≡ status_of e)
+        × (HasNoBest machine.old.value.runtime.book snapshot e ⊎ IsUncopied
+        (IsCertificate machine.old.value.runtime snapshot) length.new buffer.old e)) }
+    ensures untouched { result ≢ 0 → buffer.new ≡ buffer.old }
 {
     match replace_with(machine, (alloc, snapshot), certificate_held) {
         Ok(text) => status(copy(text.as_bytes(), buffer, length)),
@@ -181,6 +235,8 @@ fn report_held(machine: MhlinkMachine, alloc: Global) -> (MhlinkMachine, Result<
     requires full { machine.full ≡ true }
     ensures full { result.0.full ≡ true }
     ensures same { result.0.value ≡ machine.value }
+    ensures text { IfOk result.1 (λ text. string_bytes text ≡ report_of machine.value.runtime) }
+    ensures refused { IfErr result.1 (λ e. e ≡ no_memory) }
 {
     let host = machine.into_box();
     let report = host.report(alloc);
@@ -199,6 +255,12 @@ pub extern "C" fn mhlink_report(
     requires full { machine.old.full ≡ true }
     ensures full { machine.new.full ≡ true }
     ensures same { machine.new.value ≡ machine.old.value }
+    ensures copied { result ≡ 0 → IsCopied (report_of machine.old.value.runtime) length.new
+        buffer.new }
+    ensures refused { result ≢ 0 → (e : FaultOf) × ((result ≡ status_of e)
+        × ((e ≡ no_memory) ⊎ IsUncopied
+        (λ text. text ≡ report_of machine.old.value.runtime) length.new buffer.old e)) }
+    ensures untouched { result ≢ 0 → buffer.new ≡ buffer.old }
 {
     match replace_with(machine, alloc, report_held) {
         Ok(text) => status(copy(text.as_bytes(), buffer, length)),

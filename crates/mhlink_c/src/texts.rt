@@ -1,10 +1,16 @@
 //! What C passes in JSON, for the readers of mh_text.
 
+ghost use Rattle.std.specs.Prelude.{◌≡◌, IfErr, IfOk};
+ghost use Rattle.mh_core.specs.Limits.{IsLimits};
+ghost use Rattle.serde_json.specs.View.{view};
+ghost use Rattle.mhlink_c.specs.Inputs.{Reads, data_with, declarations_in, tree_in};
+ghost use Rattle.mhlink_c.specs.Opening.{limits_of};
+ghost use Rattle.mhlink_c.specs.declared.fault.Fault.TheVariants.{BadLimits};
+
 use crate::fault::Fault;
 use mh_core::{Declared, Limits};
-use mh_text::InputFault;
 use mh_text::readers::{Declarations, Scope, read_declarations, read_declared, read_json};
-use serde_json::Value;
+use serde_json::{Value, json};
 use std::alloc::{AllocError, Global};
 
 /// The limits of a machine: the most records, the most unflushed hits of a link by a worker's calls,
@@ -22,39 +28,37 @@ pub struct MhlinkLimits {
 
 impl MhlinkLimits {
     /// The limits, where each is in its range.
-    pub(crate) fn limits(&self) -> Result<Limits, Fault> {
-        Limits::new(self.history, self.ledger, self.total).ok_or(Fault::BadLimits)
+    pub(crate) fn limits(&self) -> Result<Limits, Fault>
+        ensures value { IfOk result (λ l. (l ≡ limits_of self.now) × IsLimits l) }
+        ensures bad { IfErr result (λ e. (e ≡ BadLimits) × (IsLimits (limits_of self.now) → ⊥)) }
+    {
+        match Limits::new(self.history, self.ledger, self.total) {
+            Some(limits) => Ok(limits),
+            None => Err(Fault::BadLimits),
+        }
     }
 }
 
 /// What a definition in JSON declares.
-pub(crate) fn read_definition(alloc: Global, definition: &[u8]) -> Result<Declarations, Fault> {
-    is_json(alloc, definition)?;
-    let mut text = Vec::new(alloc);
-    text.extend_from_slice(b"{\"definition\":")?;
-    text.extend_from_slice(definition)?;
-    text.extend_from_slice(b"}")?;
-    let value = read_json(alloc, &text)?;
-    Ok(read_declarations(alloc, &value)?)
+pub(crate) fn read_definition(alloc: Global, definition: &[u8]) -> Result<Declarations, Fault>
+    ensures value { Reads result (declarations_in definition.now) }
+{
+    let definition = read_json(alloc, definition)?;
+    let script = script_with(alloc, definition)?;
+    Ok(read_declarations(alloc, &script)?)
+}
+
+// A script with this definition, and nothing else.
+fn script_with(alloc: Global, definition: Value) -> Result<Value, AllocError>
+    ensures value { IfOk result (λ script. view script ≡ data_with (view definition)) }
+{
+    json!(in alloc; {"definition": definition})
 }
 
 /// A tree in JSON, over the names that a definition declares.
-pub(crate) fn read_target(alloc: Global, scope: &Scope, tree: &[u8]) -> Result<Declared, Fault> {
+pub(crate) fn read_target(alloc: Global, scope: &Scope, tree: &[u8]) -> Result<Declared, Fault>
+    ensures value { Reads result (tree_in scope.now tree.now) }
+{
     let value = read_json(alloc, tree)?;
     Ok(read_declared(alloc, scope, &value)?)
 }
-
-// A value of JSON by itself can stand in a text of JSON, and nothing else gets into it.
-fn is_json(alloc: Global, text: &[u8]) -> Result<(), Fault> {
-    if text.len() > LONGEST_INPUT {
-        return Err(Fault::Input(InputFault::TooLong));
-    }
-    match Value::from_slice(alloc, text) {
-        Ok(_) => Ok(()),
-        Err(error) if error.is_memory() => Err(Fault::from(AllocError)),
-        Err(_) => Err(Fault::Input(InputFault::NotJson)),
-    }
-}
-
-// The most bytes of an input.
-const LONGEST_INPUT: usize = 1 << 20;

@@ -1,8 +1,9 @@
 //! Values as they cross to C.
 
-ghost use Rattle.std.specs.Prelude.{◌≡◌, IfOk};
-ghost use Rattle.mh_core.specs.Value.TheVariants.{Int};
-ghost use Rattle.mhlink_c.specs.Crossing.{reply_kind, reply_number};
+ghost use Rattle.std.specs.Prelude.{◌≡◌, ◌⊎◌, length, pos, take, IfErr, IfOk};
+ghost use Rattle.mhlink_c.specs.Crossing.{AreValues, IsValue, bytes_of, reply_kind, reply_number, reply_steps, value_kind};
+ghost use Rattle.mhlink_c.specs.Statuses.{no_memory};
+ghost use Rattle.mhlink_c.specs.declared.fault.Fault.TheVariants.{BadValue};
 
 use crate::fault::Fault;
 use mh_core::{LONGEST_TEXT, Outcome, Refusal, Text, Throw, TypeFault, Value};
@@ -37,7 +38,10 @@ pub(crate) fn values(
     alloc: Global,
     given: &[MhlinkValue],
     texts: &[u8],
-) -> Result<Vec<Value>, Fault> {
+) -> Result<Vec<Value>, Fault>
+    ensures values { IfOk result (λ a. AreValues given.now texts.now a.items) }
+    ensures refused { IfErr result (λ e. (e ≡ BadValue) ⊎ (e ≡ no_memory)) }
+{
     let mut values = Vec::new(alloc);
     let mut rest = texts;
     for one in given {
@@ -50,7 +54,9 @@ pub(crate) fn values(
 }
 
 // How many bytes of the texts a value has.
-fn text_length(value: &Value) -> usize {
+fn text_length(value: &Value) -> usize
+    ensures value { result ≡ length (bytes_of value.now) }
+{
     match value {
         Value::Text(text) => text.as_str().len(),
         _ => 0,
@@ -60,7 +66,8 @@ fn text_length(value: &Value) -> usize {
 /// A value, whose text begins the texts.
 #[inline(always)]
 pub(crate) fn value(alloc: Global, given: &MhlinkValue, texts: &[u8]) -> Result<Value, Fault>
-    ensures int { given.now.kind ≡ 1 → IfOk result (λ v. v ≡ Int given.now.number) }
+    ensures value { IfOk result (IsValue given.now texts.now) }
+    ensures refused { IfErr result (λ e. (e ≡ BadValue) ⊎ (e ≡ no_memory)) }
 {
     let number = given.number;
     match given.kind {
@@ -77,15 +84,19 @@ pub(crate) fn value(alloc: Global, given: &MhlinkValue, texts: &[u8]) -> Result<
 }
 
 // The text of so many bytes at the beginning of the texts.
-fn text(alloc: Global, length: i64, texts: &[u8]) -> Result<Value, Fault> {
-    if length < 0 || length > LONGEST_TEXT as i64 {
+fn text(alloc: Global, count: i64, texts: &[u8]) -> Result<Value, Fault>
+    ensures value { IfOk result (λ x. (count ≡ pos (length (bytes_of x)))
+        × ((take (length (bytes_of x)) texts.now ≡ bytes_of x) × (value_kind x ≡ 4))) }
+    ensures refused { IfErr result (λ e. (e ≡ BadValue) ⊎ (e ≡ no_memory)) }
+{
+    if count < 0 || count > LONGEST_TEXT as i64 {
         return Err(Fault::BadValue);
     }
-    let length = length as usize;
-    if length > texts.len() {
+    let count = count as usize;
+    if count > texts.len() {
         return Err(Fault::BadValue);
     }
-    let Ok(text) = str::from_utf8(&texts[..length]) else {
+    let Ok(text) = str::from_utf8(&texts[..count]) else {
         return Err(Fault::BadValue);
     };
     match Text::new(alloc, text) {
@@ -99,6 +110,7 @@ fn text(alloc: Global, length: i64, texts: &[u8]) -> Result<Value, Fault> {
 pub(crate) fn reply_of(outcome: &Outcome, steps: u128) -> MhlinkReply
     ensures kind { result.kind ≡ reply_kind outcome.now }
     ensures number { result.number ≡ reply_number outcome.now }
+    ensures steps { result.steps ≡ reply_steps steps }
 {
     let (kind, number) = match outcome {
         Outcome::Value(Value::Int(number)) => (1, i64::from(*number)),

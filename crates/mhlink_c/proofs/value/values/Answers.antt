@@ -1,0 +1,15 @@
+use Rattle.std.proofs.Common.{◌≡◌, ◌-◌, ◌<◌, ◌≤◌, ap, arith, drop, length, take}
+use Rattle.mhlink_c.specs.Crossing.{bytes_of}
+use Rattle.mhlink_c.proofs.Values.{left_is, read_all, read_next}
+use Rattle.mhlink_c.proofs.value.values.Goals as goal
+
+pub loop-one-preserved : goal.loop-one-preserved
+loop-one-preserved c =
+    let x = c.in_ok-value.value in
+    let rest = c.loop-one.rest.now in
+    let left = left_is (bytes_of x) rest c.text_length.result c.min-used.result c.in_ok-value.ensures.value.bytes c.text_length.ensures.value c.min-used.ensures in
+    read_next c.args.given.now c.loop-one.one-index _ c.args.texts.now c.loop-one.values.items rest x _ c.push.new.self.items c.loop-one-test.true c.loop-one.invariant c.in_ok-value.ensures.value left c.in_ok-push.ensures.items
+
+pub returns-clause-values : goal.returns-clause-values
+returns-clause-values c =
+    read_all c.args.given.now c.loop-one.one-index c.args.texts.now c.loop-one.values.items c.loop-one.rest.now c.loop-one-test.false c.loop-one.invariant

@@ -1,0 +1,33 @@
+-- What a machine is when it is opened, and why it is not.
+use Rattle.std.specs.Prelude.{◌≡◌, ◌⊎◌, ◌<◌, ◌≤◌, ℕ, List, None, Ok}
+use Rattle.mh_core.specs.Limits.{IsLimits, LimitsData}
+use Rattle.mh_core.specs.Runtimes.{opened_runtime}
+use Rattle.mh_text.specs.Script.{most_workers}
+use Rattle.mh_text.specs.declared.json.declarations.Declarations.{Declarations}
+use Rattle.mhlink_c.specs.Hosts.{HostState}
+use Rattle.mhlink_c.specs.Inputs.{IsFaultOf, declarations_in}
+use Rattle.mhlink_c.specs.declared.fault.Fault.{Fault}
+use Rattle.mhlink_c.specs.declared.fault.Fault.TheVariants.{BadLimits}
+use Rattle.mhlink_c.specs.declared.texts.MhlinkLimits.{MhlinkLimits}
+
+abbrev pub limits_of : MhlinkLimits → LimitsData
+limits_of l = record { history = l.history; ledger = l.ledger; total = l.total }
+
+-- the limits and the number of workers are in their ranges
+pub record AreLimits (workers : ℕ) (given : MhlinkLimits) : Type 0 where
+  pub limits : IsLimits (limits_of given)
+  pub some : 0 < workers
+  pub few : workers ≤ most_workers
+
+-- the runtime of what is declared, its names, and no text
+abbrev pub opened_host : Declarations → ℕ → MhlinkLimits → HostState
+opened_host d workers limits = record { runtime = opened_runtime d.definition workers (limits_of limits); scope = d.scope; given = None }
+
+-- the machine of the definition that the text reads as
+abbrev pub Opens : List ℕ → ℕ → MhlinkLimits → HostState → Type 0
+Opens text workers limits h =
+    (d : Declarations) × ((declarations_in text ≡ Ok d) × (AreLimits workers limits × (h ≡ opened_host d workers limits)))
+
+abbrev pub RefusesOpening : List ℕ → ℕ → MhlinkLimits → Fault → Type 0
+RefusesOpening text workers limits e =
+    ((AreLimits workers limits → ⊥) × (e ≡ BadLimits)) ⊎ IsFaultOf (declarations_in text) e
