@@ -1,5 +1,5 @@
 -- Values that are read one behind another.
-use Rattle.std.proofs.Common.{◌≡◌, ◌+◌, ◌-◌, ◌<◌, ◌≤◌, ℕ, min, List, [], ◌∷◌, ◌++◌, Result, Ok, Err, arith, drop, get_or, inl, inr, length, take, subst, sym, ◌∙◌, ap}
+use Rattle.std.proofs.Common.{◌≡◌, ◌+◌, ◌-◌, ◌<◌, ◌≤◌, ℕ, min, List, [], ◌∷◌, ◌++◌, Result, Ok, Err, arith, drop, get_or, inr, length, take, subst, sym, ◌∙◌, ap}
 use Rattle.std.specs.Prelude.{IfErr}
 use Rattle.std.proofs.lemmas.List.{length-drop, length-take, take_all, take_more}
 use Rattle.mh_core.specs.Value.{Value}

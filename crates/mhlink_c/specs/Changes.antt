@@ -1,5 +1,5 @@
 -- What a change makes of a machine, and what it is refused.
-use Rattle.std.specs.Prelude.{◌≡◌, ◌⊎◌, ◌<◌, ◌+◌, ℕ, List, Option, None, Ok, filter, length, slice_set}
+use Rattle.std.specs.Prelude.{◌≡◌, ◌⊎◌, ◌<◌, ◌+◌, ℕ, List, None, Ok, filter, length, slice_set}
 use Rattle.mh_cert.specs.declared.plan.Plan.{Plan}
 use Rattle.mh_tree.specs.Handle.{TypedTree}
 use Rattle.mh_core.specs.Books.{BookState, MayRefuse, Takes}

@@ -1,5 +1,5 @@
 -- What crosses to C of values, and of what a call gave.
-use Rattle.std.specs.Prelude.{◌≡◌, ℕ, ◌^◌, ◌-◌, ◌≤ℤ◌, ℤ, pos, Bool, true, false, List, [], ◌∷◌, drop, length, min, take, Option, Some, None}
+use Rattle.std.specs.Prelude.{◌≡◌, ℕ, ◌^◌, ◌-◌, ℤ, pos, Bool, true, false, List, [], ◌∷◌, drop, length, min, take, Option, Some, None}
 use Rattle.mh_core.specs.declared.reply.Reply.{Reply}
 use Rattle.mh_core.specs.declared.reply.Reply.TheVariants.{Called}
 use Rattle.mh_core.specs.Outcome.{Outcome}

@@ -1,5 +1,5 @@
 -- What contracts see of a machine of C.
-use Rattle.std.specs.Prelude.{ℕ, List, Option, None, refl}
+use Rattle.std.specs.Prelude.{ℕ, List, Option, refl}
 use Rattle.std.specs.Coded.{Coded, code_by, coded×, coded_ℕ, coded_list, coded_option}
 use Rattle.mh_core.specs.RuntimeCodes.{coded_runtime}
 use Rattle.mh_core.specs.Runtimes.{RuntimeState}

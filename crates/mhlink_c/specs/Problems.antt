@@ -1,14 +1,14 @@
 -- The problem that C passes as arrays, what is chosen, and why nothing is.
 use Rattle.std.specs.Prelude.{ℕ, ◌≡◌, ◌⊎◌, ◌+◌, ◌≤◌, ◌==◌, List, All, length, not, take, drop, map, ℤ}
 use Rattle.std.specs.List.Sorted.{IsStrictlyIncreasing}
-use Rattle.mh_base.specs.Tests.{Passes, Refuses}
+use Rattle.mh_base.specs.Tests.{Refuses}
 use Rattle.mh_network.specs.declared.fault.ProblemFault.{ProblemFault}
 use Rattle.mh_network.specs.declared.link_row.LinkRow.{LinkRow}
-use Rattle.mh_network.specs.Problems.{ProblemData, large_tests, problem_of}
+use Rattle.mh_network.specs.Problems.{ProblemData, large_tests}
 use Rattle.mh_network.specs.Selection.{IsLeast, member, worth}
 use Rattle.mhlink_c.specs.Statuses.{no_memory, of_problem}
 use Rattle.mhlink_c.specs.declared.fault.Fault.{Fault}
-use Rattle.mhlink_c.specs.declared.fault.Fault.TheVariants.{Unknown, Short}
+use Rattle.mhlink_c.specs.declared.fault.Fault.TheVariants.{Unknown}
 use Rattle.mhlink_c.specs.declared.planning.MhlinkLink.{MhlinkLink}
 
 -- the needs of a link: so many of all from the first

@@ -1,5 +1,5 @@
 -- The status that C gets of a fault, as include/mhlink.h lists them, and what it leaves open, as a part.
-use Rattle.std.specs.Prelude.{◌≡◌, ℕ, ◌+◌}
+use Rattle.std.specs.Prelude.{ℕ, ◌+◌}
 use Rattle.mh_type.specs.Faults as type_fault
 use Rattle.mh_tree.specs.Faults as tree_fault
 use Rattle.mh_site.specs.Definitions as definition_fault

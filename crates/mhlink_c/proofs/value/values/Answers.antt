@@ -1,4 +1,3 @@
-use Rattle.std.proofs.Common.{◌≡◌, ◌-◌, ◌<◌, ◌≤◌, ap, arith, drop, length, take}
 use Rattle.mhlink_c.specs.Crossing.{bytes_of}
 use Rattle.mhlink_c.proofs.Values.{left_is, read_all, read_next}
 use Rattle.mhlink_c.proofs.value.values.Goals as goal
