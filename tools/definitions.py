@@ -125,7 +125,7 @@ def functions(crate, name):
     """The public functions of this name, or of one type (`Text::new`): their file, the type that they are of, and all before their
     bodies."""
     *only_of, name = name.split("::")
-    head = re.compile(rf"(?m)^( *)pub fn {name}\b(.*?)^\1\{{\}}?$", re.S)
+    head = re.compile(rf"(?m)^( *)pub (?:extern \S+ )?fn {name}\b(.*?)^\1\{{\}}?$", re.S)
     for source in sources(crate):
         for found in head.finditer(source.text):
             of = re.findall(r"(?m)^impl(?:<.*?>)? (?:.* for )?(\w+)", source.text[:found.start()]) if found[1] else []
