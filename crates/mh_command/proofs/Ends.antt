@@ -11,7 +11,7 @@ use Rattle.mh_text.specs.Lines.{lines_of}
 use Rattle.mh_text.specs.Output as output
 use Rattle.mh_text.specs.Output.{first, outside, EndsEarly, Failed}
 use Rattle.mh_text.specs.declared.fault.Fault.{Fault}
-use Rattle.mh_text.specs.declared.fault.InputFault.TheVariants.{NoMemory, TooLong, NotJson, BadShape, BadValue, UnknownShared, UnknownSite, Tree, Definition, Problem, BadType}
+use Rattle.mh_text.specs.declared.fault.InputFault.TheVariants.{NoMemory, TooLong, NotJson, BadShape, BadValue, UnknownShared, UnknownSite, Tree, Definition, Problem, BadType, UnknownPoint, PointTwice, NeedTwice}
 use Rattle.mh_text.specs.declared.fault.TextFault.{TextFault}
 use Rattle.mh_text.specs.declared.fault.TextFault.TheVariants.{Input, ReadFailed, WriteFailed, NoReader}
 use Rattle.mh_text.specs.declared.json.script.Script.{Script}
@@ -59,6 +59,9 @@ told_range (Input BadShape) = (omega arith, omega arith, omega arith)
 told_range (Input BadValue) = (omega arith, omega arith, omega arith)
 told_range (Input UnknownShared) = (omega arith, omega arith, omega arith)
 told_range (Input UnknownSite) = (omega arith, omega arith, omega arith)
+told_range (Input UnknownPoint) = (omega arith, omega arith, omega arith)
+told_range (Input PointTwice) = (omega arith, omega arith, omega arith)
+told_range (Input NeedTwice) = (omega arith, omega arith, omega arith)
 told_range (Input (Tree cause)) = (omega arith, omega arith, omega arith)
 told_range (Input (Definition cause)) = (omega arith, omega arith, omega arith)
 told_range (Input (Problem cause)) = (omega arith, omega arith, omega arith)
@@ -76,6 +79,9 @@ stream_failed A B (Input BadShape) three end = absurd (omega (arith, three))
 stream_failed A B (Input BadValue) three end = absurd (omega (arith, three))
 stream_failed A B (Input UnknownShared) three end = absurd (omega (arith, three))
 stream_failed A B (Input UnknownSite) three end = absurd (omega (arith, three))
+stream_failed A B (Input UnknownPoint) three end = absurd (omega (arith, three))
+stream_failed A B (Input PointTwice) three end = absurd (omega (arith, three))
+stream_failed A B (Input NeedTwice) three end = absurd (omega (arith, three))
 stream_failed A B (Input (Tree cause)) three end = absurd (omega (arith, three))
 stream_failed A B (Input (Definition cause)) three end = absurd (omega (arith, three))
 stream_failed A B (Input (Problem cause)) three end = absurd (omega (arith, three))

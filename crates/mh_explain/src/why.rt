@@ -29,6 +29,11 @@ pub(crate) fn why(
         InputFault::Definition(cause) => definitions::why_definition(alloc, cause, spot.value),
         InputFault::Problem(cause) => problems::why_none(alloc, cause, spot.value),
         InputFault::BadType(_) => types::why_none(alloc, spot.value),
-        InputFault::NoMemory | InputFault::TooLong | InputFault::NotJson => Ok(String::new(alloc)),
+        InputFault::NoMemory
+        | InputFault::TooLong
+        | InputFault::NotJson
+        | InputFault::UnknownPoint
+        | InputFault::PointTwice
+        | InputFault::NeedTwice => Ok(String::new(alloc)),
     }
 }

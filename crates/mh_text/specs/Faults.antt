@@ -7,7 +7,7 @@ use Rattle.mh_site.specs.Definitions as definition_fault
 use Rattle.mh_network.specs.Problems as problem_fault
 use Rattle.mh_text.specs.declared.fault.Fault.{Fault}
 use Rattle.mh_text.specs.declared.fault.InputFault.{InputFault}
-use Rattle.mh_text.specs.declared.fault.InputFault.TheVariants.{NoMemory, TooLong, NotJson, BadShape, BadValue, UnknownShared, Tree, Definition, Problem, BadType, UnknownSite}
+use Rattle.mh_text.specs.declared.fault.InputFault.TheVariants.{NoMemory, TooLong, NotJson, BadShape, BadValue, UnknownShared, Tree, Definition, Problem, BadType, UnknownSite, UnknownPoint, PointTwice, NeedTwice}
 use Rattle.mh_text.specs.declared.fault.TextFault.{TextFault}
 use Rattle.mh_text.specs.declared.fault.TextFault.TheVariants.{Input, ReadFailed, WriteFailed, NoReader}
 
@@ -24,6 +24,9 @@ input_text (Definition cause) = codes "8 Definition " ++ decimal (definition_fau
 input_text (Problem cause) = codes "9 Problem " ++ decimal (problem_fault.fault_number cause)
 input_text (BadType cause) = codes "12 BadType " ++ decimal (type_fault.fault_number cause)
 input_text UnknownSite = codes "13 UnknownSite"
+input_text UnknownPoint = codes "14 UnknownPoint"
+input_text PointTwice = codes "15 PointTwice"
+input_text NeedTwice = codes "16 NeedTwice"
 
 abbrev pub kind_text : TextFault → List ℕ
 kind_text (Input cause) = input_text cause

@@ -38,6 +38,12 @@ pub enum InputFault {
     BadType(TypeFault),
     /// A site that a tree invokes, and that stands nowhere earlier.
     UnknownSite,
+    /// A link of a profile needs a point that stands in no earlier line.
+    UnknownPoint,
+    /// A point of a profile has the name of a point in an earlier line.
+    PointTwice,
+    /// A link of a profile names a need twice.
+    NeedTwice,
 }
 
 impl fmt::Display for InputFault {
@@ -59,6 +65,9 @@ impl fmt::Display for InputFault {
             InputFault::Problem(cause) => write!(f, "9 Problem {}", cause.number()),
             InputFault::BadType(cause) => write!(f, "12 BadType {}", cause.number()),
             InputFault::UnknownSite => write!(f, "13 UnknownSite"),
+            InputFault::UnknownPoint => write!(f, "14 UnknownPoint"),
+            InputFault::PointTwice => write!(f, "15 PointTwice"),
+            InputFault::NeedTwice => write!(f, "16 NeedTwice"),
         }
     }
 }
@@ -199,7 +208,8 @@ impl From<AllocError> for TextFault {
     }
 }
 
-/// A fault, and the number of the event that has it, from 1, or 0 outside the events.
+/// A fault, and the number of the event that has it, or of the line of a profile, from 1, or 0
+/// outside of them.
 #[derive(Clone, Copy, Debug, PartialEq, Eq)]
 pub struct Fault {
     pub kind: TextFault,

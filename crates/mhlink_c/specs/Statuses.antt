@@ -30,6 +30,9 @@ input_number (input.Definition cause) = 8
 input_number (input.Problem cause) = 9
 input_number (input.BadType cause) = 12
 input_number input.UnknownSite = 13
+input_number input.UnknownPoint = 14
+input_number input.PointTwice = 15
+input_number input.NeedTwice = 16
 
 -- the number of the cause of an input's fault, or 0
 abbrev pub input_part : InputFault → ℕ

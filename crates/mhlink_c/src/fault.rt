@@ -61,7 +61,7 @@ impl Fault {
 // The number under "Faults of inputs" of docs/FAULTS.md.
 fn input_number(fault: InputFault) -> u32
     ensures value { result ≡ number_of_input fault }
-    ensures few { result ≤ 13 }
+    ensures few { result ≤ 16 }
 {
     match fault {
         InputFault::NoMemory => 1,
@@ -75,6 +75,9 @@ fn input_number(fault: InputFault) -> u32
         InputFault::Problem(_) => 9,
         InputFault::BadType(_) => 12,
         InputFault::UnknownSite => 13,
+        InputFault::UnknownPoint => 14,
+        InputFault::PointTwice => 15,
+        InputFault::NeedTwice => 16,
     }
 }
 

@@ -80,6 +80,9 @@ fn input_words(number: u32) -> Option<&'static str> {
         9 => Some("fault 9 Problem"),
         12 => Some("fault 12 BadType"),
         13 => Some("fault 13 UnknownSite"),
+        14 => Some("fault 14 UnknownPoint"),
+        15 => Some("fault 15 PointTwice"),
+        16 => Some("fault 16 NeedTwice"),
         _ => None,
     }
 }
