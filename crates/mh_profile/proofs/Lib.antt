@@ -1,5 +1,8 @@
+mod Amounts
+mod KeyRuns
 mod Lines
 mod NameTexts
 mod Needs
 mod Reading
+mod Slack
 mod Streaming

@@ -5,10 +5,11 @@ use Rattle.std.proofs.lemmas.Bool.Decides.{nat_tests}
 use Rattle.std.proofs.lemmas.List.{append_assoc, length-append}
 use Rattle.std.proofs.lemmas.List.Elements.{All-append}
 use Rattle.mh_text.specs.Gives.{◌>>=◌}
-use Rattle.mh_profile.specs.declared.fault.Fault.{Fault}
+use Rattle.mh_text.specs.declared.fault.Fault.{Fault}
 use Rattle.mh_profile.specs.declared.profile.Profile.{Profile}
 use Rattle.mh_profile.specs.declared.reader.LineReader.{LineReader}
-use Rattle.mh_profile.specs.Faults.{at_line, no_memory, outside, too_long, GivesAt}
+use Rattle.mh_text.specs.Gives.{no_memory, too_long, at_place, GivesAt}
+use Rattle.mh_text.specs.Output.{outside}
 use Rattle.mh_profile.specs.Lines.{IsInLine, lines_of}
 use Rattle.mh_profile.specs.Limits.{most_in_all}
 use Rattle.mh_profile.specs.Profiles.{is_within, read_lines, text_of_line}
@@ -32,19 +33,19 @@ module _ (n offset : ℕ) (x : Profile) (line : List ℕ) (whole : IsInLine line
 
   module _ (within : is_within offset line ≡ true) where
     -- a line and its end
-    pub end_read : (rest : List ℕ) (next : Profile) → at_line n (text_of_line n x line) ≡ Ok next
+    pub end_read : (rest : List ℕ) (next : Profile) → at_place n (text_of_line n x line) ≡ Ok next
         → read_lines n offset x (lines_of (line ++ 10 ∷ rest)) ≡ read_lines (n + 1) (offset + length line + 1) next (lines_of rest)
     end_read rest next read = ap (read_lines n offset x) (line_and_rest line rest whole) ∙ rw (within, read) refl
 
-    pub end_fails : (rest : List ℕ) (e : Fault) → at_line n (text_of_line n x line) ≡ Err e → read_lines n offset x (lines_of (line ++ 10 ∷ rest)) ≡ Err e
+    pub end_fails : (rest : List ℕ) (e : Fault) → at_place n (text_of_line n x line) ≡ Err e → read_lines n offset x (lines_of (line ++ 10 ∷ rest)) ≡ Err e
     end_fails rest e read = ap (read_lines n offset x) (line_and_rest line rest whole) ∙ rw (within, read) refl
 
-    last_is : read_lines n offset x (lines_of (line ++ [])) ≡ at_line n (text_of_line n x line)
-    last_is = ap (read_lines n offset x) (last_line line whole) ∙ rw within (bind_ok (at_line n (text_of_line n x line)))
+    last_is : read_lines n offset x (lines_of (line ++ [])) ≡ at_place n (text_of_line n x line)
+    last_is = ap (read_lines n offset x) (last_line line whole) ∙ rw within (bind_ok (at_place n (text_of_line n x line)))
 
     -- and the last line
-    pub last_read : (r : Result Profile Fault) → GivesAt r (at_line n (text_of_line n x line)) → GivesAt r (read_lines n offset x (lines_of (line ++ [])))
-    last_read r gives = subst (GivesAt r) (sym last_is) gives
+    pub last_read : (r : Result Profile Fault) → GivesAt (λ x. x) r (at_place n (text_of_line n x line)) → GivesAt (λ x. x) r (read_lines n offset x (lines_of (line ++ [])))
+    last_read r gives = subst (GivesAt (λ x. x) r) (sym last_is) gives
 
 -- ---- bytes one after the other
 pub takes_more : (r m : LineReader) (a b : List ℕ) (s : Result LineReader Fault) → Takes r a (Ok m) → Takes m b s → Takes r (a ++ b) s
@@ -65,16 +66,16 @@ late_part r part line whole more is long rest =
     ∙ too_late r.number r.offset r.profile (r.line ++ part) (All-append (λ b. (b == 10) ≡ false) r.line part whole more) rest late
 
 module _ (r : LineReader) (reading : IsReading r) where
-  pub end_taken : (next : LineReader) → at_line r.number (text_of_line r.number r.profile r.line) ≡ Ok next.profile
+  pub end_taken : (next : LineReader) → at_place r.number (text_of_line r.number r.profile r.line) ≡ Ok next.profile
       → next.number ≡ r.number + 1 → next.offset ≡ r.offset + length r.line + 1 → next.line ≡ [] → Takes r (10 ∷ []) (Ok next)
   end_taken next read number offset line = λ rest.
       rw (number, offset, line) (end_read r.number r.offset r.profile r.line reading.begun.whole reading.within rest next.profile read)
 
-  pub end_refused : (e : Fault) → (e ≡ outside no_memory) ⊎ (at_line r.number (text_of_line r.number r.profile r.line) ≡ Err e) → Takes r (10 ∷ []) (Err e)
+  pub end_refused : (e : Fault) → (e ≡ outside no_memory) ⊎ (at_place r.number (text_of_line r.number r.profile r.line) ≡ Err e) → Takes r (10 ∷ []) (Err e)
   end_refused e (inl memory) = inl memory
   end_refused e (inr fails) = inr (λ rest. end_fails r.number r.offset r.profile r.line reading.begun.whole reading.within rest e fails)
 
-  pub finished : (s : Result Profile Fault) → GivesAt s (at_line r.number (text_of_line r.number r.profile r.line)) → GivesAt s (resumed r [])
+  pub finished : (s : Result Profile Fault) → GivesAt (λ x. x) s (at_place r.number (text_of_line r.number r.profile r.line)) → GivesAt (λ x. x) s (resumed r [])
   finished s gives = last_read r.number r.offset r.profile r.line reading.begun.whole reading.within s gives
 
 pub lengths : (part more : List ℕ) → length ((part ++ 10 ∷ []) ++ more) ≡ length part + 1 + length more

@@ -2,14 +2,14 @@
 use Rattle.std.proofs.Common.{◌≡◌, ℕ, List, [], ◌++◌, Option, Some, None, Result, Ok, Err, IfOk, IfErr, IfSome, ap, ◌∙◌, inl, inr}
 use Rattle.std.specs.Io.KnownBytes.{Consumes, IsAtEnd}
 use Rattle.std.proofs.lemmas.List.{append_assoc}
-use Rattle.mh_profile.specs.declared.fault.Fault.{Fault}
+use Rattle.mh_text.specs.declared.fault.Fault.{Fault}
 use Rattle.mh_profile.specs.declared.profile.Profile.{Profile}
 use Rattle.mh_profile.specs.declared.reader.LineReader.{LineReader}
-use Rattle.mh_profile.specs.Faults.{GivesAt}
+use Rattle.mh_text.specs.Gives.{GivesAt}
 use Rattle.mh_profile.specs.Inputs.{IsFaultOfLines}
 use Rattle.mh_profile.specs.Profiles.{profile_of}
 use Rattle.mh_profile.specs.Readers.{resumed, Takes}
-use Rattle.mh_profile.specs.Streams.{IsUnread}
+use Rattle.mh_text.specs.Output.{IsUnread}
 
 -- a reader that has taken these bytes, the first of an input
 abbrev pub HasTaken : List ℕ → LineReader → Type 0
@@ -19,12 +19,12 @@ pub more_taken : (front bytes : List ℕ) (r next : LineReader) → HasTaken fro
 more_taken front bytes r next taken more = λ rest. ap profile_of (append_assoc front bytes rest) ∙ (taken (bytes ++ rest) ∙ more rest)
 
 module _ (H : Type 0) where
-  told : (input : List ℕ) (s : Result Profile Fault) → GivesAt s (profile_of input) → IfErr s (IsUnread IsFaultOfLines (Some input) H)
+  told : (input : List ℕ) (s : Result Profile Fault) → GivesAt (λ x. x) s (profile_of input) → IfErr s (IsUnread IsFaultOfLines (Some input) H)
   told input (Ok x) gives = tt
   told input (Err e) (inl memory) = inl memory
   told input (Err e) (inr fails) = inr (inr fails)
 
-  given : (input : List ℕ) (s : Result Profile Fault) → GivesAt s (profile_of input) → IfOk s (λ x. profile_of input ≡ Ok x)
+  given : (input : List ℕ) (s : Result Profile Fault) → GivesAt (λ x. x) s (profile_of input) → IfOk s (λ x. profile_of input ≡ Ok x)
   given input (Ok x) gives = gives
   given input (Err e) gives = tt
 
@@ -41,12 +41,12 @@ module _ (H : Type 0) where
 
   -- the end of the input
   pub all_read : (initial now : Option (List ℕ)) (front : List ℕ) (r : LineReader) (s : Result Profile Fault) → Consumes initial now front → IsAtEnd now → HasTaken front r
-      → GivesAt s (resumed r []) → IfOk s (λ x. IfSome initial (λ input. profile_of input ≡ Ok x)) × IfErr s (IsUnread IsFaultOfLines initial H)
+      → GivesAt (λ x. x) s (resumed r []) → IfOk s (λ x. IfSome initial (λ input. profile_of input ≡ Ok x)) × IfErr s (IsUnread IsFaultOfLines initial H)
   all_read None now front r s consumed end taken gives = (unknown_given s, unknown_told s)
   all_read (Some input) None front r s consumed end taken gives = absurd consumed
   all_read (Some input) (Some rest) front r s consumed end taken gives =
       let is = whole input front rest r taken consumed end in
-      let gives′ : GivesAt s (profile_of input) = rw is gives in
+      let gives′ : GivesAt (λ x. x) s (profile_of input) = rw is gives in
       (given input s gives′, told input s gives′)
 
   -- a fault before it

@@ -3,10 +3,12 @@ use Rattle.std.specs.Prelude.{ℕ, ◌≡◌, ◌⊎◌, List, Ok, Err}
 use Rattle.mh_base.specs.Tests.{Passes, Refuses}
 use Rattle.mh_network.specs.declared.fault.ProblemFault.{ProblemFault}
 use Rattle.mh_network.specs.Problems.{large_tests, problem_of}
-use Rattle.mh_profile.specs.declared.fault.Fault.{Fault}
+use Rattle.mh_text.specs.declared.fault.Fault.{Fault}
+use Rattle.mh_text.specs.declared.fault.InputFault.TheVariants.{Problem}
+use Rattle.mh_text.specs.declared.fault.TextFault.TheVariants.{Input}
 use Rattle.mh_profile.specs.declared.named.NamedProblem.{NamedProblem}
 use Rattle.mh_profile.specs.declared.profile.Profile.{Profile}
-use Rattle.mh_profile.specs.Profiles.{profile_of, too_many}
+use Rattle.mh_profile.specs.Profiles.{profile_of}
 
 -- the problem of a profile that passes the tests of large problems, with the names of its lines
 abbrev pub IsNamed : Profile → NamedProblem → Type 0
@@ -15,7 +17,7 @@ IsNamed x n =
 
 -- a profile that is told the first test that fails, at its last line
 abbrev pub IsNotMade : Profile → Fault → Type 0
-IsNotMade x e = (cause : ProblemFault) × Refuses (large_tests x.links x.costs) cause × (e ≡ record { kind = too_many cause; at = x.last })
+IsNotMade x e = (cause : ProblemFault) × Refuses (large_tests x.links x.costs) cause × (e ≡ record { kind = Input (Problem cause); at = x.last })
 
 -- the first fault of the lines of an input
 abbrev pub IsFaultOfLines : List ℕ → Fault → Type 0

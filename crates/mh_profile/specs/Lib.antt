@@ -1,7 +1,9 @@
-pub mod Faults
+pub mod Accounts
 pub mod Inputs
 pub mod Limits
 pub mod Lines
+pub mod PlanLines
+pub mod Planning
 pub mod Profiles
 pub mod Readers
-pub mod Streams
+pub mod Slack

@@ -10,28 +10,16 @@ use Rattle.mh_network.specs.declared.fault.ProblemFault.TheVariants.{TooManyLink
 use Rattle.mh_network.specs.Limits.{greatest_count}
 use Rattle.mh_network.specs.Selection.{member}
 use Rattle.mh_text.specs.declared.fault.InputFault.{InputFault}
-use Rattle.mh_text.specs.declared.fault.InputFault.TheVariants.{BadShape, Problem}
-use Rattle.mh_text.specs.declared.fault.TextFault.TheVariants.{Input}
+use Rattle.mh_text.specs.declared.fault.InputFault.TheVariants.{TooLong, BadShape, Problem, UnknownPoint, PointTwice, NeedTwice}
 use Rattle.mh_text.specs.Bytes.{most_bytes}
-use Rattle.mh_text.specs.Gives.{◌>>=◌}
-use Rattle.mh_text.specs.Inputs.{json_of_input}
+use Rattle.mh_text.specs.Gives.{◌>>=◌, at_place}
+use Rattle.mh_text.specs.Inputs.{json_in}
 use Rattle.mh_text.specs.Problems.{eligible_where}
 use Rattle.mh_text.specs.Shape.{count_of, each_of, list_of, member_of, text_of}
-use Rattle.mh_profile.specs.declared.fault.Fault.{Fault}
-use Rattle.mh_profile.specs.declared.fault.ProfileFault.{ProfileFault}
-use Rattle.mh_profile.specs.declared.fault.ProfileFault.TheVariants.{Text, UnknownPoint, PointTwice, NeedTwice}
+use Rattle.mh_text.specs.declared.fault.Fault.{Fault}
 use Rattle.mh_profile.specs.declared.profile.Profile.{Profile}
-use Rattle.mh_profile.specs.Faults.{at_line, of_bytes, of_input, too_long}
 use Rattle.mh_profile.specs.Limits.{most_in_all}
 use Rattle.mh_profile.specs.Lines.{is_blank, lines_of}
-
--- the fault of a line that is neither a point nor a link, nor the plan where one is wanted
-abbrev pub bad_shape : ProfileFault
-bad_shape = Text (Input BadShape)
-
--- more points, or more links, than any problem has
-abbrev pub too_many : ProblemFault → ProfileFault
-too_many cause = Text (Input (Problem cause))
 
 -- an amount that has to be there
 abbrev pub amount_of : List ℕ → Data → Result ℕ InputFault
@@ -55,19 +43,19 @@ abbrev pub named_below : ℕ → List ℕ → List ℕ
 named_below bound named = filter (member named) (range_with_len 0 bound)
 
 -- they are all that were named, where none was named twice
-abbrev pub once : List ℕ → List ℕ → Result (List ℕ) ProfileFault
+abbrev pub once : List ℕ → List ℕ → Result (List ℕ) InputFault
 once named needs = if length needs == length named then Ok needs else Err NeedTwice
 
 -- the points that were named, ascending, where each is there and none was named twice
-abbrev pub needs_among : ℕ → List ℕ → Result (List ℕ) ProfileFault
+abbrev pub needs_among : ℕ → List ℕ → Result (List ℕ) InputFault
 needs_among points named = if list_all (λ p. nat_lt p points) named then once named (named_below points named) else Err UnknownPoint
 
 -- the needs of a link, which may be absent
-abbrev pub needs_where : List (List ℕ) → Option Data → Result (List ℕ) ProfileFault
+abbrev pub needs_where : List (List ℕ) → Option Data → Result (List ℕ) InputFault
 needs_where points None = Ok []
 needs_where points (Some d) = do
-  names ← of_input (list_of d)
-  named ← of_input (each_of (place_named points) names)
+  names ← list_of d
+  named ← each_of (place_named points) names
   needs_among (length points) named
 
 -- one point more, which stands in line n
@@ -75,72 +63,72 @@ abbrev pub point_added : ℕ → Profile → List ℕ → ℕ → Profile
 point_added n x name cost = record { points = x.points ++ name ∷ []; costs = x.costs ++ cost ∷ []; names = x.names; links = x.links; last = n }
 
 -- a point whose name is new
-abbrev pub with_point : ℕ → Profile → List ℕ → ℕ → Result Profile ProfileFault
+abbrev pub with_point : ℕ → Profile → List ℕ → ℕ → Result Profile InputFault
 with_point n x name cost =
     if list_any (bytes_eq name) x.points then Err PointTwice
-    else (if nat_lt (length x.points) greatest_count then Ok (point_added n x name cost) else Err (too_many TooManyPoints))
+    else (if nat_lt (length x.points) greatest_count then Ok (point_added n x name cost) else Err (Problem TooManyPoints))
 
 -- the point that a line is
-abbrev pub point_of : ℕ → Profile → Data → Data → Result Profile ProfileFault
+abbrev pub point_of : ℕ → Profile → Data → Data → Result Profile InputFault
 point_of n x d name = do
-  name ← of_input (text_of name)
-  cost ← of_input (amount_of (codes "cost") d)
+  name ← text_of name
+  cost ← amount_of (codes "cost") d
   with_point n x name cost
 
 -- one link more, which stands in line n
 abbrev pub link_added : ℕ → Profile → List ℕ → LinkRow → Profile
 link_added n x name row = record { points = x.points; costs = x.costs; names = x.names ++ name ∷ []; links = x.links ++ row ∷ []; last = n }
 
-abbrev pub with_link : ℕ → Profile → List ℕ → LinkRow → Result Profile ProfileFault
-with_link n x name row = if nat_lt (length x.links) greatest_count then Ok (link_added n x name row) else Err (too_many TooManyLinks)
+abbrev pub with_link : ℕ → Profile → List ℕ → LinkRow → Result Profile InputFault
+with_link n x name row = if nat_lt (length x.links) greatest_count then Ok (link_added n x name row) else Err (Problem TooManyLinks)
 
 -- a link: its gain, its charge, whether it may be chosen, and the points of earlier lines that it needs
-abbrev pub row_of : List (List ℕ) → Data → Result LinkRow ProfileFault
+abbrev pub row_of : List (List ℕ) → Data → Result LinkRow InputFault
 row_of points d = do
-  gain ← of_input (amount_of (codes "gain") d)
-  charge ← of_input (amount_where (get (codes "charge") d))
-  eligible ← of_input (eligible_where (get (codes "eligible") d))
+  gain ← amount_of (codes "gain") d
+  charge ← amount_where (get (codes "charge") d)
+  eligible ← eligible_where (get (codes "eligible") d)
   needs ← needs_where points (get (codes "needs") d)
   Ok (record { gain = gain; eligible = eligible; needs = needs; charge = charge })
 
 -- the link that a line is
-abbrev pub link_of : ℕ → Profile → Data → Data → Result Profile ProfileFault
+abbrev pub link_of : ℕ → Profile → Data → Data → Result Profile InputFault
 link_of n x d name = do
-  name ← of_input (text_of name)
+  name ← text_of name
   row ← row_of x.points d
   with_link n x name row
 
-abbrev pub link_where : ℕ → Profile → Data → Option Data → Result Profile ProfileFault
-link_where n x d None = Err bad_shape
+abbrev pub link_where : ℕ → Profile → Data → Option Data → Result Profile InputFault
+link_where n x d None = Err BadShape
 link_where n x d (Some name) = link_of n x d name
 
 -- a point, where the key `point` is there, or else a link
-abbrev pub entry_where : ℕ → Profile → Data → Option Data → Result Profile ProfileFault
+abbrev pub entry_where : ℕ → Profile → Data → Option Data → Result Profile InputFault
 entry_where n x d None = link_where n x d (get (codes "link") d)
 entry_where n x d (Some name) = point_of n x d name
 
-abbrev pub entry_of : ℕ → Profile → Data → Result Profile ProfileFault
+abbrev pub entry_of : ℕ → Profile → Data → Result Profile InputFault
 entry_of n x d = entry_where n x d (get (codes "point") d)
 
 -- a line of white space says nothing; any other is a point or a link
-abbrev pub text_of_line : ℕ → Profile → List ℕ → Result Profile ProfileFault
+abbrev pub text_of_line : ℕ → Profile → List ℕ → Result Profile InputFault
 text_of_line n x line =
     if is_blank line then Ok x
-    else (of_bytes (json_of_input line) >>= λ value. entry_of n x value)
+    else (json_in line >>= λ value. entry_of n x value)
 
 -- whether a line that begins behind so many bytes is within the limits of a line and of all lines
 abbrev pub is_within : ℕ → List ℕ → Bool
 is_within offset line = nat_le (length line) most_bytes && nat_le (offset + length line) most_in_all
 
 -- what line n, which begins behind so many bytes, adds to a profile
-abbrev pub line_of : ℕ → ℕ → Profile → List ℕ → Result Profile ProfileFault
-line_of n offset x line = if is_within offset line then text_of_line n x line else Err too_long
+abbrev pub line_of : ℕ → ℕ → Profile → List ℕ → Result Profile InputFault
+line_of n offset x line = if is_within offset line then text_of_line n x line else Err TooLong
 
 -- lines in order, from line n on, up to the first that has a fault
 abbrev pub read_lines : ℕ → ℕ → Profile → List (List ℕ) → Result Profile Fault
 read_lines n offset x [] = Ok x
 read_lines n offset x (line ∷ lines) = do
-  x ← at_line n (line_of n offset x line)
+  x ← at_place n (line_of n offset x line)
   read_lines (n + 1) (offset + length line + 1) x lines
 
 -- no points and no links

@@ -19,17 +19,24 @@
 //! ```
 #![tactic(auto)]
 
-mod fault;
+mod accounts;
+mod keyed;
+mod laws;
 mod line;
 mod named;
 mod names;
+mod plan_lines;
+mod planning;
 mod profile;
 mod reader;
 mod streams;
 
-pub use fault::{Fault, ProfileFault};
+pub use laws::links_stay_best_within_slack;
+pub use mh_text::{Fault, InputFault, TextFault};
 pub use named::NamedProblem;
 pub use names::{LinkNames, PointNames};
+pub use plan_lines::profile_lines;
+pub use planning::{ProfileOptions, plan_profile};
 pub use profile::Profile;
 pub use reader::LineReader;
 pub use streams::read_profile;

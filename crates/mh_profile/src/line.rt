@@ -1,21 +1,18 @@
 //! A line of a profile: a point, or a link.
-ghost use Rattle.std.specs.Prelude.{◌≡◌, codes, IfErr};
+ghost use Rattle.std.specs.Prelude.{◌≡◌, codes};
 ghost use Rattle.serde_json.specs.Find.{get};
 ghost use Rattle.serde_json.specs.View.{view};
-ghost use Rattle.mh_text.specs.Gives.{Gives as GivesInput};
-ghost use Rattle.mh_text.specs.Inputs.{json_of_input};
+ghost use Rattle.mh_text.specs.Gives.{Gives};
 ghost use Rattle.mh_text.specs.Problems.{eligible_where};
-ghost use Rattle.mh_profile.specs.Faults.{Gives, GivesView, IsOfInput, of_bytes};
 ghost use Rattle.mh_profile.specs.Lines.{is_blank};
 ghost use Rattle.mh_profile.specs.Profiles.{amount_of, amount_where, entry_of, link_of, needs_among, needs_where, place_named, point_of, row_of, text_of_line};
 
-use crate::fault::ProfileFault;
 use crate::names::PointNames;
 use crate::profile::Profile;
 use mh_base::are_below;
 use mh_network::{LinkRow, Listing};
-use mh_text::readers::{count, each, list, member, read_json, text};
-use mh_text::{InputFault, TextFault};
+use mh_text::InputFault;
+use mh_text::readers::{count, each, list, member, parse_json, text};
 use serde_json::Value;
 use std::alloc::Global;
 
@@ -24,14 +21,14 @@ const MOST: u64 = 0x7fff_ffff_ffff_ffff;
 
 /// An amount that has to be there.
 fn amount(value: &Value, key: &str) -> Result<u64, InputFault>
-    ensures value { GivesInput (λ x. x) result (amount_of key.now (view value.now)) }
+    ensures value { Gives (λ x. x) result (amount_of key.now (view value.now)) }
 {
     count(member(value, key)?, MOST)
 }
 
 /// The charge of a link, 0 where it is absent.
 fn charge(link: &Value) -> Result<u64, InputFault>
-    ensures value { GivesInput (λ x. x) result
+    ensures value { Gives (λ x. x) result
         (amount_where (get (codes "charge") (view link.now))) }
 {
     match link.get("charge") {
@@ -42,7 +39,7 @@ fn charge(link: &Value) -> Result<u64, InputFault>
 
 /// Whether a link may be chosen, which it may where nothing is said.
 fn eligible(link: &Value) -> Result<bool, InputFault>
-    ensures value { GivesInput (λ x. x) result
+    ensures value { Gives (λ x. x) result
         (eligible_where (get (codes "eligible") (view link.now))) }
 {
     match link.get("eligible") {
@@ -53,18 +50,17 @@ fn eligible(link: &Value) -> Result<bool, InputFault>
 
 /// The number of the point that a value names, or one past the last.
 fn place(points: &PointNames, name: &Value) -> Result<u32, InputFault>
-    ensures value { GivesInput (λ x. x) result (place_named points.now (view name.now)) }
+    ensures value { Gives (λ x. x) result (place_named points.now (view name.now)) }
 {
     Ok(points.place(text(name)?) as u32)
 }
 
 /// The points that were named, ascending, where each is one of so many and none was named twice.
-fn needs_among_points(points: usize, named: Listing<u32>) -> Result<Listing<u32>, ProfileFault>
-    ensures value { Gives result (needs_among points named) }
-    ensures kind { IfErr result (λ e. IsOfInput e) }
+fn needs_among_points(points: usize, named: Listing<u32>) -> Result<Listing<u32>, InputFault>
+    ensures value { Gives (λ x. x) result (needs_among points named) }
 {
     if !are_below(named.as_slice(), points) {
-        return Err(ProfileFault::UnknownPoint);
+        return Err(InputFault::UnknownPoint);
     }
     let count = named.len();
     let mut needs = named.into_vec();
@@ -74,14 +70,13 @@ fn needs_among_points(points: usize, named: Listing<u32>) -> Result<Listing<u32>
     if needs.len() == count {
         Ok(needs)
     } else {
-        Err(ProfileFault::NeedTwice)
+        Err(InputFault::NeedTwice)
     }
 }
 
 /// The points that a link needs, none where nothing is said.
-fn needs(alloc: Global, points: &PointNames, link: &Value) -> Result<Listing<u32>, ProfileFault>
-    ensures value { Gives result (needs_where points.now (get (codes "needs") (view link.now))) }
-    ensures kind { IfErr result (λ e. IsOfInput e) }
+fn needs(alloc: Global, points: &PointNames, link: &Value) -> Result<Listing<u32>, InputFault>
+    ensures value { Gives (λ x. x) result (needs_where points.now (get (codes "needs") (view link.now))) }
 {
     let Some(names) = link.get("needs") else {
         return Ok(Listing::from_vec(Vec::new(alloc)));
@@ -91,9 +86,8 @@ fn needs(alloc: Global, points: &PointNames, link: &Value) -> Result<Listing<u32
 }
 
 /// A link: its gain, its charge, whether it may be chosen, and its needs.
-fn read_row(alloc: Global, points: &PointNames, link: &Value) -> Result<LinkRow, ProfileFault>
-    ensures value { Gives result (row_of points.now (view link.now)) }
-    ensures kind { IfErr result (λ e. IsOfInput e) }
+fn read_row(alloc: Global, points: &PointNames, link: &Value) -> Result<LinkRow, InputFault>
+    ensures value { Gives (λ x. x) result (row_of points.now (view link.now)) }
 {
     let gain = amount(link, "gain")?;
     let charge = charge(link)?;
@@ -113,9 +107,8 @@ fn read_point(
     line: u64,
     value: &Value,
     name: &Value,
-) -> Result<Profile, ProfileFault>
-    ensures value { Gives result (point_of line profile (view value.now) (view name.now)) }
-    ensures kind { IfErr result (λ e. IsOfInput e) }
+) -> Result<Profile, InputFault>
+    ensures value { Gives (λ x. x) result (point_of line profile (view value.now) (view name.now)) }
 {
     let name = text(name)?;
     let cost = amount(value, "cost")?;
@@ -129,9 +122,8 @@ fn read_link(
     line: u64,
     value: &Value,
     name: &Value,
-) -> Result<Profile, ProfileFault>
-    ensures value { Gives result (link_of line profile (view value.now) (view name.now)) }
-    ensures kind { IfErr result (λ e. IsOfInput e) }
+) -> Result<Profile, InputFault>
+    ensures value { Gives (λ x. x) result (link_of line profile (view value.now) (view name.now)) }
 {
     let name = text(name)?;
     let row = read_row(alloc, &profile.points, value)?;
@@ -144,16 +136,15 @@ fn read_entry(
     profile: Profile,
     line: u64,
     value: &Value,
-) -> Result<Profile, ProfileFault>
-    ensures value { Gives result (entry_of line profile (view value.now)) }
-    ensures kind { IfErr result (λ e. IsOfInput e) }
+) -> Result<Profile, InputFault>
+    ensures value { Gives (λ x. x) result (entry_of line profile (view value.now)) }
 {
     if let Some(name) = value.get("point") {
         return read_point(profile, line, value, name);
     }
     match value.get("link") {
         Some(name) => read_link(alloc, profile, line, value, name),
-        None => Err(ProfileFault::Text(TextFault::Input(InputFault::BadShape))),
+        None => Err(InputFault::BadShape),
     }
 }
 
@@ -166,30 +157,18 @@ fn blank(bytes: &[u8]) -> bool
         .all(|byte| matches!(*byte, b' ' | b'\t' | b'\r'))
 }
 
-/// The JSON value of a line.
-fn parse(alloc: Global, bytes: &[u8]) -> Result<Value, ProfileFault>
-    ensures value { GivesView view result (of_bytes (json_of_input bytes.now)) }
-    ensures kind { IfErr result (λ e. IsOfInput e) }
-{
-    match read_json(alloc, bytes) {
-        Ok(value) => Ok(value),
-        Err(fault) => Err(ProfileFault::from(fault.kind)),
-    }
-}
-
 /// A profile with what line `line` says, whose bytes are these.
 pub(crate) fn read_line(
     alloc: Global,
     profile: Profile,
     line: u64,
     bytes: &[u8],
-) -> Result<Profile, ProfileFault>
-    ensures value { Gives result (text_of_line line profile bytes.now) }
-    ensures kind { IfErr result (λ e. IsOfInput e) }
+) -> Result<Profile, InputFault>
+    ensures value { Gives (λ x. x) result (text_of_line line profile bytes.now) }
 {
     if blank(bytes) {
         return Ok(profile);
     }
-    let value = parse(alloc, bytes)?;
+    let value = parse_json(alloc, bytes)?;
     read_entry(alloc, profile, line, &value)
 }

@@ -2,11 +2,10 @@
 ghost use Rattle.std.specs.Prelude.{◌≡◌, IfOk, IfErr};
 ghost use Rattle.mh_profile.specs.Inputs.{IsNamed, IsNotMade};
 
-use crate::fault::{Fault, ProfileFault};
 use crate::names::{LinkNames, PointNames};
 use crate::profile::Profile;
 use mh_network::Problem;
-use mh_text::{InputFault, TextFault};
+use mh_text::{Fault, InputFault, TextFault};
 
 /// A problem, and the names of its links and points.
 #[derive(Drop)]
@@ -43,7 +42,7 @@ impl Profile {
                 problem,
             }),
             Err(cause) => Err(Fault {
-                kind: ProfileFault::Text(TextFault::Input(InputFault::Problem(cause))),
+                kind: TextFault::Input(InputFault::Problem(cause)),
                 at: last,
             }),
         }

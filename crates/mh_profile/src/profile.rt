@@ -1,12 +1,11 @@
 //! What the lines of a profile say.
-ghost use Rattle.std.specs.Prelude.{◌≡◌, IfErr};
-ghost use Rattle.mh_profile.specs.Faults.{Gives, IsOfInput};
-ghost use Rattle.mh_profile.specs.Profiles.{nothing, too_many as fault_of_many, with_link, with_point};
+ghost use Rattle.std.specs.Prelude.{◌≡◌};
+ghost use Rattle.mh_text.specs.Gives.{Gives};
+ghost use Rattle.mh_profile.specs.Profiles.{nothing, with_link, with_point};
 
-use crate::fault::ProfileFault;
 use crate::names::{LinkNames, PointNames};
 use mh_network::{GREATEST_COUNT, LinkRow, Listing, ProblemFault};
-use mh_text::{InputFault, TextFault};
+use mh_text::InputFault;
 use std::alloc::Global;
 
 /// The points and the links of the lines that were read, each by number in the order of the lines.
@@ -24,13 +23,6 @@ pub struct Profile {
     pub last: u64,
 }
 
-/// More points, or more links, than any problem has.
-fn too_many(cause: ProblemFault) -> ProfileFault
-    ensures value { result ≡ fault_of_many cause }
-{
-    ProfileFault::Text(TextFault::Input(InputFault::Problem(cause)))
-}
-
 impl Profile {
     /// No points and no links.
     pub fn new(alloc: Global) -> Profile
@@ -46,21 +38,15 @@ impl Profile {
     }
 
     /// With one point more, of line `line`.
-    pub(crate) fn with_point(
-        self,
-        line: u64,
-        name: &str,
-        cost: u64,
-    ) -> Result<Profile, ProfileFault>
-        ensures value { Gives result (with_point line self name.now cost) }
-        ensures kind { IfErr result (λ e. IsOfInput e) }
+    pub(crate) fn with_point(self, line: u64, name: &str, cost: u64) -> Result<Profile, InputFault>
+        ensures value { Gives (λ x. x) result (with_point line self name.now cost) }
     {
         let mut profile = self;
         if profile.points.contains(name) {
-            return Err(ProfileFault::PointTwice);
+            return Err(InputFault::PointTwice);
         }
         if profile.points.len() >= GREATEST_COUNT {
-            return Err(too_many(ProblemFault::TooManyPoints));
+            return Err(InputFault::Problem(ProblemFault::TooManyPoints));
         }
         profile.points.push(name)?;
         profile.costs.push(cost)?;
@@ -74,13 +60,12 @@ impl Profile {
         line: u64,
         name: &str,
         link: LinkRow,
-    ) -> Result<Profile, ProfileFault>
-        ensures value { Gives result (with_link line self name.now link) }
-        ensures kind { IfErr result (λ e. IsOfInput e) }
+    ) -> Result<Profile, InputFault>
+        ensures value { Gives (λ x. x) result (with_link line self name.now link) }
     {
         let mut profile = self;
         if profile.links.len() >= GREATEST_COUNT {
-            return Err(too_many(ProblemFault::TooManyLinks));
+            return Err(InputFault::Problem(ProblemFault::TooManyLinks));
         }
         profile.names.push(name)?;
         profile.links.push(link)?;

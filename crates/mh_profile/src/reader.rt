@@ -2,17 +2,18 @@
 ghost use Rattle.std.specs.Prelude.{◌≡◌, ◌∷◌, ◌++◌, ◌≤◌, ◌+◌, ◌⊎◌, ◌==◌, ◌&&◌, [], List, ℕ, length, nat_le, IfOk, IfErr, IfSome, IfNone};
 ghost use Rattle.mh_text.specs.Bytes.{most_bytes};
 ghost use Rattle.std.specs.List.{position};
-ghost use Rattle.mh_profile.specs.Faults.{GivesAt, IsOfInput, at_line, no_memory, outside};
+ghost use Rattle.mh_text.specs.Gives.{no_memory, at_place, GivesAt, IsOfInput};
+ghost use Rattle.mh_text.specs.Output.{outside};
+ghost use Rattle.mh_text.specs.declared.fault.TextFault.TheVariants as text;
 ghost use Rattle.mh_profile.specs.Limits.{most_in_all};
 ghost use Rattle.mh_profile.specs.Lines.{IsInLine};
 ghost use Rattle.mh_profile.specs.Profiles.{profile_of, text_of_line};
 ghost use Rattle.mh_profile.specs.Readers.{resumed, taken_by, IsBegun, IsReading, Takes};
 
-use crate::fault::{Fault, ProfileFault};
 use crate::line::read_line;
 use crate::profile::Profile;
 use mh_base::Listing;
-use mh_text::{InputFault, TextFault};
+use mh_text::{Fault, InputFault, TextFault};
 use std::alloc::Global;
 
 /// The most bytes of a line, its end not counted.
@@ -54,15 +55,16 @@ fn split_line(bytes: &[u8]) -> Option<(&[u8], &[u8])>
     }
 }
 
-/// A fault of line `at`; out of memory is that of no line.
-fn placed(kind: ProfileFault, at: u64) -> Fault
-    ensures told { (result ≡ outside no_memory) ⊎ (result ≡ record { kind = kind; at = at }) }
-    ensures memory { kind ≡ no_memory → result ≡ outside no_memory }
-    ensures other { (kind ≡ no_memory → ⊥) → result ≡ record { kind = kind; at = at } }
-    ensures kind { result.kind ≡ kind }
+/// A fault of line `at`; want of memory is that of no line.
+fn placed(fault: InputFault, at: u64) -> Fault
+    ensures memory { fault ≡ InputFault.NoMemory → result ≡ outside no_memory }
+    ensures other { (fault ≡ InputFault.NoMemory → ⊥)
+        → result ≡ record { kind = text.Input fault; at = at } }
+    ensures kind { result.kind ≡ text.Input fault }
 {
-    match kind {
-        ProfileFault::Text(TextFault::Input(InputFault::NoMemory)) => Fault { kind, at: 0 },
+    let kind = TextFault::Input(fault);
+    match fault {
+        InputFault::NoMemory => Fault { kind, at: 0 },
         _ => Fault { kind, at },
     }
 }
@@ -74,12 +76,12 @@ fn read_numbered(
     number: u64,
     bytes: &[u8],
 ) -> Result<Profile, Fault>
-    ensures value { GivesAt result (at_line number (text_of_line number profile bytes.now)) }
+    ensures value { GivesAt (λ x. x) result (at_place number (text_of_line number profile bytes.now)) }
     ensures kind { IfErr result (λ e. IsOfInput e.kind) }
 {
     match read_line(alloc, profile, number, bytes) {
         Ok(profile) => Ok(profile),
-        Err(kind) => Err(placed(kind, number)),
+        Err(fault) => Err(placed(fault, number)),
     }
 }
 
@@ -127,7 +129,7 @@ impl LineReader {
         let line = Listing::from_vec(line);
         if !is_within(offset, line.len()) {
             return Err(Fault {
-                kind: ProfileFault::Text(TextFault::Input(InputFault::TooLong)),
+                kind: TextFault::Input(InputFault::TooLong),
                 at: number,
             });
         }
@@ -203,7 +205,7 @@ impl LineReader {
     /// The profile, whose last line is the one that has begun.
     pub fn finish(self) -> Result<Profile, Fault>
         requires reading { IsReading self }
-        ensures value { GivesAt result (resumed self []) }
+        ensures value { GivesAt (λ x. x) result (resumed self []) }
         ensures kind { IfErr result (λ e. IsOfInput e.kind) }
     {
         let LineReader {

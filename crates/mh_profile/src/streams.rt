@@ -1,14 +1,14 @@
 //! Profiles from a reader.
 ghost use Rattle.std.specs.Prelude.{◌≡◌, Ok, List, ℕ, IfErr, IfOk, IfSome};
 ghost use Rattle.mh_text.specs.Bytes.{HasFailed};
+ghost use Rattle.mh_text.specs.Gives.{IsHonestReading};
+ghost use Rattle.mh_text.specs.Output.{IsUnread};
 ghost use Rattle.mh_profile.specs.Inputs.{IsFaultOfLines};
 ghost use Rattle.mh_profile.specs.Profiles.{profile_of};
-ghost use Rattle.mh_profile.specs.Streams.{IsHonestReading, IsUnread};
 
-use crate::fault::Fault;
 use crate::profile::Profile;
 use crate::reader::LineReader;
-use mh_text::Watched;
+use mh_text::{Fault, Watched};
 use std::alloc::Global;
 use std::io::Read;
 

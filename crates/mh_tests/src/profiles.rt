@@ -1,8 +1,9 @@
 //! Profiles, from lines to problems.
-use mh_profile::{Fault, NamedProblem, ProfileFault, read_profile};
-use mh_text::{InputFault, TextFault, Watched};
+use mh_profile::{NamedProblem, ProfileOptions, plan_profile, read_profile};
+use mh_text::{Fault, InputFault, TextFault, Watched};
 use std::alloc::Global;
 use std::test::Fail;
+use std::thread::Threads;
 
 /// Two points, a line of white space, and two links of one name. The last line has no end.
 const PROFILE: &str =
@@ -61,7 +62,8 @@ fn fault_of(alloc: Global, lines: &str) -> Option<Fault> {
 }
 
 /// A fault of a line.
-fn at(kind: ProfileFault, line: u64) -> Option<Fault> {
+fn at(fault: InputFault, line: u64) -> Option<Fault> {
+    let kind = TextFault::Input(fault);
     Some(Fault { kind, at: line })
 }
 
@@ -78,22 +80,79 @@ fn a_profile_is_a_problem_with_names(rt: HostRuntime) -> Result<(), Fail> {
 fn a_need_stands_in_an_earlier_line(rt: HostRuntime) {
     let lines =
         "{\"point\":\"a\",\"cost\":5}\n\n{\"link\":\"x\",\"gain\":9,\"needs\":[\"b\"]}\n{\"point\":\"b\",\"cost\":7}";
-    let unknown = at(ProfileFault::UnknownPoint, 3);
+    let unknown = at(InputFault::UnknownPoint, 3);
     assert_eq!(rt; fault_of(rt.alloc(), lines), unknown);
 }
 
 #[test]
 fn a_point_stands_once(rt: HostRuntime) {
     let lines = "{\"point\":\"a\",\"cost\":5}\n{\"point\":\"a\",\"cost\":5}\n";
-    let twice = at(ProfileFault::PointTwice, 2);
+    let twice = at(InputFault::PointTwice, 2);
     assert_eq!(rt; fault_of(rt.alloc(), lines), twice);
 }
 
 #[test]
 fn a_line_that_is_no_json_has_its_number(rt: HostRuntime) {
-    let kind = ProfileFault::Text(TextFault::Input(InputFault::NotJson));
+    let kind = InputFault::NotJson;
     assert_eq!(rt;
         fault_of(rt.alloc(), "\n\n{\"point\":\"a\",}\n"),
         at(kind, 3)
     );
+}
+
+/// Two points, a link that pays, one that does not, and one that may not be chosen. There is one
+/// greatest flow alone: the first link gives 5 and pays its charge, the second gives 3.
+const PLANNED: &str =
+    "{\"point\":\"a\",\"cost\":5}\n{\"point\":\"b \\\"\",\"cost\":7}\n{\"link\":\"x\",\"gain\":9,\"needs\":[\"a\"],\"charge\":2}\n{\"link\":\"y\",\"gain\":3,\"needs\":[\"b \\\"\"]}\n{\"link\":\"z\",\"gain\":4,\"needs\":[\"a\"],\"eligible\":false}\n{\"link\":\"w\",\"gain\":1,\"charge\":3}\n";
+
+/// The lines of its plan. The first link has 2 of its gain left.
+const LINES: &str =
+    "profile links 1 of 4 points 1 of 2 gain 9 costs 5 charges 2 value 2\nlink \"x\" gain 9 charge 2\nleft \"y\" gain 3 gives 3 to \"b \\\"\"\nleft \"z\" not eligible\nleft \"w\" gain 1 charge 1 of 3\npoint \"a\" cost 5 slack 2\nunpaid \"b \\\"\" cost 7 gets 3 slack 4\n";
+
+/// The certificate of that plan.
+const CERTIFICATE: &str =
+    "{\"charges\":[[0,2],[3,1]],\"flow\":[[0,0,5],[1,1,3]],\"links\":[0],\"points\":[0],\"value\":2}\n";
+
+/// What is written of the plan of some lines.
+fn planned<T: Threads + Sync>(
+    rt: &T,
+    alloc: Global,
+    lines: &str,
+    certificate: bool,
+) -> Result<Vec<u8>, Fault> {
+    let options = ProfileOptions {
+        workers: 2,
+        certificate,
+    };
+    let mut reader = Watched::new(lines.as_bytes());
+    let mut writer = Watched::new(Vec::new(alloc));
+    plan_profile(rt, alloc, options, &mut reader, &mut writer)?;
+    Ok(writer.inner)
+}
+
+#[test]
+fn the_plan_of_a_profile_has_its_names(rt: HostRuntime) -> Result<(), Fail> {
+    let Ok(written) = planned(&rt, rt.alloc(), PLANNED, false) else {
+        return Err(Fail::from("the profile is not planned"));
+    };
+    assert!(rt; written.as_slice() == LINES.as_bytes());
+    Ok(())
+}
+
+#[test]
+fn its_certificate_stands_behind_it(rt: HostRuntime) -> Result<(), Fail> {
+    let Ok(written) = planned(&rt, rt.alloc(), PLANNED, true) else {
+        return Err(Fail::from("the profile is not planned"));
+    };
+    assert!(rt; written.len() == LINES.len() + CERTIFICATE.len());
+    assert!(rt; written.as_slice().starts_with(LINES.as_bytes()));
+    assert!(rt; written.as_slice().ends_with(CERTIFICATE.as_bytes()));
+    Ok(())
+}
+
+#[test]
+fn a_profile_with_a_fault_has_no_lines(rt: HostRuntime) {
+    let fault = planned(&rt, rt.alloc(), "{\"point\":\"a\"}", true).err();
+    let kind = InputFault::BadShape;
+    assert_eq!(rt; fault, at(kind, 1));
 }

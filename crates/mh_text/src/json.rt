@@ -28,8 +28,8 @@ use crate::streams::input::LIMIT;
 use serde_json::Value;
 use std::alloc::Global;
 
-/// The JSON value of bytes of any number.
-fn parse(alloc: Global, input: &[u8]) -> Result<Value, InputFault>
+/// The JSON value of bytes, however many.
+pub fn parse_json(alloc: Global, input: &[u8]) -> Result<Value, InputFault>
     ensures value { Gives view result (json_in input.now) }
 {
     match Value::from_slice(alloc, input) {
@@ -51,5 +51,5 @@ pub fn read_json(alloc: Global, input: &[u8]) -> Result<Value, Fault>
     if input.len() > LIMIT {
         return Err(Fault::from(InputFault::TooLong));
     }
-    Ok(parse(alloc, input)?)
+    Ok(parse_json(alloc, input)?)
 }

@@ -16,7 +16,6 @@ pub use crate::json::points::{
 pub use crate::json::problem::{
     ProblemRows, make_problem, read_costs, read_numbers, read_row, read_rows,
 };
-pub use crate::json::read_json;
 pub use crate::json::scope::{Scope, Shared};
 pub use crate::json::script::{read_declarations, read_workers};
 pub use crate::json::shape::{count, each, list, member, place, text};
@@ -29,3 +28,4 @@ pub use crate::json::values::{
     kind_at, read_constant, read_kind, read_op, read_type, read_value, read_values,
 };
 pub use crate::json::versions::{charge, most_links, version};
+pub use crate::json::{parse_json, read_json};

@@ -4,8 +4,8 @@ ghost use Rattle.mh_text.specs.Gives.{no_memory};
 ghost use Rattle.mh_text.specs.Checks.{IsFound, verdict_line};
 
 use crate::fault::{Fault, InputFault};
-use crate::streams::claim::Claim;
-use mh_cert::{CheckFault, check};
+use mh_cert::{CheckFault, Plan, check};
+use mh_network::Problem;
 use std::alloc::{AllocError, Global};
 
 /// Whether a plan is accepted.
@@ -17,12 +17,14 @@ pub enum Verdict {
     Refused(CheckFault),
 }
 
-/// What is found of the plan of a problem.
-pub(crate) fn judge(alloc: Global, claim: &Claim) -> Result<Verdict, Fault>
-    ensures found { IfOk result (IsFound claim.now.problem claim.now.plan) }
+/// What is found of a plan of a problem.
+///
+/// Fails only if memory runs out, which is told at 0.
+pub fn judge(alloc: Global, problem: &Problem, plan: &Plan) -> Result<Verdict, Fault>
+    ensures found { IfOk result (IsFound problem.now plan.now) }
     ensures memory { IfErr result (λ e. e ≡ record { kind = no_memory; at = 0 }) }
 {
-    match check(alloc, &claim.problem, &claim.plan) {
+    match check(alloc, problem, plan) {
         Ok(()) => Ok(Verdict::Accepted),
         Err(CheckFault::NoMemory) => Err(Fault::from(InputFault::NoMemory)),
         Err(cause) => Ok(Verdict::Refused(cause)),

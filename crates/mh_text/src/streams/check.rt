@@ -13,8 +13,12 @@ use crate::streams::watched::Watched;
 use std::alloc::Global;
 use std::io::{Read, Write};
 
-/// Writes the line of a verdict.
-fn write_verdict<W: Write>(
+/// Writes the line of a verdict, `accepted`, or `refused`, the number and the name of the first part
+/// that is wrong, with its end.
+///
+/// Fails if a write fails, which leaves a beginning of the line, or if memory runs out, which writes
+/// nothing; both are told at 0.
+pub fn write_verdict<W: Write>(
     alloc: Global,
     verdict: Verdict,
     writer: &mut Watched<W>,
@@ -57,7 +61,7 @@ pub fn check_bytes<R: Read, W: Write>(
         writer.old.failures writer.new.failures }
 {
     let claim = read_whole(alloc, reader)?;
-    let verdict = judge(alloc, &claim)?;
+    let verdict = judge(alloc, &claim.problem, &claim.plan)?;
     write_verdict(alloc, verdict, writer)?;
     Ok(verdict)
 }

@@ -1,0 +1,291 @@
+//! The lines of a profile's plan, in which links and points have their names.
+ghost use Rattle.std.specs.Prelude.{◌≡◌, ◌<◌, ◌++◌, All, flat_map, length, string_bytes, IfOk, OnOk};
+ghost use Rattle.std.specs.List.{sum_by};
+ghost use Rattle.serde_json.specs.Data.{string};
+ghost use Rattle.serde_json.specs.Written.{compact_text};
+ghost use Rattle.mh_cert.specs.Plans.{Matches};
+ghost use Rattle.mh_network.specs.Problems.{charge_of, cost_of, gain_of, IsProblem};
+ghost use Rattle.mh_profile.specs.Accounts.{IsAccount};
+ghost use Rattle.mh_profile.specs.PlanLines.{charge_text, chosen_text, counts_text, gives_text, head_text, left_text, line as line_of, link_lines, link_text, paid_text, point_lines, point_text, profile_text, spent_text, sums_text};
+
+use crate::accounts::{Account, is_among, paid, rows_of};
+use crate::named::NamedProblem;
+use mh_base::NoMemory;
+use mh_cert::Plan;
+use mh_network::Problem;
+use serde_json::Value;
+use std::alloc::Global;
+
+/// A name as a string of JSON.
+fn quoted(alloc: Global, name: &str) -> Result<String, NoMemory>
+    ensures value { IfOk result (λ s. string_bytes s ≡ compact_text (string name.now)) }
+{
+    let value = Value::String(String::from_str(alloc, name)?);
+    Ok(value.to_string(alloc)?)
+}
+
+/// What links gain, and what they are charged.
+fn gains_and_charges(problem: &Problem, links: &[u32]) -> (u128, u128)
+    requires inside { All (λ j. j < length problem.now.links) links.now }
+    ensures gains { result.0 ≡ sum_by (gain_of problem.now) links.now }
+    ensures charges { result.1 ≡ sum_by (charge_of problem.now) links.now }
+{
+    let (mut gains, mut charges): (u128, u128) = (0, 0);
+    for link in links {
+        gains += u128::from(problem.gain(*link as usize));
+        charges += u128::from(problem.charge(*link as usize));
+    }
+    (gains, charges)
+}
+
+/// The costs of points.
+fn costs(problem: &Problem, points: &[u32]) -> u128
+    requires inside { All (λ p. p < length problem.now.costs) points.now }
+    ensures value { result ≡ sum_by (cost_of problem.now) points.now }
+{
+    let mut sum: u128 = 0;
+    for point in points {
+        sum += u128::from(problem.cost(*point as usize));
+    }
+    sum
+}
+
+/// How many links and points are chosen of how many.
+fn counts(alloc: Global, problem: &Problem, plan: &Plan) -> Result<String, NoMemory>
+    ensures value { IfOk result (λ s. string_bytes s ≡ counts_text problem.now plan.now) }
+{
+    let (links, points) = (plan.links.len(), plan.points.len());
+    let (all_links, all_points) = (problem.links(), problem.points());
+    Ok(format!(in alloc; "links {links} of {all_links} points {points} of {all_points}")?)
+}
+
+/// What the links gain, their points cost, and they are charged, and what that leaves.
+fn sums(alloc: Global, problem: &Problem, plan: &Plan) -> Result<String, NoMemory>
+    requires problem { IsProblem problem.now }
+    requires matching { Matches problem.now plan.now }
+    ensures value { IfOk result (λ s. string_bytes s ≡ sums_text problem.now plan.now) }
+{
+    let (gain, charge) = gains_and_charges(problem, plan.links.as_slice());
+    let cost = costs(problem, plan.points.as_slice());
+    let value = plan.value;
+    Ok(format!(in alloc; "gain {gain} costs {cost} charges {charge} value {value}")?)
+}
+
+/// How many links and points are chosen, and what they are worth.
+fn head(alloc: Global, problem: &Problem, plan: &Plan) -> Result<String, NoMemory>
+    requires matching { Matches problem.now plan.now }
+    ensures value { IfOk result (λ s. string_bytes s ≡ head_text problem.now plan.now) }
+{
+    let _links = problem.links();
+    let counts = counts(alloc, problem, plan)?;
+    let sums = sums(alloc, problem, plan)?;
+    Ok(format!(in alloc; "profile {counts} {sums}")?)
+}
+
+/// The charge of a chosen link, where there is one.
+fn charge_line(alloc: Global, charge: u64) -> Result<String, NoMemory>
+    ensures value { IfOk result (λ s. string_bytes s ≡ charge_text charge) }
+{
+    if charge == 0 {
+        return Ok(String::new(alloc));
+    }
+    Ok(format!(in alloc; " charge {charge}")?)
+}
+
+/// What is paid of the charge of a link that is left out, where there is one.
+fn paid_line(alloc: Global, charge: u64, paid: u128) -> Result<String, NoMemory>
+    ensures value { IfOk result (λ s. string_bytes s ≡ paid_text charge paid) }
+{
+    if charge == 0 {
+        return Ok(String::new(alloc));
+    }
+    Ok(format!(in alloc; " charge {paid} of {charge}")?)
+}
+
+/// What the rows of a link give to their points.
+fn gives_line(
+    alloc: Global,
+    named: &NamedProblem,
+    rows: &[(u32, u32, u64)],
+) -> Result<String, NoMemory>
+    ensures value { IfOk result (λ s. string_bytes s
+        ≡ flat_map (gives_text named.now.points) rows.now) }
+{
+    let mut line = String::new(alloc);
+    for row in rows {
+        let name = quoted(alloc, named.points.name(row.1 as usize))?;
+        let gives = format!(in alloc; " gives {} to {name}", row.2)?;
+        line.push_str(gives.as_str())?;
+    }
+    Ok(line)
+}
+
+/// A link that is chosen.
+fn chosen_line(alloc: Global, named: &NamedProblem, link: u32) -> Result<String, NoMemory>
+    requires inside { link < length named.now.problem.links }
+    ensures value { IfOk result (λ s. string_bytes s ≡ chosen_text named.now link) }
+{
+    let name = quoted(alloc, named.links.name(link as usize))?;
+    let gain = named.problem.gain(link as usize);
+    let charge = charge_line(alloc, named.problem.charge(link as usize))?;
+    Ok(format!(in alloc; "link {name} gain {gain}{charge}")?)
+}
+
+/// The gain of a link that is left out, and where all of it went.
+fn spent_line(
+    alloc: Global,
+    named: &NamedProblem,
+    plan: &Plan,
+    link: u32,
+) -> Result<String, NoMemory>
+    requires inside { link < length named.now.problem.links }
+    requires matching { Matches named.now.problem plan.now }
+    ensures value { IfOk result (λ s. string_bytes s ≡ spent_text named.now plan.now link) }
+{
+    let problem = &named.problem;
+    let gain = problem.gain(link as usize);
+    let paid = paid(plan.charges.as_slice(), link);
+    let paid = paid_line(alloc, problem.charge(link as usize), paid)?;
+    let gives = gives_line(alloc, named, rows_of(plan.flow.as_slice(), link))?;
+    Ok(format!(in alloc; " gain {gain}{paid}{gives}")?)
+}
+
+/// A link that is left out: it may not be chosen, or it spends all that it gains.
+fn left_line(
+    alloc: Global,
+    named: &NamedProblem,
+    plan: &Plan,
+    link: u32,
+) -> Result<String, NoMemory>
+    requires inside { link < length named.now.problem.links }
+    requires matching { Matches named.now.problem plan.now }
+    ensures value { IfOk result (λ s. string_bytes s ≡ left_text named.now plan.now link) }
+{
+    let name = quoted(alloc, named.links.name(link as usize))?;
+    if !named.problem.eligible(link as usize) {
+        return Ok(format!(in alloc; "left {name} not eligible")?);
+    }
+    let spent = spent_line(alloc, named, plan, link)?;
+    Ok(format!(in alloc; "left {name}{spent}")?)
+}
+
+/// What became of a link.
+fn link_line(
+    alloc: Global,
+    named: &NamedProblem,
+    plan: &Plan,
+    link: u32,
+) -> Result<String, NoMemory>
+    requires inside { link < length named.now.problem.links }
+    requires matching { Matches named.now.problem plan.now }
+    ensures value { IfOk result (λ s. string_bytes s ≡ link_text named.now plan.now link) }
+{
+    if is_among(plan.links.as_slice(), link) {
+        chosen_line(alloc, named, link)
+    } else {
+        left_line(alloc, named, plan, link)
+    }
+}
+
+/// A point that a chosen link needs, or one that is not paid for.
+fn point_line(
+    alloc: Global,
+    named: &NamedProblem,
+    plan: &Plan,
+    account: &Account,
+    point: u32,
+) -> Result<String, NoMemory>
+    requires inside { point < length named.now.problem.costs }
+    requires matching { Matches named.now.problem plan.now }
+    requires account { IsAccount named.now.problem plan.now account.now }
+    ensures value { IfOk result (λ s. string_bytes s ≡ point_text named.now plan.now point) }
+{
+    let name = quoted(alloc, named.points.name(point as usize))?;
+    let cost = named.problem.cost(point as usize);
+    let chosen = is_among(plan.points.as_slice(), point);
+    let slack = account.slack(&named.problem, chosen, point as usize);
+    if chosen {
+        return Ok(format!(in alloc; "point {name} cost {cost} slack {slack}")?);
+    }
+    let gets = account.gets(point as usize);
+    Ok(format!(in alloc; "unpaid {name} cost {cost} gets {gets} slack {slack}")?)
+}
+
+/// Puts a text last, as a line.
+pub(crate) fn push_line(out: &mut String, text: &str) -> Result<(), NoMemory>
+    ensures value { OnOk result (string_bytes out.new
+        ≡ string_bytes out.old ++ line_of text.now) }
+{
+    out.push_str(text)?;
+    out.push('\n')?;
+    Ok(())
+}
+
+/// Puts the lines of the links last.
+fn push_links(
+    out: &mut String,
+    alloc: Global,
+    named: &NamedProblem,
+    plan: &Plan,
+) -> Result<(), NoMemory>
+    requires matching { Matches named.now.problem plan.now }
+    ensures value { OnOk result (string_bytes out.new ≡ string_bytes out.old
+        ++ link_lines named.now plan.now (length named.now.problem.links)) }
+{
+    for link in 0..named.problem.links() {
+        let line = link_line(alloc, named, plan, link as u32)?;
+        push_line(out, line.as_str())?;
+    }
+    Ok(())
+}
+
+/// Puts the lines of the points last.
+fn push_points(
+    out: &mut String,
+    alloc: Global,
+    named: &NamedProblem,
+    plan: &Plan,
+    account: &Account,
+) -> Result<(), NoMemory>
+    requires matching { Matches named.now.problem plan.now }
+    requires account { IsAccount named.now.problem plan.now account.now }
+    ensures value { OnOk result (string_bytes out.new ≡ string_bytes out.old
+        ++ point_lines named.now plan.now (length named.now.problem.costs)) }
+{
+    for point in 0..named.problem.points() {
+        let line = point_line(alloc, named, plan, account, point as u32)?;
+        push_line(out, line.as_str())?;
+    }
+    Ok(())
+}
+
+/// The lines of a plan of a profile, each with its end: how many links and points are chosen of how
+/// many, with what they gain, cost, are charged and are worth; then each link, and then each point,
+/// in the order of the profile, all names as strings of JSON:
+///
+/// ```
+/// profile links 1 of 3 points 1 of 2 gain 9 costs 5 charges 2 value 2
+/// link "x" gain 9 charge 2
+/// left "y" gain 3 gives 3 to "b"
+/// left "z" not eligible
+/// point "a" cost 5 slack 2
+/// unpaid "b" cost 7 gets 3 slack 4
+/// ```
+///
+/// A link that is left out spends all that it gains, on its charge and on points that it needs
+/// (`mh_network::left_links_spend_all`), and an unpaid point gets what such links give to it. What
+/// is given is that of one flow; another could share it otherwise. `slack` tells by how much the
+/// cost of a chosen point may rise, or that of an unpaid one fall, and the chosen links are still
+/// worth most.
+pub fn profile_lines(alloc: Global, named: &NamedProblem, plan: &Plan) -> Result<String, NoMemory>
+    requires matching { Matches named.now.problem plan.now }
+    ensures value { IfOk result (λ s. string_bytes s ≡ profile_text named.now plan.now) }
+{
+    let account = Account::new(alloc, &named.problem, plan)?;
+    let mut lines = String::new(alloc);
+    let head = head(alloc, &named.problem, plan)?;
+    push_line(&mut lines, head.as_str())?;
+    push_links(&mut lines, alloc, named, plan)?;
+    push_points(&mut lines, alloc, named, plan, &account)?;
+    Ok(lines)
+}

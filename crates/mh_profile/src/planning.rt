@@ -1,0 +1,105 @@
+//! Planning: a profile in, the lines of its plan out.
+ghost use Rattle.std.specs.Prelude.{◌≡◌, ◌<◌, ◌≤◌, ℕ, List, string_bytes, IfOk, IfErr, IfSome, OnOk};
+ghost use Rattle.std.specs.Io.KnownBytes.{Appends};
+ghost use Rattle.mh_cert.specs.Plans.{Matches};
+ghost use Rattle.mh_plan.specs.Limits.{most_workers};
+ghost use Rattle.mh_text.specs.Bytes.{HasFailed};
+ghost use Rattle.mh_text.specs.Gives.{IsHonest, IsHonestReading};
+ghost use Rattle.mh_text.specs.Output.{IsUnread};
+ghost use Rattle.mh_profile.specs.Inputs.{IsProfileFault, IsProfileInput};
+ghost use Rattle.mh_profile.specs.Planning.{FailsPlan, IsPlanOf, IsPlanned, lines_for};
+
+use crate::named::NamedProblem;
+use crate::plan_lines::{profile_lines, push_line};
+use crate::streams::read_profile;
+use mh_base::NoMemory;
+use mh_cert::Plan;
+use mh_plan::{OpenGate, plan};
+use mh_text::{Fault, Watched, plan_json, write_lines};
+use std::alloc::Global;
+use std::io::{Read, Write};
+use std::thread::Threads;
+
+/// How the plan of a profile is made, and what is told of it.
+#[derive(Clone, Copy, Debug, PartialEq, Eq)]
+pub struct ProfileOptions {
+    /// How many workers plan, from 1 to 64. The plan does not depend on them.
+    pub workers: usize,
+    /// Whether the plan is also written as JSON, by number, with the flow that shows it to be best.
+    pub certificate: bool,
+}
+
+/// The problem with names that the reader gives.
+fn read_named<R: Read>(alloc: Global, reader: &mut Watched<R>) -> Result<NamedProblem, Fault>
+    ensures ok { IfOk result (λ named. IfSome (R.remaining reader.old.inner)
+        (λ input. IsProfileInput input named)) }
+    ensures failed { IfErr result (IsUnread IsProfileFault (R.remaining reader.old.inner)
+        (HasFailed reader.old.failures reader.new.failures)) }
+    ensures honest { IsHonestReading result reader.old.failures reader.new.failures }
+{
+    read_profile(alloc, reader)?.into_problem()
+}
+
+/// The lines of a plan.
+fn render(
+    alloc: Global,
+    options: ProfileOptions,
+    named: &NamedProblem,
+    plan: &Plan,
+) -> Result<String, NoMemory>
+    requires matching { Matches named.now.problem plan.now }
+    ensures value { IfOk result (λ s. string_bytes s ≡ lines_for options named.now plan.now) }
+{
+    let mut lines = profile_lines(alloc, named, plan)?;
+    if options.certificate {
+        let certificate = plan_json(alloc, plan)?;
+        push_line(&mut lines, certificate.as_str())?;
+    }
+    Ok(lines)
+}
+
+/// The lines of the plan of a problem with names.
+fn plan_named<T: Threads + Sync>(
+    rt: &T,
+    alloc: Global,
+    options: ProfileOptions,
+    named: &NamedProblem,
+) -> Result<String, NoMemory>
+    requires some { 0 < options.workers }
+    requires few { options.workers ≤ most_workers }
+    ensures planned { IfOk result (λ s. IsPlanOf options named.now (string_bytes s)) }
+{
+    let plan = plan(rt, alloc, &named.problem, options.workers, &OpenGate)?;
+    render(alloc, options, named, &plan)
+}
+
+/// Plans the profile that the reader gives, and writes the lines of its plan (`profile_lines`), and
+/// its certificate (`mh_text::plan_json`) where it is asked for: the best links, the fewest where
+/// several sets are best.
+///
+/// The input is read to its end, or to its first fault. A fault of the input, or of memory, writes
+/// nothing. A failing write leaves a beginning of the lines, and is told of no line.
+pub fn plan_profile<T: Threads + Sync, R: Read, W: Write>(
+    rt: &T,
+    alloc: Global,
+    options: ProfileOptions,
+    reader: &mut Watched<R>,
+    writer: &mut Watched<W>,
+) -> Result<(), Fault>
+    requires some { 0 < options.workers }
+    requires few { options.workers ≤ most_workers }
+    ensures ok { OnOk result (IfSome (R.remaining reader.old.inner) (λ input. (text : List ℕ)
+        × IsPlanned options input text
+        × Appends (W.contents writer.old.inner) (W.contents writer.new.inner) text)) }
+    ensures failed { IfErr result (FailsPlan options (R.remaining reader.old.inner)
+        (W.contents writer.old.inner) (W.contents writer.new.inner)
+        (HasFailed reader.old.failures reader.new.failures)
+        (HasFailed writer.old.failures writer.new.failures)) }
+    ensures honest { IsHonest result reader.old.failures reader.new.failures
+        writer.old.failures writer.new.failures }
+{
+    let named = read_named(alloc, reader)?;
+    let lines = plan_named(rt, alloc, options, &named)?;
+    write_lines(lines, writer)?;
+    Ok(())
+}
