@@ -9,7 +9,9 @@ const MOST_EDITS: usize = 2;
 /// The nearest of the words within two edits, the first where several are as near. A word of two
 /// letters is meant for one within one edit, and a word of one letter for none, since to such words
 /// most short ones are near.
-pub(crate) fn nearest<'a>(
+///
+/// Fails only if memory runs out.
+pub fn nearest<'a>(
     alloc: Global,
     word: &str,
     known: &[&'a str],

@@ -5,7 +5,9 @@ use serde_json::Value;
 use std::alloc::Global;
 
 /// A text as a string of JSON.
-pub(crate) fn quoted(alloc: Global, text: &str) -> Result<String, NoMemory> {
+///
+/// Fails only if memory runs out.
+pub fn quoted(alloc: Global, text: &str) -> Result<String, NoMemory> {
     let value = Value::String(String::from_str(alloc, text)?);
     Ok(value.to_string(alloc)?)
 }

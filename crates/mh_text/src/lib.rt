@@ -34,7 +34,7 @@ pub use lines::verdict::{Verdict, judge};
 pub use mh_core::{Definition, Event, Limits, Machine, Plan, Problem, Refusal, Reply, SharedPlan};
 pub use streams::check::{check_bytes, write_verdict};
 pub use streams::failing::{Sink, Source};
-pub use streams::input::read_input;
+pub use streams::input::{read_input, read_up_to};
 pub use streams::planning::{PlanOptions, plan_bytes, write_lines};
 pub use streams::run::{RunOptions, read_script_from, run_bytes};
 pub use streams::stepping::best_plan;

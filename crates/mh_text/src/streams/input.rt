@@ -1,5 +1,5 @@
 //! The whole input.
-ghost use Rattle.std.specs.Prelude.{◌≡◌, ◌<◌, ◌≤◌, ◌⊎◌, length, IfOk, IfErr, OnOk, OnErr, IfSome, IsErrOf};
+ghost use Rattle.std.specs.Prelude.{◌≡◌, ◌<◌, ◌≤◌, ◌⊎◌, ◌+◌, ◌^◌, length, IfOk, IfErr, OnOk, OnErr, IfSome, IsErrOf};
 ghost use Rattle.mh_text.specs.Bytes.{HasFailed, most_bytes};
 ghost use Rattle.mh_text.specs.Gives.{no_memory, too_long};
 ghost use Rattle.std.specs.Io.KnownBytes.{Consumes};
@@ -11,6 +11,40 @@ use std::io::Read;
 
 /// The most bytes that an input may have.
 pub(crate) const LIMIT: usize = 1_048_576;
+
+/// The input to its end, or up to the first byte past a limit.
+///
+/// Fails if it has more bytes than that, if a read fails, or if memory runs out.
+pub fn read_up_to<R: Read>(
+    alloc: Global,
+    reader: &mut Watched<R>,
+    limit: usize,
+) -> Result<Vec<u8>, TextFault>
+    requires bounded { limit + 1 < 2 ^ 64 }
+    ensures ok { IfOk result (λ input. IfSome (R.remaining reader.old.inner) (λ bytes. input.items
+        ≡ bytes)) }
+    ensures short { IfOk result (λ input. length input.items ≤ limit) }
+    ensures long { IsErrOf result too_long
+        → IfSome (R.remaining reader.old.inner) (λ bytes. limit < length bytes) }
+    ensures kept { OnOk result (reader.new.failures ≡ reader.old.failures) }
+    ensures failed { IsErrOf result TextFault.ReadFailed
+        → HasFailed reader.old.failures reader.new.failures }
+    ensures kinds { IfErr result (λ e. (e ≡ no_memory) ⊎ (e ≡ too_long)
+        ⊎ (e ≡ TextFault.ReadFailed)) }
+{
+    let mut input = Vec::new(alloc);
+    let mut buffer = [0u8; 8192];
+    while input.len() <= limit {
+        let room = (limit + 1 - input.len()).min(buffer.len());
+        let part = &mut buffer[..room];
+        let n = reader.read(part)?;
+        if n == 0 {
+            return Ok(input);
+        }
+        input.extend_from_slice(&part[..n])?;
+    }
+    Err(TextFault::Input(InputFault::TooLong))
+}
 
 /// The input to its end, or up to the first byte past 1,048,576.
 ///
@@ -27,16 +61,5 @@ pub fn read_input<R: Read>(alloc: Global, reader: &mut Watched<R>) -> Result<Vec
     ensures kinds { IfErr result (λ e. (e ≡ no_memory) ⊎ (e ≡ too_long)
         ⊎ (e ≡ TextFault.ReadFailed)) }
 {
-    let mut input = Vec::new(alloc);
-    let mut buffer = [0u8; 8192];
-    while input.len() <= LIMIT {
-        let room = (LIMIT + 1 - input.len()).min(buffer.len());
-        let part = &mut buffer[..room];
-        let n = reader.read(part)?;
-        if n == 0 {
-            return Ok(input);
-        }
-        input.extend_from_slice(&part[..n])?;
-    }
-    Err(TextFault::Input(InputFault::TooLong))
+    read_up_to(alloc, reader, LIMIT)
 }
