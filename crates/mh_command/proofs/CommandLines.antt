@@ -15,7 +15,7 @@ use Rattle.mh_command.specs.CommandLine.{program, run_words, check_words, AreWor
 use Rattle.mh_command.specs.declared.reading.Reading.{Reading}
 use Rattle.mh_command.specs.declared.request.Asked.{Asked}
 use Rattle.mh_command.specs.declared.request.Request.{Request}
-use Rattle.mh_command.specs.declared.request.Request.TheVariants.{Run, Check, Plan, Stress}
+use Rattle.mh_command.specs.declared.request.Request.TheVariants.{Run, Check, Plan, Stress, Profile}
 
 is_plain : is_simple program ≡ true
 unfolding clap_on_literals
@@ -48,6 +48,7 @@ taken_words (Run options) reading after is = subst Takes (sym is) (taken_run opt
 taken_words Check reading after is = subst Takes (sym is) (taken_check reading.explain reading.strict)
 taken_words (Plan options) reading after is = absurd is
 taken_words (Stress options) reading after is = absurd is
+taken_words (Profile options) reading after is = absurd is
 
 pub is_taken : (asked : Asked) (words : List (List ℕ)) → AsksFor asked words → takes program words ≡ true
 is_taken asked words (inl are) = taken_words asked.request asked.reading (drop 1 words) are
@@ -83,6 +84,7 @@ named_words (Run options) reading after is = subst (IsEntered (Run options) read
 named_words Check reading after is = subst (IsEntered Check reading) (sym is) (named_check reading.explain reading.strict)
 named_words (Plan options) reading after is = absurd is
 named_words (Stress options) reading after is = absurd is
+named_words (Profile options) reading after is = absurd is
 
 is_named : (asked : Asked) (words : List (List ℕ)) → AsksFor asked words → IsNamed asked (subcommand_of program words)
 is_named asked words (inl are) = named_words asked.request asked.reading (drop 1 words) are

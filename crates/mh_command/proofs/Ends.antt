@@ -21,7 +21,7 @@ use Rattle.mh_command.specs.Statuses.{status_told}
 use Rattle.mh_command.specs.Streams.{IsDone, IsTold, IsToldFor}
 use Rattle.mh_command.specs.declared.request.Asked.{Asked}
 use Rattle.mh_command.specs.declared.request.Request.{Request}
-use Rattle.mh_command.specs.declared.request.Request.TheVariants.{Run, Check, Plan, Stress}
+use Rattle.mh_command.specs.declared.request.Request.TheVariants.{Run, Check, Plan, Stress, Profile}
 
 pub one_more_fails : (n : ℕ) → HasFailed n (one_more n)
 one_more_fails n = omega arith
@@ -120,6 +120,9 @@ module _ (old mid new : Option (List ℕ)) (kept : Keeps mid new) where
   on_kept (Stress options) input A B e (inl (same, unread)) = inl (Keeps-trans old mid new same kept, unread)
   on_kept (Stress options) input A B e (inr (text, stressed, (is, failed, (front, rest, left, split, begun)))) =
       inr (text, stressed, (is, failed, (front, rest, left, split, Appends-kept old mid new front begun kept)))
+  on_kept (Profile options) input A B e (inl (same, unread)) = inl (Keeps-trans old mid new same kept, unread)
+  on_kept (Profile options) input A B e (inr (text, planned, (is, failed, (front, rest, left, split, begun)))) =
+      inr (text, planned, (is, failed, (front, rest, left, split, Appends-kept old mid new front begun kept)))
 
   fails_kept : (asked : Asked) (input : Option (List ℕ)) (A B : Type 0) (e : Fault) → FailsIn asked input old mid A B e → FailsIn asked input old new A B e
   fails_kept asked input A B e (inl (same, unread)) = inl (Keeps-trans old mid new same kept, unread)
@@ -167,6 +170,10 @@ module _ (old new : Option (List ℕ)) (A B : Type 0) (e : Fault) (small : statu
   refuses_on (Stress options) bytes (inl (kept, inl (inr (inr (inr (memory, reached)))))) = absurd (not_of no_memory (omega arith) memory)
   refuses_on (Stress options) bytes (inl (kept, inr reader)) = absurd (not_outside NoReader (omega arith) reader)
   refuses_on (Stress options) bytes (inr (text, stressed, (is, failed, begun))) = absurd (not_outside WriteFailed (omega arith) is)
+  refuses_on (Profile options) bytes (inl (kept, inl memory)) = absurd (not_outside no_memory (omega arith) memory)
+  refuses_on (Profile options) bytes (inl (kept, inr (inl (read, failed)))) = absurd (not_outside ReadFailed (omega arith) read)
+  refuses_on (Profile options) bytes (inl (kept, inr (inr fault))) = (inr (e, fault, refl), kept)
+  refuses_on (Profile options) bytes (inr (text, planned, (is, failed, begun))) = absurd (not_outside WriteFailed (omega arith) is)
 
   refuses_input : (asked : Asked) (input : Option (List ℕ)) → FailsIn asked input old new A B e → IfSome input (IsTurned old new e asked)
   refuses_input asked None fails = tt

@@ -1,13 +1,12 @@
 -- What the words after `plan` say, as it is read.
 use Rattle.std.proofs.Common.{◌≡◌, ◌≤◌, ◌<◌, ◌^◌, ◌∙◌, refl, sym, ap, subst, arith, ℕ, Bool, true, false, List, Option, Some, None, Result, Ok, Err, codes, IfSome}
 use Rattle.std.specs.Str.Parse.{ParsesUnsigned}
-use Rattle.clap.specs.Words.{ReadsOne, one_text, rows_of}
+use Rattle.clap.specs.Words.{ReadsOne, one_of, one_text, rows_of}
 use Rattle.clap.specs.declared.parser.matches.Found.{Found}
 use Rattle.clap.proofs.WalkLemmas.{one_text-rows}
-use Rattle.mh_text.specs.declared.streams.planning.PlanOptions.{PlanOptions}
 use Rattle.mh_text.specs.declared.streams.run.RunOptions.{RunOptions}
 use Rattle.mh_stress.specs.declared.stress.StressOptions.{StressOptions}
-use Rattle.mh_command.specs.CommandLine.{AreOptions, AreStressed, IsNumber, IsRead, IsReported, IsUnexplained, MayBeNumber, truth_text}
+use Rattle.mh_command.specs.CommandLine.{AreStressed, AreWorkers, IsNumber, IsRead, IsReported, IsUnexplained, MayBeNumber, truth_text}
 use Rattle.mh_command.specs.declared.reading.Reading.{Reading}
 
 -- a number that has so many bits is read as what it is
@@ -51,19 +50,16 @@ pub report_is : (f : Found) (options : RunOptions) → IsReported options (rows_
     → (one_text f (codes "report") ≡ Some (codes "false") → r ≡ false) → r ≡ options.report
 report_is f options is r on off = flag_read _ options.report r on off (one_text-rows f (codes "report") ∙ is)
 
-module _ (f : Found) (options : PlanOptions) (are : AreOptions options (rows_of f)) where
-  pub workers_are : {E : Type 0} (G : List ℕ → Result ℕ E → Type 0) → ((t : List ℕ) (x : Result ℕ E) → G t x → ParsesUnsigned 8 10 t x)
-      → (r : Option ℕ) → ((t : List ℕ) → one_text f (codes "workers") ≡ Some t → ReadsOne G t r) → r ≡ Some options.workers
-  workers_are G only r reads = number_read 8 G only (one_text f (codes "workers")) options.workers r reads
-      (subst (λ o. IsNumber o options.workers) (sym (one_text-rows f (codes "workers"))) are.workers) (omega (arith, are.few))
+-- how many workers plan
+pub planners_are : (f : Found) (workers : ℕ) → AreWorkers workers (rows_of f) → {E : Type 0} (G : List ℕ → Result ℕ E → Type 0) → ((t : List ℕ) (x : Result ℕ E) → G t x → ParsesUnsigned 8 10 t x)
+    → (r : Option ℕ) → ((t : List ℕ) → one_text f (codes "workers") ≡ Some t → ReadsOne G t r) → r ≡ Some workers
+planners_are f workers are G only r reads = number_read 8 G only (one_text f (codes "workers")) workers r reads
+    (subst (λ o. IsNumber o workers) (sym (one_text-rows f (codes "workers"))) are.number) (omega (arith, are.few))
 
-  pub certificate_is : (r : Bool) → (one_text f (codes "certificate") ≡ Some (codes "true") → r ≡ true)
-      → (one_text f (codes "certificate") ≡ Some (codes "false") → r ≡ false) → r ≡ options.certificate
-  certificate_is r on off = flag_read _ options.certificate r on off (one_text-rows f (codes "certificate") ∙ are.certificate)
-
-  pub phases_are : (r : Bool) → (one_text f (codes "phases") ≡ Some (codes "true") → r ≡ true)
-      → (one_text f (codes "phases") ≡ Some (codes "false") → r ≡ false) → r ≡ options.phases
-  phases_are r on off = flag_read _ options.phases r on off (one_text-rows f (codes "phases") ∙ are.phases)
+-- a word that was found is read as it is
+pub word_is : (f : Found) (word : List ℕ) (b : Bool) → one_of word (rows_of f) ≡ Some (truth_text b) → (r : Bool) → (one_text f word ≡ Some (codes "true") → r ≡ true)
+    → (one_text f word ≡ Some (codes "false") → r ≡ false) → r ≡ b
+word_is f word b is r on off = flag_read _ b r on off (one_text-rows f word ∙ is)
 
 -- what the words after `stress` say
 module _ (f : Found) (options : StressOptions) (are : AreStressed options (rows_of f)) where

@@ -10,6 +10,7 @@ use Rattle.mh_text.specs.Inputs.{json_of_input}
 use Rattle.mh_text.specs.Checks.{IsClaimFault}
 use Rattle.mh_text.specs.Output.{outside, EndsReading, IsUnread}
 use Rattle.mh_text.specs.Planning.{IsProblemFault}
+use Rattle.mh_profile.specs.Inputs.{IsProfileFault}
 use Rattle.mh_text.specs.Problems.{rows_at}
 use Rattle.mh_text.specs.Script.{script_of}
 use Rattle.mh_text.specs.declared.fault.Fault.{Fault}
@@ -18,10 +19,10 @@ use Rattle.mh_text.specs.declared.fault.TextFault.TheVariants.{Input, ReadFailed
 use Rattle.mh_explain.specs.Unread.{first_unread, first_of_read}
 use Rattle.mh_explain.specs.declared.input.InputForm.{InputForm}
 use Rattle.mh_command.specs.Answers.{FailsIn, FailsOn, IsAnswerUnless, IsHelp, Works, WorksOn, output_alone}
-use Rattle.mh_command.specs.Readings.{form_of, refused_at, IsRefusal}
+use Rattle.mh_command.specs.Readings.{form_of, refused_at, unread_in, IsRefusal}
 use Rattle.mh_command.specs.declared.request.Asked.{Asked}
 use Rattle.mh_command.specs.declared.request.Request.{Request}
-use Rattle.mh_command.specs.declared.request.Request.TheVariants.{Run, Check, Plan, Stress}
+use Rattle.mh_command.specs.declared.request.Request.TheVariants.{Run, Check, Plan, Stress, Profile}
 
 -- memory kept a request from its work
 nothing_worked : (request : Request) (input old new : Option (List ℕ)) (A B : Type 0) → Keeps old new → FailsOn request input old new A B (outside no_memory)
@@ -29,6 +30,7 @@ nothing_worked (Run options) input old new A B kept = inl (kept, inl refl)
 nothing_worked Check input old new A B kept = inl (kept, inl refl)
 nothing_worked (Plan options) input old new A B kept = inl (kept, inl refl)
 nothing_worked (Stress options) input old new A B kept = inl (kept, inl (inl refl))
+nothing_worked (Profile options) input old new A B kept = inl (kept, inl refl)
 
 memory_is_no_read : no_memory ≢ ReadFailed
 memory_is_no_read is = cc
@@ -60,6 +62,8 @@ module _ (input old new : Option (List ℕ)) (A B : Type 0) (e : Fault) (read : 
   keeps_unread (Plan options) bytes (inr (text, planned, (is, failed, begun))) = absurd (not_outside WriteFailed write_is_no_read is)
   keeps_unread (Stress options) bytes (inl (kept, unread)) = kept
   keeps_unread (Stress options) bytes (inr (text, stressed, (is, failed, begun))) = absurd (not_outside WriteFailed write_is_no_read is)
+  keeps_unread (Profile options) bytes (inl (kept, unread)) = kept
+  keeps_unread (Profile options) bytes (inr (text, planned, (is, failed, begun))) = absurd (not_outside WriteFailed write_is_no_read is)
 
 -- where no read fails, it does not matter what a failed read says
 module _ (old new : Option (List ℕ)) (A C B : Type 0) (e : Fault) (bytes : List ℕ) (never : e ≡ outside ReadFailed → A → C) where
@@ -78,6 +82,8 @@ module _ (old new : Option (List ℕ)) (A C B : Type 0) (e : Fault) (bytes : Lis
   fails_by (Stress options) (inl (kept, inl unread)) = inl (kept, inl (unread_by EndsReading unread))
   fails_by (Stress options) (inl (kept, inr reader)) = inl (kept, inr reader)
   fails_by (Stress options) (inr cut) = inr cut
+  fails_by (Profile options) (inl (kept, unread)) = inl (kept, unread_by IsProfileFault unread)
+  fails_by (Profile options) (inr cut) = inr cut
 
 is_read_failed : (k : TextFault) → (k ≡ ReadFailed) ⊎ (k ≢ ReadFailed)
 is_read_failed (Input cause) = inr (λ is. cc)
@@ -118,15 +124,25 @@ not_refused : (strict : Bool) (found : Option ℕ) → strict ≡ false → (if 
 not_refused true found is = cc
 not_refused false found is = refl
 
-module _ (asked : Asked) (plain : asked.reading.strict ≡ false) where
+-- an input that no key is looked for in is not refused for one
+pub plain_unrefused : (asked : Asked) → asked.reading.strict ≡ false → (bytes : List ℕ) → refused_at asked bytes ≡ None
+plain_unrefused asked plain bytes = not_refused asked.reading.strict (unread_in (form_of asked.request) bytes) plain
+
+none_either : (strict : Bool) → (if strict then None else None) ≡ None
+none_either true = refl
+none_either false = refl
+
+pub lines_unrefused : (asked : Asked) → form_of asked.request ≡ None → (bytes : List ℕ) → refused_at asked bytes ≡ None
+lines_unrefused asked lines bytes = ap (λ (form : Option InputForm). if asked.reading.strict then unread_in form bytes else None) lines ∙ none_either asked.reading.strict
+
+module _ (asked : Asked) (never : (bytes : List ℕ) → refused_at asked bytes ≡ None) where
   unrefused : (input : Option (List ℕ)) → IfSome input (λ bytes. refused_at asked bytes ≡ None)
   unrefused None = tt
-  unrefused (Some bytes) = not_refused asked.reading.strict (first_unread (form_of asked.request) bytes) plain
+  unrefused (Some bytes) = never bytes
 
   pub works_plain : (input old new : Option (List ℕ)) (status : ℕ) → WorksOn asked.request input old new status → Works asked input old new status
   works_plain None old new status known = known
-  works_plain (Some bytes) old new status works =
-      works_unrefused asked bytes old new status (not_refused asked.reading.strict (first_unread (form_of asked.request) bytes) plain) works
+  works_plain (Some bytes) old new status works = works_unrefused asked bytes old new status (never bytes) works
 
   pub fails_plain : (input old new : Option (List ℕ)) (A B : Type 0) (e : Fault) → FailsOn asked.request input old new A B e → FailsIn asked input old new A B e
   fails_plain input old new A B e fails = inr (unrefused input, fails)
@@ -146,6 +162,8 @@ module _ (asked : Asked) (bytes : List ℕ) where
   unknown (Stress options) old new A B e (inl (kept, inl unread)) = inl (kept, inl (inr (inr tt)))
   unknown (Stress options) old new A B e (inl (kept, inr reader)) = inl (kept, inr reader)
   unknown (Stress options) old new A B e (inr (text, stressed, cut)) = inr (text, tt, cut)
+  unknown (Profile options) old new A B e (inl (kept, unread)) = inl (kept, inr (inr tt))
+  unknown (Profile options) old new A B e (inr (text, planned, cut)) = inr (text, tt, cut)
 
   known : (all : List ℕ) (old new : Option (List ℕ)) (A B : Type 0) (e : Fault) → FailsIn asked (Some all) old new ⊥ B e → FailsIn asked (Some all) old new A B e
   known all old new A B e (inl (kept, unread)) = inl (kept, unread_by old new ⊥ A B e all (λ same never. absurd never) (IsRefusal asked) unread)
@@ -185,25 +203,27 @@ module _ (bytes : List ℕ) (long : most_bytes < length bytes) where
   is_long : json_of_input bytes ≡ Err (outside too_long)
   is_long = rw (lt-leb (length bytes) most_bytes long) refl
 
-  none_unread : (form : InputForm) → first_unread form bytes ≡ None
+  none_unread : (form : Option InputForm) → unread_in form bytes ≡ None
   unfolding first_unread
-  none_unread form = ap (first_of_read form) is_long
+  none_unread None = refl
+  none_unread (Some form) = ap (first_of_read form) is_long
 
-  none_refused : (strict : Bool) (form : InputForm) → (if strict then first_unread form bytes else None) ≡ None
+  none_refused : (strict : Bool) (form : Option InputForm) → (if strict then unread_in form bytes else None) ≡ None
   none_refused true form = none_unread form
   none_refused false form = refl
 
-  long_fails : (request : Request) (old : Option (List ℕ)) (A B : Type 0) → FailsOn request (Some bytes) old old A B (outside too_long)
-  long_fails (Run options) old A B = inl (Keeps-refl old, inr (inr (inl (ap (λ d. d >>= script_of) is_long))))
-  long_fails Check old A B = inl (Keeps-refl old, inr (inr (inl (ap (λ d. d >>= (λ value. at_place 0 (rows_at (Some (codes "problem")) value))) is_long))))
-  long_fails (Plan options) old A B = inl (Keeps-refl old, inr (inr (inl (ap (λ d. d >>= (λ value. at_place 0 (rows_at None value))) is_long))))
-  long_fails (Stress options) old A B = inl (Keeps-refl old, inl (inr (inr (inl (ap (λ d. d >>= script_of) is_long)))))
+  long_fails : (request : Request) (old : Option (List ℕ)) (A B : Type 0) → form_of request ≢ None → FailsOn request (Some bytes) old old A B (outside too_long)
+  long_fails (Run options) old A B formed = inl (Keeps-refl old, inr (inr (inl (ap (λ d. d >>= script_of) is_long))))
+  long_fails Check old A B formed = inl (Keeps-refl old, inr (inr (inl (ap (λ d. d >>= (λ value. at_place 0 (rows_at (Some (codes "problem")) value))) is_long))))
+  long_fails (Plan options) old A B formed = inl (Keeps-refl old, inr (inr (inl (ap (λ d. d >>= (λ value. at_place 0 (rows_at None value))) is_long))))
+  long_fails (Stress options) old A B formed = inl (Keeps-refl old, inl (inr (inr (inl (ap (λ d. d >>= script_of) is_long)))))
+  long_fails (Profile options) old A B formed = absurd (formed refl)
 
 -- an input that could not be read to its end
-module _ (asked : Asked) (old : Option (List ℕ)) (A B : Type 0) where
+module _ (asked : Asked) (old : Option (List ℕ)) (A B : Type 0) (formed : form_of asked.request ≢ None) where
   too_long_fails : (input : Option (List ℕ)) → IfSome input (λ bytes. most_bytes < length bytes) → FailsIn asked input old old A B (outside too_long)
   too_long_fails None long = inl (Keeps-refl old, inr (inr tt))
-  too_long_fails (Some bytes) long = inr (none_refused bytes long asked.reading.strict (form_of asked.request), long_fails bytes long asked.request old A B)
+  too_long_fails (Some bytes) long = inr (none_refused bytes long asked.reading.strict (form_of asked.request), long_fails bytes long asked.request old A B formed)
 
   pub unread_fails : (input : Option (List ℕ)) (k : TextFault) → (k ≡ no_memory) ⊎ (k ≡ too_long) ⊎ (k ≡ ReadFailed)
       → (k ≡ too_long → IfSome input (λ bytes. most_bytes < length bytes)) → (k ≡ ReadFailed → A) → FailsIn asked input old old A B (outside k)

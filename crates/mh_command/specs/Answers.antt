@@ -15,8 +15,10 @@ use Rattle.mh_text.specs.declared.lines.verdict.Verdict.{Verdict}
 use Rattle.mh_text.specs.declared.fault.TextFault.TheVariants.{WriteFailed}
 use Rattle.mh_stress.specs.Stress.{FailsStress, IsStressed}
 use Rattle.mh_stress.specs.declared.stress.StressOptions.{StressOptions}
-use Rattle.mh_explain.specs.Unread.{first_unread}
-use Rattle.mh_command.specs.Readings.{form_of, refused_at, unread_fault, IsRefusal}
+use Rattle.mh_profile.specs.Inputs.{IsProfileFault}
+use Rattle.mh_profile.specs.Planning as profile
+use Rattle.mh_profile.specs.declared.planning.ProfileOptions.{ProfileOptions}
+use Rattle.mh_command.specs.Readings.{form_of, refused_at, unread_fault, unread_in, IsRefusal}
 use Rattle.mh_command.specs.Statuses.{status_found}
 use Rattle.mh_command.specs.declared.request.Asked.{Asked}
 use Rattle.mh_command.specs.declared.request.Request.{Request}
@@ -60,12 +62,19 @@ IsStressAnswer options input answer =
     ((text : List ℕ) × IsStressed options input text × (answer ≡ output_alone 0 text))
     ⊎ ((e : Fault) × IsScriptFault input e × (answer ≡ turned_down e))
 
+-- a profile: the lines of a best plan of its problem; else the first fault
+abbrev pub IsProfileAnswer : ProfileOptions → List ℕ → Answer → Type 0
+IsProfileAnswer options input answer =
+    ((text : List ℕ) × profile.IsPlanned options input text × (answer ≡ output_alone 0 text))
+    ⊎ ((e : Fault) × IsProfileFault input e × (answer ≡ turned_down e))
+
 -- what the work of a request is answered with where no stream fails and memory is to be had
 abbrev pub IsAnswerOf : Request → List ℕ → Answer → Type 0
 IsAnswerOf (request.Run options) = IsRunAnswer options
 IsAnswerOf request.Check = IsCheckAnswer
 IsAnswerOf (request.Plan options) = IsPlanAnswer options
 IsAnswerOf (request.Stress options) = IsStressAnswer options
+IsAnswerOf (request.Profile options) = IsProfileAnswer options
 
 -- an input is refused where one of its keys stands, or else there is an answer of the work
 abbrev pub IsAnswerUnless : Option ℕ → Request → List ℕ → Answer → Type 0
@@ -80,7 +89,7 @@ IsAnswerTo asked input answer = IsAnswerUnless (refused_at asked input) asked.re
 -- each of its keys is read.
 pub record IsBeside (asked : Asked) (input errors help : List ℕ) : Type 0 where
   pub unexplained : asked.reading.explain ≡ false → help ≡ []
-  pub silent : errors ≡ [] → first_unread (form_of asked.request) input ≡ None → help ≡ []
+  pub silent : errors ≡ [] → unread_in (form_of asked.request) input ≡ None → help ≡ []
 
 -- The status is that of such an answer to the input, and its texts were appended to both streams.
 abbrev pub Answers : Asked → Option (List ℕ) → ℕ → Option (List ℕ) → Option (List ℕ) → Option (List ℕ) → Option (List ℕ) → Type 0
@@ -108,6 +117,7 @@ FailsOn (request.Run options) = Failed options
 FailsOn request.Check = FailsCheck
 FailsOn (request.Plan options) = FailsPlan options
 FailsOn (request.Stress options) = FailsStress options
+FailsOn (request.Profile options) = profile.FailsPlan options
 
 -- The same of what is asked: before the work, with nothing written; or in the work, for which the input is then not refused.
 abbrev pub FailsIn : Asked → Option (List ℕ) → Option (List ℕ) → Option (List ℕ) → Type 0 → Type 0 → Fault → Type 0
@@ -126,4 +136,4 @@ EndsIn asked input old new ReadHasFailed WriteHasFailed e =
 -- keys is read.
 pub record IsHelp (asked : Asked) (input : Option (List ℕ)) (end : Result ℕ Fault) (help : List ℕ) : Type 0 where
   pub unexplained : asked.reading.explain ≡ false → help ≡ []
-  pub silent : IfOk end (λ status. IfSome input (λ bytes. first_unread (form_of asked.request) bytes ≡ None → help ≡ []))
+  pub silent : IfOk end (λ status. IfSome input (λ bytes. unread_in (form_of asked.request) bytes ≡ None → help ≡ []))

@@ -9,13 +9,14 @@ use Rattle.clap.specs.declared.error.kind.ErrorKind.{ErrorKind}
 use Rattle.mh_text.specs.Script.{most_workers}
 use Rattle.mh_text.specs.declared.streams.planning.PlanOptions.{PlanOptions}
 use Rattle.mh_text.specs.declared.streams.run.RunOptions.{RunOptions}
+use Rattle.mh_profile.specs.declared.planning.ProfileOptions.{ProfileOptions}
 use Rattle.mh_stress.specs.Stress.{AreLawful, most_rounds}
 use Rattle.mh_stress.specs.declared.stress.StressOptions.{StressOptions}
 use Rattle.mh_command.specs.Statuses.{status_answered}
 use Rattle.mh_command.specs.declared.reading.Reading.{Reading}
 use Rattle.mh_command.specs.declared.request.Asked.{Asked}
 use Rattle.mh_command.specs.declared.request.Request.{Request}
-use Rattle.mh_command.specs.declared.request.Request.TheVariants.{Run, Check, Plan, Stress}
+use Rattle.mh_command.specs.declared.request.Request.TheVariants.{Run, Check, Plan, Stress, Profile}
 
 -- the program before its subcommands: it has a version, and one of its subcommands is required
 abbrev pub root_app : App
@@ -65,18 +66,26 @@ abbrev pub stress_app : App
 stress_app =
     with_rule (with_rule (with_rule (with_reading (new_app (codes "stress"))) callers_rule) rounds_rule) (flag_rule (codes "report"))
 
+abbrev pub profile_app : App
+profile_app = with_rule (with_rule (new_app (codes "profile")) workers_rule) (flag_rule (codes "certificate"))
+
 -- the program with its first two subcommands
 abbrev pub plain_app : App
 plain_app = with_subcommand (with_subcommand root_app run_app.top) check_app.top
 
+-- the program with the next two
+abbrev pub further_app : App
+further_app = with_subcommand (with_subcommand plain_app plan_app.top) stress_app.top
+
 -- the program
 abbrev pub program : App
-program = with_subcommand (with_subcommand plain_app plan_app.top) stress_app.top
+program = with_subcommand further_app profile_app.top
 
 -- there are from 1 to 64 workers, and some rounds
 abbrev pub HasWorkers : Request → Type 0
 HasWorkers (Plan options) = (0 < options.workers) × (options.workers ≤ most_workers)
 HasWorkers (Stress options) = AreLawful options
+HasWorkers (Profile options) = (0 < options.workers) × (options.workers ≤ most_workers)
 HasWorkers _ = ⊤
 
 -- a text is a number in decimal digits
@@ -92,13 +101,22 @@ truth_text false = false_text
 abbrev pub IsReported : RunOptions → List Row → Type 0
 IsReported options rows = one_of (codes "report") rows ≡ Some (truth_text options.report)
 
+-- what was found says that so many workers plan
+pub record AreWorkers (workers : ℕ) (rows : List Row) : Type 0 where
+  pub number : IsNumber (one_of (codes "workers") rows) workers
+  pub some : 0 < workers
+  pub few : workers ≤ most_workers
+
 -- what was found after `plan` says these options
 pub record AreOptions (options : PlanOptions) (rows : List Row) : Type 0 where
-  pub workers : IsNumber (one_of (codes "workers") rows) options.workers
-  pub some : 0 < options.workers
-  pub few : options.workers ≤ most_workers
+  pub workers : AreWorkers options.workers rows
   pub certificate : one_of (codes "certificate") rows ≡ Some (truth_text options.certificate)
   pub phases : one_of (codes "phases") rows ≡ Some (truth_text options.phases)
+
+-- what was found after `profile` says these options
+pub record AreProfiled (options : ProfileOptions) (rows : List Row) : Type 0 where
+  pub workers : AreWorkers options.workers rows
+  pub certificate : one_of (codes "certificate") rows ≡ Some (truth_text options.certificate)
 
 -- a number that may be left out
 abbrev pub MayBeNumber : Option (List ℕ) → Option ℕ → Type 0
@@ -118,6 +136,18 @@ pub record IsRead (reading : Reading) (rows : List Row) : Type 0 where
   pub explain : one_of (codes "explain") rows ≡ Some (truth_text reading.explain)
   pub strict : one_of (codes "strict") rows ≡ Some (truth_text reading.strict)
 
+-- nothing is explained, and no key refused
+abbrev pub plain : Reading
+plain = record { explain = false; strict = false }
+
+-- what was found after the subcommand of a request says how its input is read; that of a profile is read as it is
+abbrev pub IsReadFor : Request → Reading → List Row → Type 0
+IsReadFor (Profile options) reading rows = reading ≡ plain
+IsReadFor (Run options) reading rows = IsRead reading rows
+IsReadFor Check reading rows = IsRead reading rows
+IsReadFor (Plan options) reading rows = IsRead reading rows
+IsReadFor (Stress options) reading rows = IsRead reading rows
+
 -- it says that nothing is explained
 abbrev pub IsUnexplained : List Row → Type 0
 IsUnexplained rows = one_of (codes "explain") rows ≡ Some false_text
@@ -128,15 +158,16 @@ IsRequest (Run options) name rows = (name ≡ codes "run") × IsReported options
 IsRequest Check name rows = name ≡ codes "check"
 IsRequest (Plan options) name rows = (name ≡ codes "plan") × AreOptions options rows
 IsRequest (Stress options) name rows = (name ≡ codes "stress") × AreStressed options rows
+IsRequest (Profile options) name rows = (name ≡ codes "profile") × AreProfiled options rows
 
 -- the subcommand of what is asked, with what was found after it
 abbrev pub IsNamed : Asked → Option (List ℕ × List Row) → Type 0
-IsNamed asked (Some (name, rows)) = IsRequest asked.request name rows × IsRead asked.reading rows
+IsNamed asked (Some (name, rows)) = IsRequest asked.request name rows × IsReadFor asked.request asked.reading rows
 IsNamed asked None = ⊥
 
--- a subcommand after which nothing says to explain, or none
+-- a subcommand after which nothing says to explain, which nothing does after `profile`, or none
 abbrev pub SaysNoExplanation : Option (List ℕ × List Row) → Type 0
-SaysNoExplanation (Some (name, rows)) = IsUnexplained rows
+SaysNoExplanation (Some (name, rows)) = IsUnexplained rows ⊎ (name ≡ codes "profile")
 SaysNoExplanation None = ⊤
 
 -- the word of an option that is asked for
@@ -161,6 +192,7 @@ AreWords (Run options) reading after = after ≡ run_words options reading
 AreWords Check reading after = after ≡ check_words reading
 AreWords (Plan options) reading after = ⊥
 AreWords (Stress options) reading after = ⊥
+AreWords (Profile options) reading after = ⊥
 
 -- The words, the program's name first, are those of what is asked: `mhlink run` and `mhlink check`; or, in any order that clap
 -- takes, `mhlink plan --workers 2 --certificate` and `mhlink stress --rounds 3 --explain`.

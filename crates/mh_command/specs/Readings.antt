@@ -8,18 +8,24 @@ use Rattle.mh_explain.specs.declared.input.InputForm.{InputForm}
 use Rattle.mh_explain.specs.declared.input.InputForm.TheVariants.{Script, Problem, Claim}
 use Rattle.mh_command.specs.declared.request.Asked.{Asked}
 use Rattle.mh_command.specs.declared.request.Request.{Request}
-use Rattle.mh_command.specs.declared.request.Request.TheVariants.{Run, Check, Plan, Stress}
+use Rattle.mh_command.specs.declared.request.Request.TheVariants.{Run, Check, Plan, Stress, Profile}
 
--- what the input of a request is read as
-abbrev pub form_of : Request → InputForm
-form_of (Run options) = Script
-form_of Check = Claim
-form_of (Plan options) = Problem
-form_of (Stress options) = Script
+-- what the input of a request is read as; none of these, where it is the lines of a profile
+abbrev pub form_of : Request → Option InputForm
+form_of (Run options) = Some Script
+form_of Check = Some Claim
+form_of (Plan options) = Some Problem
+form_of (Stress options) = Some Script
+form_of (Profile options) = None
 
--- where the first key stands that nothing reads, if an input is refused for it: in the event of this number, or outside the events at 0
+-- where the first key of an input stands that nothing reads: in the event of this number, or outside the events at 0
+abbrev pub unread_in : Option InputForm → List ℕ → Option ℕ
+unread_in None input = None
+unread_in (Some form) input = first_unread form input
+
+-- where that key stands, if an input is refused for it
 abbrev pub refused_at : Asked → List ℕ → Option ℕ
-refused_at asked input = if asked.reading.strict then first_unread (form_of asked.request) input else None
+refused_at asked input = if asked.reading.strict then unread_in (form_of asked.request) input else None
 
 -- the fault of a key that nothing reads
 abbrev pub unread_fault : ℕ → Fault

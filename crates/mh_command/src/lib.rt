@@ -15,6 +15,7 @@ mod status;
 mod working;
 
 pub use command_line::command;
+pub use mh_profile::ProfileOptions;
 pub use mh_stress::StressOptions;
 pub use mh_text::{PlanOptions, RunOptions, Watched};
 pub use reading::Reading;

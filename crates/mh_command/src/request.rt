@@ -1,5 +1,5 @@
 //! What a command line asks for.
-ghost use Rattle.std.specs.Prelude.{◌≡◌, ◌<◌, ◌≤◌, ◌⊎◌, [], ◌∷◌, false, Some, OnOk, IfOk, IfErr, IfSome, codes, map};
+ghost use Rattle.std.specs.Prelude.{◌≡◌, ◌≢◌, ◌<◌, ◌≤◌, ◌⊎◌, [], ◌∷◌, List, ℕ, None, Some, false, OnOk, IfOk, IfErr, IfSome, IsTrue, codes, map};
 ghost use Rattle.clap.specs.Words.{app_of, fault_of, found_of, kind_of, new_app, rows_of, rule_of, subcommand_rows_of, with_rule};
 ghost use Rattle.clap.specs.declared.builder.command.Command.TheViews.{out-Command};
 ghost use Rattle.clap.specs.declared.error.kind.ErrorKind.{ErrorKind};
@@ -7,14 +7,18 @@ ghost use Rattle.mh_text.specs.Script.{most_workers};
 ghost use Rattle.mh_text.specs.declared.streams.run.RunOptions.{RunOptions};
 ghost use Rattle.mh_stress.specs.Stress.{AreLawful};
 ghost use Rattle.mh_stress.specs.declared.stress.StressOptions.{StressOptions};
-ghost use Rattle.mh_command.specs.CommandLine.{root_app, plain_app, run_app, check_app, plan_app, stress_app, program, workers_rule, callers_rule, rounds_rule, AreOptions, AreStressed, AsksFor, AsksNoExplanation, IsReported, IsRequest, IsNamed, HasWorkers, SaysNoExplanation};
-ghost use Rattle.mh_command.specs.Readings.{form_of};
+ghost use Rattle.mh_command.specs.CommandLine.{root_app, plain_app, further_app, run_app, check_app, plan_app, stress_app, profile_app, program, workers_rule, callers_rule, rounds_rule, AreOptions, AreProfiled, AreStressed, AreWorkers, AsksFor, AsksNoExplanation, IsReadFor, IsReported, IsRequest, IsUnexplained, IsNamed, HasWorkers, SaysNoExplanation};
+ghost use Rattle.mh_command.specs.Readings.{form_of, refused_at};
+ghost use Rattle.mh_profile.specs.declared.planning.ProfileOptions.{ProfileOptions};
+ghost use Rattle.mh_command.specs.declared.reading.Reading.{Reading};
 ghost use Rattle.mh_command.specs.declared.request.Asked.{Asked};
+ghost use Rattle.mh_command.specs.declared.request.Request.TheVariants.{Profile};
 
 use crate::flags::{flag, with_option};
 use crate::reading::{Reading, reading_of, with_reading};
 use clap::{Arg, ArgMatches, Command, Error, value_parser};
 use mh_explain::InputForm;
+use mh_profile::ProfileOptions;
 use mh_stress::{MOST_ROUNDS, StressOptions};
 use mh_text::{PlanOptions, RunOptions};
 use std::alloc::{AllocError, Global};
@@ -31,17 +35,20 @@ pub enum Request {
     Plan(PlanOptions),
     /// `mhlink stress`: the sums of a script on running threads.
     Stress(StressOptions),
+    /// `mhlink profile`: the best plan of a profile, by its names.
+    Profile(ProfileOptions),
 }
 
 impl Request {
-    /// What its input is read as.
-    pub(crate) fn form(self) -> InputForm
+    /// What its input is read as; none of these, where it is the lines of a profile.
+    pub(crate) fn form(self) -> Option<InputForm>
         ensures value { result ≡ form_of self }
     {
         match self {
-            Request::Run(_) | Request::Stress(_) => InputForm::Script,
-            Request::Check => InputForm::Claim,
-            Request::Plan(_) => InputForm::Problem,
+            Request::Run(_) | Request::Stress(_) => Some(InputForm::Script),
+            Request::Check => Some(InputForm::Claim),
+            Request::Plan(_) => Some(InputForm::Problem),
+            Request::Profile(_) => None,
         }
     }
 }
@@ -51,6 +58,20 @@ impl Request {
 pub struct Asked {
     pub request: Request,
     pub reading: Reading,
+}
+
+impl Asked {
+    /// Whether the input is read whole before the work: its fault is to be explained, or its keys
+    /// are looked at. A profile is read as it comes.
+    pub(crate) fn reads_whole(self) -> bool
+        ensures formed { IsTrue result → form_of self.request ≢ None }
+        ensures unrefused { result ≡ false → (input : List ℕ) → refused_at self input ≡ None }
+    {
+        match self.request {
+            Request::Profile(_) => false,
+            _ => !self.reading.is_plain(),
+        }
+    }
 }
 
 /// What `mhlink --help` ends with.
@@ -63,6 +84,7 @@ Examples:
   mhlink check < examples/check-shared-point.json
   mhlink plan --certificate < examples/plan-shared-point.json
   mhlink stress --rounds 1000 < examples/stress-calls.json
+  mhlink profile < examples/profiles/shop.jsonl
 
 Statuses: 0 done, 1 the input or its plan is refused, 2 the command line is wrong,
 3 a read or a write failed, 4 memory ran out, or readers of the published world.
@@ -103,6 +125,15 @@ events but flushes are made once. Then the hits of all links are added up, and w
 
 Example:
   mhlink stress --workers 2 --rounds 1000 < examples/stress-calls.json";
+
+/// What `mhlink profile --help` ends with.
+const AFTER_PROFILE: &str = "\
+Reads a profile from standard input, a line of JSON for each point and each link by name, a
+point before the links that need it, and writes what its best plan takes, what it leaves and
+why, and what each point gets. It takes 1048576 points and links, and 64 MiB in all.
+
+Example:
+  mhlink profile --certificate < examples/profiles/shop.jsonl";
 
 fn check_command<'a>(alloc: Global) -> Result<Command<'a>, AllocError>
     ensures app { IfOk result (λ c. app_of c ≡ check_app) }
@@ -211,6 +242,23 @@ fn stress_command<'a>(alloc: Global) -> Result<Command<'a>, AllocError>
     Ok(command)
 }
 
+fn profile_command<'a>(alloc: Global) -> Result<Command<'a>, AllocError>
+    ensures app { IfOk result (λ c. app_of c ≡ profile_app) }
+    ensures local { IfOk result (λ c. (out-Command c).has_globals ≡ false) }
+{
+    let command = Command::new(alloc, "profile")
+        .about("Plans the profile on standard input, and writes what becomes of each name")
+        .after_help(AFTER_PROFILE);
+    let certificate = flag(
+        alloc,
+        "certificate",
+        "Writes the plan as JSON too, by number, with its flow",
+    );
+    let command = with_option(command, workers_option(alloc))?;
+    let command = with_option(command, certificate)?;
+    Ok(command)
+}
+
 /// The program before its subcommands.
 fn root_command<'a>(alloc: Global) -> Command<'a>
     ensures app { app_of result ≡ root_app }
@@ -231,13 +279,20 @@ fn plain_command<'a>(alloc: Global) -> Result<Command<'a>, AllocError>
         .subcommand(check_command(alloc)?)
 }
 
-/// The command lines that the program takes.
-fn build<'a>(alloc: Global) -> Result<Command<'a>, AllocError>
-    ensures app { IfOk result (λ c. app_of c ≡ program) }
+/// The program with the next two.
+fn further_command<'a>(alloc: Global) -> Result<Command<'a>, AllocError>
+    ensures app { IfOk result (λ c. app_of c ≡ further_app) }
 {
     plain_command(alloc)?
         .subcommand(plan_command(alloc)?)?
         .subcommand(stress_command(alloc)?)
+}
+
+/// The command lines that the program takes.
+fn build<'a>(alloc: Global) -> Result<Command<'a>, AllocError>
+    ensures app { IfOk result (λ c. app_of c ≡ program) }
+{
+    further_command(alloc)?.subcommand(profile_command(alloc)?)
 }
 
 /// The options of the words after `run`.
@@ -250,22 +305,44 @@ fn run_options_of(matches: &ArgMatches) -> RunOptions
     }
 }
 
-/// The options of the words after `plan`; none where there are not from 1 to 64 workers, which clap
-/// refuses itself.
+/// How many workers plan; none where they are not from 1 to 64, which clap refuses itself.
+fn workers_of(matches: &ArgMatches) -> Option<usize>
+    ensures value { (workers : ℕ) → AreWorkers workers (rows_of (found_of matches.now))
+        → result ≡ Some workers }
+    ensures some { IfSome result (λ workers. 0 < workers) }
+    ensures few { IfSome result (λ workers. workers ≤ most_workers) }
+{
+    let workers = matches.get_one::<u8>("workers")?;
+    if workers == 0 || workers > 64 {
+        return None;
+    }
+    Some(usize::from(workers))
+}
+
+/// The options of the words after `plan`; none where clap refuses the number of workers itself.
 fn options_of(matches: &ArgMatches) -> Option<PlanOptions>
     ensures value { (options : PlanOptions) → AreOptions options (rows_of (found_of matches.now))
         → result ≡ Some options }
     ensures some { IfSome result (λ options. 0 < options.workers) }
     ensures few { IfSome result (λ options. options.workers ≤ most_workers) }
 {
-    let workers = matches.get_one::<u8>("workers")?;
-    if workers == 0 || workers > 64 {
-        return None;
-    }
     Some(PlanOptions {
-        workers: usize::from(workers),
+        workers: workers_of(matches)?,
         certificate: matches.get_flag("certificate"),
         phases: matches.get_flag("phases"),
+    })
+}
+
+/// The options of the words after `profile`, as of those after `plan`.
+fn profile_options_of(matches: &ArgMatches) -> Option<ProfileOptions>
+    ensures value { (options : ProfileOptions) → AreProfiled options (rows_of (found_of matches.now))
+        → result ≡ Some options }
+    ensures some { IfSome result (λ options. 0 < options.workers) }
+    ensures few { IfSome result (λ options. options.workers ≤ most_workers) }
+{
+    Some(ProfileOptions {
+        workers: workers_of(matches)?,
+        certificate: matches.get_flag("certificate"),
     })
 }
 
@@ -323,7 +400,25 @@ fn request_of(name: &str, matches: &ArgMatches) -> Option<Request>
         "check" => Some(Request::Check),
         "plan" => Some(Request::Plan(options_of(matches)?)),
         "stress" => Some(Request::Stress(stress_options_of(matches)?)),
+        "profile" => Some(Request::Profile(profile_options_of(matches)?)),
         _ => None,
+    }
+}
+
+/// How the input of a request is read. That of a profile is read as it is.
+fn reading_for(request: Request, matches: &ArgMatches) -> Reading
+    ensures value { (reading : Reading)
+        → IsReadFor request reading (rows_of (found_of matches.now)) → result ≡ reading }
+    ensures unexplained { IsUnexplained (rows_of (found_of matches.now)) → result.explain ≡ false }
+    ensures profile { (options : ProfileOptions) → request ≡ Profile options
+        → result.explain ≡ false }
+{
+    match request {
+        Request::Profile(_) => Reading {
+            explain: false,
+            strict: false,
+        },
+        _ => reading_of(matches),
     }
 }
 
@@ -339,7 +434,7 @@ fn asked_of(matches: &ArgMatches) -> Option<Asked>
     let request = request_of(name, options)?;
     Some(Asked {
         request,
-        reading: reading_of(options),
+        reading: reading_for(request, options),
     })
 }
 

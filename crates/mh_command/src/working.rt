@@ -7,13 +7,13 @@ ghost use Rattle.mh_text.specs.Output.{outside};
 ghost use Rattle.mh_text.specs.declared.fault.TextFault.TheVariants.{ReadFailed};
 ghost use Rattle.mh_command.specs.Answers.{Works, WorksOn, FailsIn, FailsOn, IsHelp};
 ghost use Rattle.mh_command.specs.CommandLine.{HasWorkers};
-ghost use Rattle.mh_command.specs.Readings.{form_of, refused_at, IsRefusal};
-ghost use Rattle.mh_explain.specs.Unread.{first_unread};
+ghost use Rattle.mh_command.specs.Readings.{form_of, refused_at, unread_in, IsRefusal};
 
 use crate::request::{Asked, Request};
 use crate::status::{DONE, status_of_verdict};
 use mh_core::NoMemory;
-use mh_explain::{explanation, unread_keys};
+use mh_explain::{UnreadKeys, explanation, unread_keys};
+use mh_profile::plan_profile;
 use mh_stress::stress_bytes;
 use mh_text::{
     Fault, InputFault, TextFault, Watched, check_bytes, plan_bytes, read_input, run_bytes,
@@ -81,6 +81,10 @@ fn work<T: Threads + Wait + Sync, R: Read, W: Write>(
             stress_bytes(rt, alloc, options, reader, out)?;
             Ok(DONE)
         }
+        Request::Profile(options) => {
+            plan_profile(rt, alloc, options, reader, out)?;
+            Ok(DONE)
+        }
     }
 }
 
@@ -120,6 +124,19 @@ fn work_over<T: Threads + Wait + Sync, W: Write>(
     }
 }
 
+/// The keys of a request's input that nothing reads; none are looked for in a profile.
+fn unread(alloc: Global, request: Request, input: &[u8]) -> Result<UnreadKeys, NoMemory>
+    ensures first { IfOk result (λ unread. unread.first ≡ unread_in (form_of request) input.now) }
+{
+    match request.form() {
+        Some(form) => unread_keys(alloc, form, input),
+        None => Ok(UnreadKeys {
+            notes: String::new(alloc),
+            first: None,
+        }),
+    }
+}
+
 /// Refuses an input for its first key that nothing reads, where that is asked.
 fn refuse_unread(alloc: Global, asked: Asked, input: &[u8]) -> Result<(), Fault>
     ensures ok { OnOk result (refused_at asked input.now ≡ None) }
@@ -128,12 +145,25 @@ fn refuse_unread(alloc: Global, asked: Asked, input: &[u8]) -> Result<(), Fault>
     if !asked.reading.strict {
         return Ok(());
     }
-    match unread_keys(alloc, asked.request.form(), input)?.first {
+    match unread(alloc, asked.request, input)?.first {
         None => Ok(()),
         Some(at) => Err(Fault {
             kind: TextFault::Input(InputFault::BadShape),
             at,
         }),
+    }
+}
+
+/// The lines that explain a fault of an input; none explain that of a profile.
+fn reasons(
+    alloc: Global,
+    request: Request,
+    input: &[u8],
+    fault: InputFault,
+) -> Result<String, NoMemory> {
+    match request.form() {
+        Some(form) => explanation(alloc, form, input, fault),
+        None => Ok(String::new(alloc)),
     }
 }
 
@@ -145,14 +175,13 @@ fn explain(
     fault: Option<InputFault>,
 ) -> Result<String, NoMemory>
     ensures silent { IfOk result (λ help. fault ≡ None
-        → first_unread (form_of asked.request) input.now ≡ None → string_bytes help ≡ []) }
+        → unread_in (form_of asked.request) input.now ≡ None → string_bytes help ≡ []) }
 {
-    let form = asked.request.form();
     let mut help = match fault {
-        Some(fault) => explanation(alloc, form, input, fault)?,
+        Some(fault) => reasons(alloc, asked.request, input, fault)?,
         None => String::new(alloc),
     };
-    let unread = unread_keys(alloc, form, input)?;
+    let unread = unread(alloc, asked.request, input)?;
     if unread.first.is_some() {
         help.push_str(unread.notes.as_str())?;
     }
@@ -162,7 +191,7 @@ fn explain(
 /// The same, where it is asked for and memory does not run out; else nothing.
 fn help_for(alloc: Global, asked: Asked, input: &[u8], fault: Option<InputFault>) -> String
     ensures unexplained { asked.reading.explain ≡ false → string_bytes result ≡ [] }
-    ensures silent { fault ≡ None → first_unread (form_of asked.request) input.now ≡ None
+    ensures silent { fault ≡ None → unread_in (form_of asked.request) input.now ≡ None
         → string_bytes result ≡ [] }
 {
     if asked.reading.explain {
@@ -227,6 +256,7 @@ fn work_whole<T: Threads + Wait + Sync, R: Read, W: Write>(
     reader: &mut Watched<R>,
     out: &mut Watched<W>,
 ) -> Outcome
+    requires formed { form_of asked.request ≢ None }
     requires workers { HasWorkers asked.request }
     ensures works { IfOk result.end (Works asked (R.remaining reader.old.inner)
         (W.contents out.old.inner) (W.contents out.new.inner)) }
@@ -267,9 +297,9 @@ pub(crate) fn work_asked<T: Threads + Wait + Sync, R: Read, W: Write>(
     ensures help { IsHelp asked (R.remaining reader.old.inner) result.end
         (string_bytes result.help) }
 {
-    if asked.reading.is_plain() {
-        Outcome::alone(alloc, work(rt, alloc, asked.request, reader, out))
-    } else {
+    if asked.reads_whole() {
         work_whole(rt, alloc, asked, reader, out)
+    } else {
+        Outcome::alone(alloc, work(rt, alloc, asked.request, reader, out))
     }
 }

@@ -20,6 +20,6 @@ returns-in-Err-clause-fails g c =
     let old = g.W.Write.contents c.args.out.now.inner in
     let A = HasFailed c.args.reader.now.failures c.read_input.new.reader.failures in
     let B = HasFailed c.args.out.now.failures c.args.out.now.failures in
-    let fails = unread_fails c.args.asked old A B (g.R.Read.remaining c.args.reader.now.inner) c.in-Err.kind c.in-Err.ensures.kinds (λ is. c.in-Err.ensures.long (ap (λ k. Err k) is)) (λ is. c.in-Err.ensures.failed (ap (λ k. Err k) is)) in
+    let fails = unread_fails c.args.asked old A B c.requires.formed (g.R.Read.remaining c.args.reader.now.inner) c.in-Err.kind c.in-Err.ensures.kinds (λ is. c.in-Err.ensures.long (ap (λ k. Err k) is)) (λ is. c.in-Err.ensures.failed (ap (λ k. Err k) is)) in
     let end : c.alone.result.end ≡ Err (outside c.in-Err.kind) = c.alone.ensures.end ∙ ap (λ (e : Fault). Err e) c.from.ensures in
     subst (λ (r : Result ℕ Fault). IfErr r (FailsIn c.args.asked (g.R.Read.remaining c.args.reader.now.inner) old old A B)) (sym end) fails

@@ -1,6 +1,6 @@
 use Rattle.std.proofs.Common.{inr}
 use Rattle.mh_text.proofs.Runs.{json_found, json_absent}
-use Rattle.mh_text.proofs.json.parse.Goals as goal
+use Rattle.mh_text.proofs.json.parse_json.Goals as goal
 
 pub returns-in-Ok : goal.returns-in-Ok
 returns-in-Ok c = record { value = json_found c.args.input.now _ c.in-Ok.ensures.ok.0 c.in-Ok.ensures.ok.1 }
