@@ -1,6 +1,7 @@
 #!/bin/sh
 # Turns the small logs here into profiles, and compares these with the lines beside them, which were worked out by hand from
-# what the tools say of themselves (tools/from_hotspot --help, tools/from_v8 --help). The last line is the sum.
+# what the tools say of themselves (tools/from_hotspot --help, tools/from_v8 --help). Plans shop.jsonl, whose lines were worked
+# out by hand too, and the three profiles of VMs, whose greatest worth the solver of LEMON found. The last line is the sum.
 cd "$(dirname "$0")" || exit 1
 passed=0
 failed=0
@@ -24,5 +25,20 @@ case_of hotspot-two-runs.jsonl ../../tools/from_hotspot --virtual 3 --interface 
 case_of v8-site.jsonl ../../tools/from_v8 v8-small.log v8-small
 case_of v8-site.jsonl ../../tools/from_v8 v8-small.log v8-small/coverage-1-1-0.json
 case_of v8-function.jsonl ../../tools/from_v8 --by function --even --optimise 28 --scale 0.5 v8-small.log v8-small
+
+# worth_of FILE VALUE: the best plan of a packed profile has this value.
+worth_of() {
+    if [ "$(xz -dc "$1.jsonl.xz" | ../../mhlink profile --workers 2 | sed -n '1s/.* value //p')" = "$2" ]; then
+        passed=$((passed + 1))
+    else
+        failed=$((failed + 1))
+        echo "failed: the plan of $1"
+    fi
+}
+
+case_of shop.lines sh -c '../../mhlink profile <shop.jsonl'
+worth_of javadoc17.nmethod 1524257322
+worth_of javadoc17.site 2184823691
+worth_of tsc.function 120286223
 echo "$passed passed, $failed failed"
 [ "$failed" -eq 0 ]
