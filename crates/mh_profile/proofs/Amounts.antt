@@ -1,17 +1,17 @@
 -- What a plan's flow gives and leaves, within the bounds of the problem.
-use Rattle.std.proofs.Common.{◌≡◌, ℕ, zero, suc, ◌+◌, ◌-◌, ◌<◌, ◌≤◌, ◌==◌, Bool, true, false, cond, List, [], ◌∷◌, length, take, slice_index_or, refl, sym, ap, ◌∙◌, arith, inl, inr, slice_set}
-use Rattle.std.specs.Prelude.{All, ◌||◌, ◌&&◌}
+use Rattle.std.proofs.Common.{◌≡◌, ℕ, suc, ◌+◌, ◌<◌, ◌≤◌, ◌==◌, Bool, true, false, cond, List, length, take, slice_index_or, sym, ap, ◌∙◌, arith, inl, inr, slice_set}
+use Rattle.std.specs.Prelude.{All, ◌&&◌}
 use Rattle.std.specs.List.{list_any, sum_by}
 use Rattle.std.specs.List.Sorted.{IsStrictlyIncreasing}
 use Rattle.std.proofs.Math.Bool.{or-false}
-use Rattle.std.proofs.lemmas.Bool.{cases_Bool, cases_eq, cases_lt, true≢false, eq-eqb, ne_eqb, cond-true, and_parts}
+use Rattle.std.proofs.lemmas.Bool.{cases_eq, cases_lt, true≢false, eq-eqb, ne_eqb, cond-true, and_parts}
 use Rattle.std.proofs.lemmas.List.{get_or_past, get_or_default, get_or-set_same, get_or-set_other, get_or-take, length-take-le}
 use Rattle.std.proofs.lemmas.List.Folds.{list_any_more, list_any_none}
 use Rattle.std.proofs.lemmas.List.Kept.{AllPairs-from_increasing}
-use Rattle.std.proofs.lemmas.List.Sums.{sum_by_more, sum_by_more_le, sum_by_more_le_part}
+use Rattle.std.proofs.lemmas.List.Sums.{sum_by_more_le, sum_by_more_le_part}
 use Rattle.mh_network.specs.declared.link_row.LinkRow.{LinkRow}
 use Rattle.mh_network.specs.Limits.{greatest_sum}
-use Rattle.mh_network.specs.Problems.{ProblemData, IsProblem, link_at, no_link, gain_of, cost_of, needs_point, sum_of_gains, sum_of_costs}
+use Rattle.mh_network.specs.Problems.{ProblemData, IsProblem, link_at, no_link, gain_of, cost_of, needs_point, sum_of_gains}
 use Rattle.mh_network.specs.Selection.{Row, member, into_point}
 use Rattle.mh_network.specs.Sums.{sum_below, kept}
 use Rattle.mh_network.specs.Laws.Members.{listed_sum, all_members}

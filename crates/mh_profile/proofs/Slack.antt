@@ -1,21 +1,21 @@
 -- The links of a plan stay best within the slack of a point.
-use Rattle.std.proofs.Common.{◌≡◌, ◌≢◌, ℕ, zero, suc, ◌+◌, ◌-◌, ◌<◌, ◌≤◌, ◌==◌, Bool, true, false, not, cond, List, [], ◌∷◌, length, slice_index_or, refl, sym, ap, ◌∙◌, arith, inl, inr, slice_set}
-use Rattle.std.specs.Prelude.{All, ◌&&◌, ℤ, pos, ◌-ℤ◌, ◌≤ℤ◌}
-use Rattle.std.specs.List.{list_any, sum_by}
+use Rattle.std.proofs.Common.{◌≡◌, ◌≢◌, ℕ, zero, suc, ◌+◌, ◌-◌, ◌<◌, ◌≤◌, Bool, true, false, not, cond, List, length, refl, sym, ap, ◌∙◌, arith, inl, inr}
+use Rattle.std.specs.Prelude.{◌&&◌, ℤ, pos, ◌-ℤ◌, ◌≤ℤ◌}
+use Rattle.std.specs.List.{sum_by}
 use Rattle.std.proofs.lemmas.Bool.{cases_Bool, cases_eq, and_from, true≢false}
 use Rattle.std.proofs.lemmas.Int.{ints}
 use Rattle.std.proofs.lemmas.List.{get_or-set_same, get_or-set_other, length-set}
 use Rattle.mh_network.specs.Problems.{ProblemData, IsProblem, link_at, gain_of, cost_of, charge_of, needs_point, sum_of_gains}
-use Rattle.mh_network.specs.Selection.{Row, Charge, IsBest, member, union_of_needs, from_link, into_charge, into_point, gain_sum, cost_sum, charge_sum, price, worth, value_of}
+use Rattle.mh_network.specs.Selection.{Row, Charge, member, union_of_needs, from_link, into_charge, into_point, gain_sum, cost_sum, charge_sum, price, value_of}
 use Rattle.mh_network.specs.Sums.{sum_below, kept}
-use Rattle.mh_network.specs.Laws.Net.{net, out_of, into, value}
+use Rattle.mh_network.specs.Laws.Net.{net}
 use Rattle.mh_network.specs.Laws.Duality.{value-parts}
 use Rattle.mh_network.specs.Laws.Members.{listed_sum, member_is}
 use Rattle.mh_network.specs.Laws.Optimal.{IsCarried, some_below-from, charges_by_link, covered, feasible, gains_parted}
 use Rattle.mh_network.specs.Laws.SumLaws.{sum_below-add, sum_below-le, sum_below-same, sum_below-split, sum_below-up, sum_by-le-All}
 use Rattle.mh_cert.specs.declared.plan.Plan.{Plan}
 use Rattle.mh_cert.specs.Plans.{Matches}
-use Rattle.mh_profile.specs.Accounts.{left_around, left_of, slack_of}
+use Rattle.mh_profile.specs.Accounts.{left_around, left_of}
 use Rattle.mh_profile.proofs.Amounts.{links_inside}
 use Rattle.mh_profile.specs.Slack.{IsWithinSlack, StaysBest, with_cost}
 

@@ -6,7 +6,10 @@ use Rattle.mh_text.specs.declared.fault.Fault.{Fault}
 use Rattle.mh_profile.specs.declared.profile.Profile.{Profile}
 use Rattle.mh_profile.specs.declared.reader.LineReader.{LineReader}
 use Rattle.mh_text.specs.Gives.{GivesAt}
-use Rattle.mh_profile.specs.Inputs.{IsFaultOfLines}
+use Rattle.mh_profile.specs.declared.named.NamedProblem.{NamedProblem}
+use Rattle.mh_profile.specs.declared.planning.ProfileOptions.{ProfileOptions}
+use Rattle.mh_profile.specs.Inputs.{IsFaultOfLines, IsProfileInput}
+use Rattle.mh_profile.specs.Planning.{IsPlanOf, IsPlanned}
 use Rattle.mh_profile.specs.Profiles.{profile_of}
 use Rattle.mh_profile.specs.Readers.{resumed, Takes}
 use Rattle.mh_text.specs.Output.{IsUnread}
@@ -57,3 +60,9 @@ module _ (H : Type 0) where
   fails_early (Some input) None front bytes r e consumed taken (inr fails) = absurd consumed
   fails_early (Some input) (Some rest) front bytes r e consumed taken (inr fails) =
       inr (inr (ap profile_of (consumed ∙ append_assoc front bytes rest) ∙ (taken (bytes ++ rest) ∙ fails rest)))
+
+-- the lines of a problem with names are those of the input that it was read of
+pub planned_in : (options : ProfileOptions) (input : Option (List ℕ)) (n : NamedProblem) (text : List ℕ) → IfSome input (λ bytes. IsProfileInput bytes n) → IsPlanOf options n text
+    → IfSome input (λ bytes. IsPlanned options bytes text)
+planned_in options None n text is planned = tt
+planned_in options (Some bytes) n text is planned = (n, is, planned)

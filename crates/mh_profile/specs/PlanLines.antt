@@ -1,5 +1,5 @@
 -- The lines of a profile's plan, in which links and points have their names.
-use Rattle.std.specs.Prelude.{ℕ, ◌==◌, Bool, List, [], ◌∷◌, ◌++◌, codes, cond, flat_map, length, slice_index_or}
+use Rattle.std.specs.Prelude.{ℕ, ◌==◌, List, [], ◌∷◌, ◌++◌, codes, cond, flat_map, length, slice_index_or}
 use Rattle.std.specs.Fmt.{decimal, signed_decimal}
 use Rattle.std.specs.List.{sum_by}
 use Rattle.serde_json.specs.Data.{string}

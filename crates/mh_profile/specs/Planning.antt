@@ -1,5 +1,5 @@
 -- What the planning of a profile reads, and what it writes.
-use Rattle.std.specs.Prelude.{ℕ, ◌≡◌, ◌⊎◌, Bool, List, [], ◌++◌, Option, cond, IfSome}
+use Rattle.std.specs.Prelude.{ℕ, ◌≡◌, ◌⊎◌, List, [], ◌++◌, Option, cond, IfSome}
 use Rattle.std.specs.Io.KnownBytes.{Keeps}
 use Rattle.mh_network.specs.Selection.{IsLeast, member}
 use Rattle.mh_cert.specs.declared.plan.Plan.{Plan}

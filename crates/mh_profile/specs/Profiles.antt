@@ -5,7 +5,6 @@ use Rattle.std.specs.Str.{bytes_eq}
 use Rattle.serde_json.specs.Data.{Data}
 use Rattle.serde_json.specs.Find.{get}
 use Rattle.mh_network.specs.declared.link_row.LinkRow.{LinkRow}
-use Rattle.mh_network.specs.declared.fault.ProblemFault.{ProblemFault}
 use Rattle.mh_network.specs.declared.fault.ProblemFault.TheVariants.{TooManyLinks, TooManyPoints}
 use Rattle.mh_network.specs.Limits.{greatest_count}
 use Rattle.mh_network.specs.Selection.{member}

@@ -1,4 +1,4 @@
-use Rattle.std.proofs.Common.{◌==◌, rules, sym}
+use Rattle.std.proofs.Common.{◌==◌, sym}
 use Rattle.mh_profile.proofs.KeyRuns.{any_kept, numbers_rise}
 use Rattle.mh_profile.proofs.accounts.is_among.Goals as goal
 

@@ -1,4 +1,4 @@
-use Rattle.std.proofs.Common.{◌+◌, ◌==◌, ap, ◌∙◌, arith}
+use Rattle.std.proofs.Common.{◌==◌, ap, ◌∙◌, arith}
 use Rattle.mh_network.specs.Selection.{value_of}
 use Rattle.mh_profile.specs.Accounts.{rows_of}
 use Rattle.mh_profile.proofs.KeyRuns.{charges_by_link, kept_sum}

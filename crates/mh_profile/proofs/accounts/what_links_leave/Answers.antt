@@ -1,4 +1,4 @@
-use Rattle.std.proofs.Common.{◌==◌, ◌<◌, ◌+◌, All, ap, arith, cond, length, rules, slice_index_or, subst, sym}
+use Rattle.std.proofs.Common.{◌==◌, ◌<◌, All, ap, arith, cond, length, slice_index_or, subst, sym}
 use Rattle.std.specs.List.{list_any}
 use Rattle.std.proofs.lemmas.List.Sums.{sum_by_more}
 use Rattle.mh_network.specs.Problems.{needs_point}

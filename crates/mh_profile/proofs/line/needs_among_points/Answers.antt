@@ -5,18 +5,20 @@ use Rattle.std.proofs.lemmas.List.Filters.{dedup_is}
 use Rattle.mh_profile.proofs.Needs.{are_needs, are_twice}
 use Rattle.mh_profile.proofs.line.needs_among_points.Goals as goal
 
-pub returns-then-len-count-clause-value : goal.returns-then-len-count-clause-value
-returns-then-len-count-clause-value c =
+pub returns-then-len-count : goal.returns-then-len-count
+returns-then-len-count c =
     let moved = subst (λ (xs : List ℕ). IsPermutation xs c.sort_unstable.new.self.items) c.into_vec-needs.ensures.value c.sort_unstable.ensures.permutation in
     let below : list_all (λ p. nat_lt p c.args.points) c.args.named ≡ true = rw (← c.as_slice.ensures.value) (sym c.if-not-are_below.ensures.value) in
     let left = c.from_vec-needs.ensures.value ∙ dedup_is _ _ _ c.dedup.ensures.filtered in
     let all = sym c.len.ensures.value ∙ (c.if-len-count.true ∙ c.len-count.ensures.value) in
-    are_needs c.args.points c.args.named _ c.from_vec-needs.result moved c.sort_unstable.ensures.sorted left below all
+    record { value = are_needs c.args.points c.args.named _ c.from_vec-needs.result moved c.sort_unstable.ensures.sorted left below all }
 
-pub returns-else-len-count-clause-value : goal.returns-else-len-count-clause-value
-returns-else-len-count-clause-value c =
+pub returns-else-len-count : goal.returns-else-len-count
+returns-else-len-count c =
     let moved = subst (λ (xs : List ℕ). IsPermutation xs c.sort_unstable.new.self.items) c.into_vec-needs.ensures.value c.sort_unstable.ensures.permutation in
     let below : list_all (λ p. nat_lt p c.args.points) c.args.named ≡ true = rw (← c.as_slice.ensures.value) (sym c.if-not-are_below.ensures.value) in
     let left = c.from_vec-needs.ensures.value ∙ dedup_is _ _ _ c.dedup.ensures.filtered in
-    inr (are_twice c.args.points c.args.named _ c.from_vec-needs.result moved c.sort_unstable.ensures.sorted left below
-    (λ same. c.if-len-count.false (c.len.ensures.value ∙ (same ∙ sym c.len-count.ensures.value))))
+    record {
+      value = inr (are_twice c.args.points c.args.named _ c.from_vec-needs.result moved c.sort_unstable.ensures.sorted left below
+          (λ same. c.if-len-count.false (c.len.ensures.value ∙ (same ∙ sym c.len-count.ensures.value))));
+    }

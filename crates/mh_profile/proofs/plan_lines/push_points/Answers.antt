@@ -1,4 +1,4 @@
-use Rattle.std.proofs.Common.{◌≡◌, ◌+◌, ◌++◌, ◌∷◌, [], ◌∙◌, ap, arith, rules, string_bytes, suc}
+use Rattle.std.proofs.Common.{◌≡◌, ◌+◌, ◌++◌, ◌∙◌, ap, arith, string_bytes, suc}
 use Rattle.std.proofs.lemmas.List.{append_assoc}
 use Rattle.mh_profile.specs.PlanLines.{line, point_lines, point_text}
 use Rattle.mh_profile.proofs.plan_lines.push_points.Goals as goal
