@@ -1,2 +1,4 @@
+mod Adding
+mod Planned
 mod Statuses
 mod Values
