@@ -1,6 +1,6 @@
 -- Amounts that are added up at their places.
 use Rattle.std.proofs.Common.{◌≡◌, ◌≢◌, ◌+◌, ◌-◌, ◌<◌, ◌≤◌, ℕ, List, Bool, true, false, cond, arith, refl, sym, ◌∙◌, ap, inl, inr, subst, ◌⊎◌, Result, Ok, Err, nat_cmp, length, map, take, drop, slice_index, slice_index_or, slice_set}
-use Rattle.std.specs.Prelude.{◌==◌, ◌&&◌, nat_le, nat_lt}
+use Rattle.std.specs.Prelude.{◌==◌, nat_le, nat_lt}
 use Rattle.std.specs.List.{All, sum_by}
 use Rattle.std.specs.List.Sorted.{IsBinarySearchResult, IsStrictlyIncreasing}
 use Rattle.std.proofs.lemmas.Bool.{and_from, and_parts, cases_Bool, cases_eq, cases_lt, cond-false, cond-true, eqb-true, eq-eqb, le-leb, leb-true, lt-ltb, ltb-true}

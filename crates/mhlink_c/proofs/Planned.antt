@@ -1,5 +1,5 @@
 -- What a plan of arrays is of.
-use Rattle.std.proofs.Common.{◌≡◌, ◌+◌, ◌<◌, ◌≤◌, ℕ, List, [], Bool, true, false, arith, refl, sym, ◌∙◌, ap, inl, inr, subst, length, map, take, slice_index_or}
+use Rattle.std.proofs.Common.{◌≡◌, ◌+◌, ◌<◌, ◌≤◌, ℕ, List, true, arith, sym, ◌∙◌, ap, inl, inr, subst, length, take, slice_index_or}
 use Rattle.std.specs.Prelude.{◌==◌}
 use Rattle.std.specs.List.{All, list_any, sum_by}
 use Rattle.std.specs.List.Sorted.{IsStrictlyIncreasing}

@@ -3,7 +3,7 @@
 ghost use Rattle.std.specs.Prelude.{◌≡◌, ◌≢◌, ◌⊎◌, ◌≤◌, length, take, All, IfErr, IfOk, OnErr, OnOk};
 ghost use Rattle.mh_base.specs.Tests.{Passes};
 ghost use Rattle.mh_network.specs.Problems.{large_tests, problem_of};
-ghost use Rattle.mhlink_c.specs.Flows.{IsLeastPlan}
+ghost use Rattle.mhlink_c.specs.Flows.{IsLeastPlan};
 ghost use Rattle.mhlink_c.specs.Problems.{HasNeeds, IsChoice, IsLeastChoice, RefusesRows, needs_of as its_needs, row_of, rows_of};
 ghost use Rattle.mhlink_c.specs.Statuses.{no_memory, status_of};
 ghost use Rattle.mhlink_c.specs.Texts.{IsUncopied};

@@ -1,4 +1,4 @@
-use Rattle.std.proofs.Common.{◌≡◌, ◌<◌, ◌∙◌, ℕ, arith, length, slice_index, slice_index_or, cond}
+use Rattle.std.proofs.Common.{◌≡◌, ◌∙◌, ℕ, arith, slice_index, slice_index_or, cond}
 use Rattle.std.specs.Prelude.{◌==◌}
 use Rattle.std.proofs.lemmas.List.{get_or_default}
 use Rattle.mh_network.specs.Limits.{greatest_sum}

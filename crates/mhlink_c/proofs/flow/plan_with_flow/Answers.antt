@@ -1,4 +1,4 @@
-use Rattle.std.proofs.Common.{◌≤◌, ◌<◌, ℕ, length, List, subst, sym}
+use Rattle.std.proofs.Common.{◌≤◌, ◌<◌, length, List, subst, sym}
 use Rattle.std.specs.List.{All, sum_by}
 use Rattle.mh_network.specs.Limits.{greatest_sum}
 use Rattle.mh_network.specs.Selection.{Charge, Row}
