@@ -80,9 +80,9 @@ at_one_place needs l at k room up own other same =
     elim (cases_eq k at) [
       | inl e ↦ e
       | inr n ↦ elim (cases_lt k at) [
-          | inl lt ↦ absurd (omega (arith, apart (k - l.first) (at - l.first) 0 (omega arith) (omega arith), x, y, same))
-          | inr le ↦ absurd (omega (arith, apart (at - l.first) (k - l.first) 0 (omega (arith, n)) (omega arith), x, y, same))
-        ]
+        | inl lt ↦ absurd (omega (arith, apart (k - l.first) (at - l.first) 0 (omega arith) (omega arith), x, y, same))
+        | inr le ↦ absurd (omega (arith, apart (at - l.first) (k - l.first) 0 (omega (arith, n)) (omega arith), x, y, same))
+      ]
     ]
 
 -- a row gives for the need of its point at that one place
@@ -106,16 +106,16 @@ pub found_at : (xs : List ℕ) (x : ℕ) (r : Result ℕ ℕ) (i : ℕ) → (r �
 found_at xs x r i is h up there =
     let pairs = AllPairs-from_increasing xs up in
     let rise : (a b : ℕ) → a ≤ b → b < length xs → slice_index xs a ≤ slice_index xs b = λ a b le lt. elim (cases_eq a b) [
-        | inl e ↦ omega (arith, ap (slice_index xs) e)
-        | inr n ↦ omega (arith, pairs a b 0 (omega (arith, n)) lt)
-      ] in
+      | inl e ↦ omega (arith, ap (slice_index xs) e)
+      | inr n ↦ omega (arith, pairs a b 0 (omega (arith, n)) lt)
+    ] in
     elim is [
       | inl ok ↦ searched xs x (Ok i) (subst (λ (s : Result ℕ ℕ). IsBinarySearchResult (λ y. nat_cmp y x) xs s) ok h) rise
       | inr err ↦
           let parted = searched xs x (Err i) (subst (λ (s : Result ℕ ℕ). IsBinarySearchResult (λ y. nat_cmp y x) xs s) err h) rise in
           let none : All (λ y. y ≡ x → ⊥) xs = λ k d lt same. elim (cases_lt k i) [
-              | inl below ↦ omega (arith, parted.1 k below, get_or_default xs k d 0 lt, same)
-              | inr above ↦ omega (arith, parted.2 k above lt, get_or_default xs k d 0 lt, same)
-            ] in
+            | inl below ↦ omega (arith, parted.1 k below, get_or_default xs k d 0 lt, same)
+            | inr above ↦ omega (arith, parted.2 k above lt, get_or_default xs k d 0 lt, same)
+          ] in
           absurd (member_is (λ y. y ≡ x → ⊥) xs none x there refl)
     ]

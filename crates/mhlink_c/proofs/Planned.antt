@@ -44,7 +44,7 @@ module _ (needs : List ℕ) (links : List MhlinkLink) (costs : List ℕ) where
   own_needs j lt =
       ap (λ (l : LinkRow). l.needs)
       (get_or-map kept_row (rows_of needs links) j (row_of needs no_link) network.no_link (omega (arith, length-map links (row_of needs), lt))
-        ∙ ap kept_row (get_or-map (row_of needs) links j no_link (row_of needs no_link) lt))
+      ∙ ap kept_row (get_or-map (row_of needs) links j no_link (row_of needs no_link) lt))
 
   module _ (plan : Plan) (tested : Passes (large_tests (rows_of needs links) costs)) (is : Matches P plan) where
     problem : IsProblem P

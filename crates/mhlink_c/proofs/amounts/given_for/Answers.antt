@@ -12,8 +12,12 @@ overflow_add-index_mut c =
     let inside : at < length c.loop-row.given.items = omega (arith, c.place_of-place.ensures.inside, c.loop-row.invariant.count) in
     let same : c.index_mut.result.now ≡ slice_index c.loop-row.given.items at =
     c.index_mut.ensures.value ∙ get_or_default c.loop-row.given.items at c.index_mut.result.now 0 inside in
-    omega (arith, same, c.loop-row.invariant.so_far at,
-      fits (gives_for c.args.needs.now c.args.links.now at) (λ r. r.2) c.args.flow.now c.loop-row.row-index (0, 0, 0) greatest_sum c.loop-row-test.true c.requires.small)
+    omega (
+      arith,
+      same,
+      c.loop-row.invariant.so_far at,
+      fits (gives_for c.args.needs.now c.args.links.now at) (λ r. r.2) c.args.flow.now c.loop-row.row-index (0, 0, 0) greatest_sum c.loop-row-test.true c.requires.small,
+    )
 
 pub loop-row-preserved : goal.loop-row-preserved
 loop-row-preserved c =
@@ -30,7 +34,7 @@ loop-row-preserved c =
     record {
       count = length-set given at (c.index_mut.result.now + row.2) ∙ c.loop-row.invariant.count;
       so_far = λ k. ap (λ (n : ℕ). slice_index (slice_set given at (n + row.2)) k) same
-        ∙ added (λ n r. cond (gives_for needs links n r) r.2 0) rows i (0, 0, 0) given at row.2 c.loop-row-test.true inside
+          ∙ added (λ n r. cond (gives_for needs links n r) r.2 0) rows i (0, 0, 0) given at row.2 c.loop-row-test.true inside
           (gives_here needs links row at c.place_of-place.ensures.own c.place_of-place.ensures.point)
           (λ n other. gives_nowhere_else needs links row at n (c.requires.there row.0 no_link is.link) is.ascending c.place_of-place.ensures.own c.place_of-place.ensures.point other)
           c.loop-row.invariant.so_far k;

@@ -10,8 +10,12 @@ overflow_add-index_mut c =
     let at : ℕ = (slice_index_or c.args.flow.now c.loop-row.row-index (0, 0, 0)).1 in
     let same : c.index_mut.result.now ≡ slice_index c.loop-row.gets.items at =
     c.index_mut.ensures.value ∙ get_or_default c.loop-row.gets.items at c.index_mut.result.now 0 (omega (arith, c.requires.inside c.loop-row.row-index (0, 0, 0) c.loop-row-test.true, c.loop-row.invariant.count)) in
-    omega (arith, same, c.loop-row.invariant.so_far at,
-      fits (λ r. r.1 == at) (λ r. r.2) c.args.flow.now c.loop-row.row-index (0, 0, 0) greatest_sum c.loop-row-test.true c.requires.small)
+    omega (
+      arith,
+      same,
+      c.loop-row.invariant.so_far at,
+      fits (λ r. r.1 == at) (λ r. r.2) c.args.flow.now c.loop-row.row-index (0, 0, 0) greatest_sum c.loop-row-test.true c.requires.small,
+    )
 
 pub returns : goal.returns
 returns c = record {

@@ -10,8 +10,12 @@ overflow_add-index_mut c =
     let at : ℕ = (slice_index_or c.args.charges.now c.loop-charge.charge-index (0, 0)).0 in
     let same : c.index_mut.result.now ≡ slice_index c.loop-charge.paid.items at =
     c.index_mut.ensures.value ∙ get_or_default c.loop-charge.paid.items at c.index_mut.result.now 0 (omega (arith, c.requires.inside c.loop-charge.charge-index (0, 0) c.loop-charge-test.true, c.loop-charge.invariant.count)) in
-    omega (arith, same, c.loop-charge.invariant.so_far at,
-      fits (λ r. r.0 == at) (λ r. r.1) c.args.charges.now c.loop-charge.charge-index (0, 0) greatest_sum c.loop-charge-test.true c.requires.small)
+    omega (
+      arith,
+      same,
+      c.loop-charge.invariant.so_far at,
+      fits (λ r. r.0 == at) (λ r. r.1) c.args.charges.now c.loop-charge.charge-index (0, 0) greatest_sum c.loop-charge-test.true c.requires.small,
+    )
 
 pub returns : goal.returns
 returns c = record {

@@ -14,9 +14,9 @@ loop-link-preserved c =
     let i = c.loop-link.link-index in
     record {
       so_far = c.in_ok-push.ensures.items
-        ∙ ap (λ (rows : List LinkRow). rows ++ c.in_ok-row.row ∷ []) c.loop-link.invariant.so_far
-        ∙ ap (λ (row : LinkRow). map (row_of needs) (take i links) ++ row ∷ []) c.in_ok-row.ensures.value
-        ∙ sym (map_more (row_of needs) links i _ c.loop-link-test.true);
+          ∙ ap (λ (rows : List LinkRow). rows ++ c.in_ok-row.row ∷ []) c.loop-link.invariant.so_far
+          ∙ ap (λ (row : LinkRow). map (row_of needs) (take i links) ++ row ∷ []) c.in_ok-row.ensures.value
+          ∙ sym (map_more (row_of needs) links i _ c.loop-link-test.true);
       there = subst (λ (some : List MhlinkLink). All (HasNeeds needs) some) (sym (take_more links i _ c.loop-link-test.true))
-        (All-push (HasNeeds needs) (take i links) (slice_index_or links i _) c.loop-link.invariant.there c.in_ok-row.ensures.there);
+          (All-push (HasNeeds needs) (take i links) (slice_index_or links i _) c.loop-link.invariant.there c.in_ok-row.ensures.there);
     }
