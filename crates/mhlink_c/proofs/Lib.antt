@@ -1,4 +1,6 @@
 mod Adding
+mod FaultWords
 mod Planned
 mod Statuses
 mod Values
+mod Words

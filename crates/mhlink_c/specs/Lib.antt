@@ -11,3 +11,4 @@ pub mod Opening
 pub mod Texts
 pub mod Problems
 pub mod Flows
+pub mod Wording

@@ -1,0 +1,7 @@
+use Rattle.mhlink_c.specs.Wording.{RefusesWords}
+use Rattle.mhlink_c.proofs.Words.{status_told}
+use Rattle.mhlink_c.proofs.wording.mhlink_fault_text.Goals as goal
+
+pub returns-clause-refused : goal.returns-clause-refused
+returns-clause-refused c some =
+    status_told c.word.result c.status.result (RefusesWords c.args.status c.args.part c.word.new.count c.args.buffer.now) c.status.ensures.ok c.status.ensures.status c.word.ensures.refused some
