@@ -58,7 +58,8 @@ typedef struct mhlink_limits {
 
 #define MHLINK_WIDEST_LIMITS {1u << 20, 1u << 20, (uint64_t)1 << 40}
 
-/* A value: an int, a long, a boolean (0 or 1), or a String, whose number counts the bytes that it has among the texts. */
+/* A value: an int, a long, a boolean (0 or 1), or a String, whose number counts the bytes that it has among the texts: at most
+   65,536, each from 0x20 to 0x7E. */
 typedef struct mhlink_value {
     uint32_t kind;
     int64_t number;

@@ -1,5 +1,5 @@
 -- The words of a fault are those of its status, with its part behind them.
-use Rattle.std.proofs.Common.{◌≡◌, ◌≢◌, ◌∙◌, ◌++◌, ◌∷◌, ℕ, List, Some, arith, refl, sym}
+use Rattle.std.proofs.Common.{◌≡◌, ◌≢◌, ◌∙◌, ℕ, List, [], Option, Some, None, ap, arith, refl, subst, sym}
 use Rattle.std.specs.Prelude.{codes}
 use Rattle.std.specs.Fmt.{decimal}
 use Rattle.mh_cert.specs.Plans as check_fault
@@ -19,6 +19,7 @@ use Rattle.mh_type.specs.declared.fault.TypeFault.{TypeFault}
 use Rattle.mh_type.specs.declared.fault.TypeFault.TheVariants as type
 use Rattle.mh_core.specs.declared.refusal.Refusal.TheVariants.{NoMemory, HistoryFull, NoSite, NoPoint, WrongType, NoSnapshot, NoPlan, PlanRefused, OldPlan, TotalTooLarge, LedgerFull, GainTooLarge, NoWorker, WrongLevel}
 use Rattle.mh_text.specs.declared.fault.InputFault.TheVariants as input
+use Rattle.mhlink_c.specs.Buffers.{IsCopied}
 use Rattle.mhlink_c.specs.Statuses.{part_of, status_of}
 use Rattle.mhlink_c.specs.Wording.{IsTold, fault_words, with_part, words_of}
 use Rattle.mhlink_c.specs.declared.fault.Fault.{Fault}
@@ -123,3 +124,15 @@ words_told Unknown is = (codes "a name, a key or a number of nothing that is the
 words_told Short is = (codes "the buffer is too short", (refl, refl))
 words_told BadValue is = (codes "a value of no kind, out of its kind's range, or whose text is not passed", (refl, refl))
 words_told BadLimits is = (codes "a limit, or the number of workers, is out of its range", (refl, refl))
+
+abbrev the_words : Option (List ℕ) → List ℕ
+the_words (Some words) = words
+the_words None = []
+
+-- what is copied of a fault's status and part
+pub fault_copied : (status part count : ℕ) (buffer : List ℕ) → ((words : List ℕ) × ((words_of status ≡ Some words) × IsCopied (with_part words part) count buffer)) → (e : Fault) → IsTold e → status ≡ status_of e → part ≡ part_of e → IsCopied (fault_words e) count buffer
+fault_copied status part count buffer told e is its_status its_part =
+    let words = words_told e is in
+    let same : told.0 ≡ words.0 = ap the_words (sym told.1.0 ∙ ap words_of its_status ∙ words.1.0) in
+    let text : with_part told.0 part ≡ fault_words e = ap (λ (xs : List ℕ). with_part xs part) same ∙ ap (with_part words.0) its_part ∙ words.1.1 in
+    subst (λ (xs : List ℕ). IsCopied xs count buffer) text told.1.1

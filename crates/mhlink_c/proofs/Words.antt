@@ -15,6 +15,11 @@ pub status_told : (r : Result (Unit {0}) Fault) (status : ℕ) (Q : Fault → Ty
 status_told (Ok u) status Q ok told is some = absurd (some ok)
 status_told (Err e) status Q ok told is some = (e, (told, is))
 
+-- what is so of a status 0
+pub status_done : {A : Type 0} (r : Result (Unit {0}) Fault) (status : ℕ) → OnErr r (status ≢ 0) → OnOk r A → status ≡ 0 → A
+status_done (Ok u) status some is done = is
+status_done (Err e) status some is done = absurd (some done)
+
 pub with_some_part : (words : List ℕ) (part : ℕ) → part ≢ 0 → words ++ 32 ∷ decimal part ≡ with_part words part
 with_some_part words part some = rw (ne_eqb part 0 some) refl
 

@@ -13,7 +13,6 @@ use std::alloc::Global;
 /// Copies to `buffer` what a status means, as `mhlink` words it (docs/FAULTS.md), with `part`
 /// behind it where that is not 0: `refused 8 PlanRefused 3`, `fault 7 Tree 2`. How many bytes they
 /// are goes to `count`, also where `buffer` is too short. A number that is no status is unknown.
-#[tactic(auto, using(crate::proofs::FaultWords::words_told))]
 #[unsafe(no_mangle)]
 pub extern "C" fn mhlink_fault_text(
     alloc: Global,
@@ -24,8 +23,8 @@ pub extern "C" fn mhlink_fault_text(
 ) -> u32
     ensures told { result ≡ 0 → (words : List ℕ) × ((its_words status ≡ Some words)
         × IsCopied (with_part words part) count.new buffer.new) }
-    ensures faults { (e : FaultOf) → IsTold e → (words : List ℕ)
-        × ((its_words (number_of e) ≡ Some words) × (with_part words (part_of e) ≡ fault_words e)) }
+    ensures faults { result ≡ 0 → (e : FaultOf) → IsTold e → status ≡ number_of e
+        → part ≡ part_of e → IsCopied (fault_words e) count.new buffer.new }
     ensures refused { result ≢ 0 → (e : FaultOf) × ((result ≡ number_of e)
         × RefusesWords status part count.new buffer.old e) }
     ensures untouched { result ≢ 0 → buffer.new ≡ buffer.old }
