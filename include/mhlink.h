@@ -31,7 +31,7 @@ enum mhlink_status {
     MHLINK_NO_MEMORY = 1, MHLINK_HISTORY_FULL = 2, MHLINK_NO_SITE = 3, MHLINK_NO_POINT = 4, MHLINK_WRONG_TYPE = 5,
     MHLINK_NO_SNAPSHOT = 6, MHLINK_NO_PLAN = 7, MHLINK_PLAN_REFUSED = 8, MHLINK_OLD_PLAN = 9, MHLINK_TOTAL_TOO_LARGE = 10,
     MHLINK_LEDGER_FULL = 11, MHLINK_GAIN_TOO_LARGE = 12, MHLINK_NO_WORKER = 13, MHLINK_WRONG_LEVEL = 14,
-    /* and the number of an input's fault, in the same document: 102 to 113 */
+    /* and the number of an input's fault, in the same document: 102 to 116 */
     MHLINK_INPUT = 100, MHLINK_TOO_LONG = 102, MHLINK_NOT_JSON = 103, MHLINK_BAD_SHAPE = 104,
     /* and the number of a problem's fault: 201 and up */
     MHLINK_PROBLEM = 200,

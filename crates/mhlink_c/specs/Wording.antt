@@ -44,6 +44,9 @@ inputs =
     ∷ (109, codes "fault 9 Problem")
     ∷ (112, codes "fault 12 BadType")
     ∷ (113, codes "fault 13 UnknownSite")
+    ∷ (114, codes "fault 14 UnknownPoint")
+    ∷ (115, codes "fault 15 PointTwice")
+    ∷ (116, codes "fault 16 NeedTwice")
     ∷ []
 
 -- of faults of problems, and of these calls alone
