@@ -1,7 +1,8 @@
 -- The words of a fault are those of its status, with its part behind them.
-use Rattle.std.proofs.Common.{◌≡◌, ◌≢◌, ◌∙◌, ℕ, List, [], Option, Some, None, ap, arith, refl, subst, sym}
+use Rattle.std.proofs.Common.{◌≡◌, ◌≢◌, ◌∙◌, ◌+◌, ◌<◌, ◌++◌, ◌∷◌, ℕ, List, [], Option, Some, None, ap, arith, refl, subst, sym}
 use Rattle.std.specs.Prelude.{codes}
 use Rattle.std.specs.Fmt.{decimal}
+use Rattle.std.proofs.lemmas.Fmt.{decimal_digit}
 use Rattle.mh_cert.specs.Plans as check_fault
 use Rattle.mh_cert.specs.declared.fault.CheckFault.{CheckFault}
 use Rattle.mh_cert.specs.declared.fault.CheckFault.TheVariants as check
@@ -86,6 +87,9 @@ some_type type.NoMemory = λ none. omega arith
 some_type type.TooManyParameters = λ none. omega arith
 some_type type.BadText = λ none. omega arith
 
+one_digit : (n : ℕ) → n < 10 → codes "fault 9 Problem " ++ (48 + n) ∷ [] ≡ codes "fault " ++ codes "9 Problem " ++ decimal n
+one_digit n few = sym (ap (λ (digits : List ℕ). codes "fault 9 Problem " ++ digits) (decimal_digit n few))
+
 pub words_told : (e : Fault) → IsTold e → (words : List ℕ) × ((words_of (status_of e) ≡ Some words) × (with_part words (part_of e) ≡ fault_words e))
 words_told (Refused NoMemory) is = (codes "refused 1 NoMemory", (refl, refl))
 words_told (Refused HistoryFull) is = (codes "refused 2 HistoryFull", (refl, refl))
@@ -116,13 +120,13 @@ words_told (Input input.UnknownPoint) is = (codes "fault 14 UnknownPoint", (refl
 words_told (Input input.PointTwice) is = (codes "fault 15 PointTwice", (refl, refl))
 words_told (Input input.NeedTwice) is = (codes "fault 16 NeedTwice", (refl, refl))
 words_told (Problem problem.NoMemory) is = absurd is
-words_told (Problem problem.GainTooLarge) is = (codes "fault 9 Problem 2", (refl, refl))
-words_told (Problem problem.CostTooLarge) is = (codes "fault 9 Problem 3", (refl, refl))
-words_told (Problem problem.NeedOutOfRange) is = (codes "fault 9 Problem 4", (refl, refl))
-words_told (Problem problem.NeedsNotAscending) is = (codes "fault 9 Problem 5", (refl, refl))
-words_told (Problem problem.TooManyLinks) is = (codes "fault 9 Problem 6", (refl, refl))
-words_told (Problem problem.TooManyPoints) is = (codes "fault 9 Problem 7", (refl, refl))
-words_told (Problem problem.TooManyNeeds) is = (codes "fault 9 Problem 8", (refl, refl))
+words_told (Problem problem.GainTooLarge) is = (codes "fault 9 Problem 2", (refl, one_digit 2 (omega arith)))
+words_told (Problem problem.CostTooLarge) is = (codes "fault 9 Problem 3", (refl, one_digit 3 (omega arith)))
+words_told (Problem problem.NeedOutOfRange) is = (codes "fault 9 Problem 4", (refl, one_digit 4 (omega arith)))
+words_told (Problem problem.NeedsNotAscending) is = (codes "fault 9 Problem 5", (refl, one_digit 5 (omega arith)))
+words_told (Problem problem.TooManyLinks) is = (codes "fault 9 Problem 6", (refl, one_digit 6 (omega arith)))
+words_told (Problem problem.TooManyPoints) is = (codes "fault 9 Problem 7", (refl, one_digit 7 (omega arith)))
+words_told (Problem problem.TooManyNeeds) is = (codes "fault 9 Problem 8", (refl, one_digit 8 (omega arith)))
 words_told Unknown is = (codes "a name, a key or a number of nothing that is there", (refl, refl))
 words_told Short is = (codes "the buffer is too short", (refl, refl))
 words_told BadValue is = (codes "a value of no kind, out of its kind's range, or whose text is not passed", (refl, refl))
