@@ -1,5 +1,5 @@
 -- Texts that C passes.
-use Rattle.std.proofs.Common.{◌≡◌, ◌+◌, ◌<◌, ◌≤◌, ℕ, List, Bool, true, arith, inl, inr, length, slice_index, sym}
+use Rattle.std.proofs.Common.{◌≡◌, ℕ, List, true, arith, inl, inr, length, slice_index}
 use Rattle.std.specs.Prelude.{nat_le}
 use Rattle.std.specs.List.{list_all}
 use Rattle.std.specs.Str.{IsUtf8}

@@ -1,6 +1,6 @@
 -- The words of statuses and of faults.
-use Rattle.std.proofs.Common.{◌≡◌, ◌≢◌, ◌∙◌, ◌++◌, ◌∷◌, ℕ, List, Option, Result, Some, Ok, Err, ap, inr, refl, subst, sym, cond, length}
-use Rattle.std.specs.Prelude.{◌==◌, IfErr, IfSome, OnErr, OnOk}
+use Rattle.std.proofs.Common.{◌≡◌, ◌≢◌, ◌++◌, ◌∷◌, ℕ, List, Result, Some, Ok, Err, inr, refl, subst}
+use Rattle.std.specs.Prelude.{IfErr, OnErr, OnOk}
 use Rattle.std.specs.Fmt.{decimal}
 use Rattle.std.proofs.lemmas.Bool.{ne_eqb}
 use Rattle.std.proofs.lemmas.Result.{IfErr-weaker, on_ok_weaker}

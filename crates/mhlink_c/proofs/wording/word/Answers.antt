@@ -1,4 +1,4 @@
-use Rattle.std.proofs.Common.{◌≡◌, ◌∙◌, List, Option, Some, subst, ℕ}
+use Rattle.std.proofs.Common.{◌≡◌, ◌∙◌, Some, subst}
 use Rattle.std.specs.Prelude.{IfSome}
 use Rattle.mhlink_c.specs.Wording.{words_of}
 use Rattle.mhlink_c.proofs.Words.{copied, too_short, with_some_part}
