@@ -99,10 +99,6 @@ none_next given i d texts xs rest lt before none a are =
     let one = one_behind (take i given) (drop (i + 1) given) (get_or given i d) texts xs rest a before (subst (λ (vs : List MhlinkValue). AreValues vs texts a) parts are) in
     none one.0 one.1
 
--- where the only one is no value
-pub none_alone : (given : List MhlinkValue) (d : MhlinkValue) (texts : List ℕ) → 1 ≤ length given → length given < 2 → ((x : Value) → IsValue (get_or given 0 d) texts x → ⊥) → AreNoValues given texts
-none_alone given d texts some few none = none_next given 0 d texts [] texts (omega (arith, some)) refl none
-
 -- a call that the runtime refuses
 pub refused_call : (h : HostState) (w s : ℕ) (given : List MhlinkValue) (texts : List ℕ) (a : List Value) (r : Result MhlinkReply Fault) → AreValues given texts a → IfErr r (RefusesRun h w s a) → IfErr r (RefusesCall h w s given texts)
 refused_call h w s given texts a (Ok reply) are told = tt
