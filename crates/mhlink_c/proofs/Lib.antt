@@ -1,7 +1,7 @@
 mod Adding
+mod Ascii
 mod FaultWords
 mod Planned
 mod Statuses
-mod Texts
 mod Values
 mod Words

@@ -1,7 +1,7 @@
 use Rattle.std.proofs.Common.{◌∙◌, ℕ, List, ap, inl, nat_abs, refl, subst, sym, take, w64}
 use Rattle.std.specs.Str.{IsUtf8}
 use Rattle.std.proofs.lemmas.Int.{to_z-of_z}
-use Rattle.mhlink_c.proofs.Texts.{text_is_utf8}
+use Rattle.mhlink_c.proofs.Ascii.{text_is_utf8}
 use Rattle.mhlink_c.proofs.value.text.Goals as goal
 
 pub returns-in_default-clause-refused : goal.returns-in_default-clause-refused
