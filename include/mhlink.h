@@ -31,7 +31,7 @@ enum mhlink_status {
     MHLINK_NO_MEMORY = 1, MHLINK_HISTORY_FULL = 2, MHLINK_NO_SITE = 3, MHLINK_NO_POINT = 4, MHLINK_WRONG_TYPE = 5,
     MHLINK_NO_SNAPSHOT = 6, MHLINK_NO_PLAN = 7, MHLINK_PLAN_REFUSED = 8, MHLINK_OLD_PLAN = 9, MHLINK_TOTAL_TOO_LARGE = 10,
     MHLINK_LEDGER_FULL = 11, MHLINK_GAIN_TOO_LARGE = 12, MHLINK_NO_WORKER = 13, MHLINK_WRONG_LEVEL = 14,
-    /* and the number of an input's fault, in the same document: 102 to 113 */
+    /* and the number of an input's fault, in the same document: 102 to 116 */
     MHLINK_INPUT = 100, MHLINK_TOO_LONG = 102, MHLINK_NOT_JSON = 103, MHLINK_BAD_SHAPE = 104,
     /* and the number of a problem's fault: 201 and up */
     MHLINK_PROBLEM = 200,
@@ -58,7 +58,8 @@ typedef struct mhlink_limits {
 
 #define MHLINK_WIDEST_LIMITS {1u << 20, 1u << 20, (uint64_t)1 << 40}
 
-/* A value: an int, a long, a boolean (0 or 1), or a String, whose number counts the bytes that it has among the texts. */
+/* A value: an int, a long, a boolean (0 or 1), or a String, whose number counts the bytes that it has among the texts: at most
+   65,536, each from 0x20 to 0x7E. */
 typedef struct mhlink_value {
     uint32_t kind;
     int64_t number;
@@ -126,6 +127,18 @@ uint32_t mhlink_report(mhlink_machine *machine, uint8_t *buffer, size_t capacity
 uint32_t mhlink_plan_problem(const uint64_t *costs, size_t points, const mhlink_problem_link *links, size_t count,
                              const uint32_t *needs, size_t all_needs, uint32_t *chosen, size_t capacity, size_t *length,
                              int64_t *value);
+/* The same, and what shows that no links are worth more: the points that the chosen links need, ascending, and a flow. By it
+   each link divides its gain, which is 0 where it may not be chosen: it pays of its own charge, gives to points that it needs,
+   and keeps the rest; no charge is paid more than it is, and no point gets more than it costs. `paid` gets what each link pays,
+   `given` what is given for each need, in the place of the need among `needs` (for a need there that several links have, what
+   they give together), and `gets` what each point gets: so many numbers as there are links, needs and points. The value is what
+   all links keep together. One that is left out keeps nothing (the theorem `left_links_spend_all` of mh_network). The status is
+   MHLINK_SHORT where an array is shorter than what it gets; after any other than MHLINK_OK only the two lengths may be new. */
+uint32_t mhlink_plan_problem_flow(const uint64_t *costs, size_t points, const mhlink_problem_link *links, size_t count,
+                                  const uint32_t *needs, size_t all_needs, uint32_t *chosen, size_t capacity, size_t *length,
+                                  int64_t *value, uint32_t *needed, size_t needed_capacity, size_t *needed_length,
+                                  uint64_t *paid, size_t paid_capacity, uint64_t *given, size_t given_capacity,
+                                  uint64_t *gets, size_t gets_capacity);
 
 #ifdef __cplusplus
 }

@@ -190,6 +190,44 @@ static void wrong_problems(void) {
     if (length != 1 || chosen[0] != 0 || value != 2) wrong++;
 }
 
+/* What a plan with its flow is written to: two links have one need, for which they cannot pay; a third pays its charge and its point. */
+typedef struct flow_arrays {
+    int64_t value;
+    uint64_t paid[3], given[2], gets[2];
+    uint32_t chosen[1], needed[1];
+} flow_arrays;
+
+static const size_t enough[] = {1, 1, 3, 2, 2};
+static const mhlink_problem_link sharing[] = {{4, 0, 0, 1, 1}, {3, 0, 0, 1, 1}, {8, 1, 1, 1, 1}};
+
+static uint32_t plan_flow(flow_arrays *to, const mhlink_problem_link *links, size_t count, const size_t *room, size_t *lengths) {
+    static const uint64_t costs[] = {9, 5};
+    static const uint32_t needs[] = {0, 1};
+    return mhlink_plan_problem_flow(costs, 2, links, count, needs, 2, to->chosen, room[0], &lengths[0], &to->value, to->needed, room[1],
+                                    &lengths[1], to->paid, room[2], to->given, room[3], to->gets, room[4]);
+}
+
+static void flows(void) {
+    static const mhlink_problem_link faulty[] = {{1, 0, 1, 2, 1}, {1, 0, SIZE_MAX, 1, 1}, {UINT64_MAX, 0, 0, 1, 1}};
+    static const uint32_t faults[] = {MHLINK_UNKNOWN, MHLINK_UNKNOWN, MHLINK_PROBLEM + 2};
+    flow_arrays arrays, before;
+    size_t lengths[] = {9, 9};
+    memset(&arrays, 0xee, sizeof arrays);
+    memset(&before, 0xee, sizeof before);
+    for (int i = 0; i < 3; i++) expect("flow", plan_flow(&arrays, &faulty[i], 1, enough, lengths), faults[i]);
+    if (lengths[0] != 9 || lengths[1] != 9) wrong++;
+    for (int i = 0; i < 5; i++) {
+        size_t room[5];
+        memcpy(room, enough, sizeof room);
+        room[i]--;
+        expect("short", plan_flow(&arrays, sharing, 3, room, lengths), MHLINK_SHORT);
+    }
+    if (memcmp(&arrays, &before, sizeof arrays) || lengths[0] != 1 || lengths[1] != 1) wrong++;
+    expect("flow", plan_flow(&arrays, sharing, 3, enough, lengths), MHLINK_OK);
+    const flow_arrays wanted = {2, {0, 0, 1}, {7, 5}, {7, 5}, {2}, {1}};
+    if (memcmp(&arrays, &wanted, sizeof arrays) || lengths[0] != 1 || lengths[1] != 1) wrong++;
+}
+
 int main(void) {
     uint64_t part;
     uint32_t status = mhlink_open(bytes(definition), strlen(definition), 1, &widest, &machine, &part);
@@ -204,6 +242,7 @@ int main(void) {
     cut_json();
     wrong_openings();
     wrong_problems();
+    flows();
     mhlink_close(machine);
     printf("%u wrong\n", wrong);
     return refused == 0 || wrong != 0;

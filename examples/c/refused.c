@@ -32,6 +32,20 @@ static void tell(const char *what, uint32_t status) {
     if (status) printf("%s: status %" PRIu32 "\n", what, status);
 }
 
+/* A plan from arrays, with its flow. */
+static void plan_arrays(void) {
+    static const uint64_t costs[] = {5};
+    static const uint32_t needs[] = {0};
+    static const mhlink_problem_link links[] = {{8, 1, 0, 1, 1}};
+    uint32_t chosen[1], needed[1];
+    uint64_t paid[1], given[1], gets[1];
+    size_t length, needed_length;
+    int64_t value = 0;
+    ASK(mhlink_plan_problem_flow(costs, 1, links, 1, needs, 1, chosen, 1, &length, &value, needed, 1, &needed_length, paid, 1, given, 1,
+                                 gets, 1));
+    printf("value %" PRId64 ", paid %" PRIu64 ", given %" PRIu64 "\n", value, paid[0], given[0]);
+}
+
 int main(void) {
     if (write(STDOUT_FILENO, "opened\n", 7) != 7) return 1;
     static char room[4096]; /* so that printf asks for no memory */
@@ -69,6 +83,7 @@ int main(void) {
     ASK(mhlink_total(&machine, 0, &part));
     printf("f(1): %" PRId64 ", hits %" PRIu64 ", total %" PRIu64 "\n", reply.number, number, part);
     mhlink_close(machine);
+    plan_arrays();
     if (refusals > 1) printf("%u refusals\n", refusals);
     return 0;
 }

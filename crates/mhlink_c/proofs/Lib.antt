@@ -1,2 +1,7 @@
+mod Adding
+mod Ascii
+mod FaultWords
+mod Planned
 mod Statuses
 mod Values
+mod Words

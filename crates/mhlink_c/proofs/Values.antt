@@ -1,9 +1,10 @@
 -- Values that are read one behind another.
-use Rattle.std.proofs.Common.{◌≡◌, ◌+◌, ◌-◌, ◌<◌, ◌≤◌, ℕ, min, List, [], ◌∷◌, ◌++◌, Result, Ok, Err, arith, drop, get_or, inr, length, take, subst, sym, ◌∙◌, ap}
+use Rattle.std.proofs.Common.{◌≡◌, ◌+◌, ◌-◌, ◌<◌, ◌≤◌, ℕ, min, List, [], ◌∷◌, ◌++◌, Result, Ok, Err, arith, drop, get_or, inr, nat_abs, refl, length, take, subst, sym, ◌∙◌, ap}
 use Rattle.std.specs.Prelude.{IfErr}
-use Rattle.std.proofs.lemmas.List.{length-drop, length-take, take_all, take_more}
+use Rattle.std.proofs.lemmas.List.{drop_more, length-drop, length-take, take-append-drop, take_all, take_more}
 use Rattle.mh_core.specs.Value.{Value}
-use Rattle.mhlink_c.specs.Crossing.{AreValues, IsValue, bytes_of}
+use Rattle.mh_core.specs.Value.TheVariants.{Int, Long, Boolean, Text}
+use Rattle.mhlink_c.specs.Crossing.{AreNoValues, AreValues, IsValue, bytes_of, value_kind, value_number}
 use Rattle.mhlink_c.specs.Calls.{RefusesCall, RefusesRun}
 use Rattle.mhlink_c.specs.Hosts.{HostState}
 use Rattle.mhlink_c.specs.declared.fault.Fault.{Fault}
@@ -56,6 +57,47 @@ pub one_is : (given : List MhlinkValue) (d : MhlinkValue) (texts : List ℕ) (x 
 one_is [] d texts x some few is = absurd (omega (arith, some))
 one_is (v ∷ []) d texts x some few is = (is, tt)
 one_is (v ∷ w ∷ vs) d texts x some few is = absurd (omega (arith, few))
+
+-- values that begin the same bytes and are passed alike are as long
+as_long : (v : MhlinkValue) (texts : List ℕ) (x y : Value) → IsValue v texts x → IsValue v texts y → length (bytes_of x) ≡ length (bytes_of y)
+as_long v texts x y one other = lengths_same x y (sym one.kind ∙ other.kind) (sym one.number ∙ other.number)
+  where
+    lengths_same : (x y : Value) → value_kind x ≡ value_kind y → value_number x ≡ value_number y → length (bytes_of x) ≡ length (bytes_of y)
+    lengths_same (Text t) (Text u) kind number = ap nat_abs number
+    lengths_same (Text t) (Int n) kind number = absurd (omega (arith, kind))
+    lengths_same (Text t) (Long n) kind number = absurd (omega (arith, kind))
+    lengths_same (Text t) (Boolean b) kind number = absurd (omega (arith, kind))
+    lengths_same (Int n) (Text u) kind number = absurd (omega (arith, kind))
+    lengths_same (Long n) (Text u) kind number = absurd (omega (arith, kind))
+    lengths_same (Boolean b) (Text u) kind number = absurd (omega (arith, kind))
+    lengths_same (Int n) (Int m) kind number = refl
+    lengths_same (Int n) (Long m) kind number = refl
+    lengths_same (Int n) (Boolean b) kind number = refl
+    lengths_same (Long n) (Int m) kind number = refl
+    lengths_same (Long n) (Long m) kind number = refl
+    lengths_same (Long n) (Boolean b) kind number = refl
+    lengths_same (Boolean b) (Int m) kind number = refl
+    lengths_same (Boolean b) (Long m) kind number = refl
+    lengths_same (Boolean b) (Boolean d) kind number = refl
+
+-- of values, the one behind those that are read
+one_behind : (vs ws : List MhlinkValue) (v : MhlinkValue) (texts : List ℕ) (xs : List Value) (rest : List ℕ) (a : List Value) → AreRead vs texts xs rest → AreValues (vs ++ v ∷ ws) texts a → (x : Value) × IsValue v rest x
+one_behind [] ws v texts [] rest (y ∷ ys) is are = (y, subst (λ (bytes : List ℕ). IsValue v bytes y) (sym is) are.0)
+one_behind (w ∷ vs) ws v texts (x ∷ xs) rest (y ∷ ys) is are =
+    one_behind vs ws v (drop (length (bytes_of x)) texts) xs rest ys is.1
+    (subst (λ (n : ℕ). AreValues (vs ++ v ∷ ws) (drop n texts) ys) (as_long w texts y x are.0 is.0) are.1)
+one_behind [] ws v texts (x ∷ xs) rest a is are = absurd is
+one_behind (w ∷ vs) ws v texts [] rest a is are = absurd is
+one_behind [] ws v texts [] rest [] is are = absurd are
+one_behind (w ∷ vs) ws v texts (x ∷ xs) rest [] is are = absurd are
+
+-- where the next is no value
+pub none_next : (given : List MhlinkValue) (i : ℕ) (d : MhlinkValue) (texts : List ℕ) (xs : List Value) (rest : List ℕ) → i < length given → AreRead (take i given) texts xs rest → ((x : Value) → IsValue (get_or given i d) rest x → ⊥) → AreNoValues given texts
+none_next given i d texts xs rest lt before none a are =
+    let parts : given ≡ take i given ++ get_or given i d ∷ drop (i + 1) given =
+    sym (take-append-drop i given) ∙ ap (λ (rest : List MhlinkValue). take i given ++ rest) (drop_more given i d lt) in
+    let one = one_behind (take i given) (drop (i + 1) given) (get_or given i d) texts xs rest a before (subst (λ (vs : List MhlinkValue). AreValues vs texts a) parts are) in
+    none one.0 one.1
 
 -- a call that the runtime refuses
 pub refused_call : (h : HostState) (w s : ℕ) (given : List MhlinkValue) (texts : List ℕ) (a : List Value) (r : Result MhlinkReply Fault) → AreValues given texts a → IfErr r (RefusesRun h w s a) → IfErr r (RefusesCall h w s given texts)

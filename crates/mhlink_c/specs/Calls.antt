@@ -6,7 +6,7 @@ use Rattle.mh_core.specs.Runtimes.{CountsHit, call_tests}
 use Rattle.mh_core.specs.Value.{Value}
 use Rattle.mh_core.specs.declared.refusal.Refusal.{Refusal}
 use Rattle.mh_core.specs.declared.reply.Reply.{Reply}
-use Rattle.mhlink_c.specs.Crossing.{AreValues, IsReply, text_of_reply}
+use Rattle.mhlink_c.specs.Crossing.{AreNoValues, AreValues, IsReply, text_of_reply}
 use Rattle.mhlink_c.specs.Hosts.{HostState}
 use Rattle.mhlink_c.specs.Statuses.{no_memory}
 use Rattle.mhlink_c.specs.declared.fault.Fault.{Fault}
@@ -36,4 +36,4 @@ RefusesRun h w s a e = (told : Refusal) × ((e ≡ Refused told) × Refuses (cal
 -- a value is none, memory ran out in reading them, or the runtime refuses the call
 abbrev pub RefusesCall : HostState → ℕ → ℕ → List MhlinkValue → List ℕ → Fault → Type 0
 RefusesCall h w s values texts e =
-    (e ≡ BadValue) ⊎ (e ≡ no_memory) ⊎ ((a : List Value) × (AreValues values texts a × RefusesRun h w s a e))
+    ((e ≡ BadValue) × AreNoValues values texts) ⊎ (e ≡ no_memory) ⊎ ((a : List Value) × (AreValues values texts a × RefusesRun h w s a e))

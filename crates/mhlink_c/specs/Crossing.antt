@@ -1,11 +1,13 @@
 -- What crosses to C of values, and of what a call gave.
-use Rattle.std.specs.Prelude.{◌≡◌, ℕ, ◌^◌, ◌-◌, ℤ, pos, Bool, true, false, List, [], ◌∷◌, drop, length, min, take, Option, Some, None}
+use Rattle.std.specs.Prelude.{◌≡◌, ℕ, ◌^◌, ◌-◌, ℤ, pos, FitsSigned, Bool, true, false, List, [], ◌∷◌, drop, length, min, take, Option, Some, None}
+use Rattle.core.specs.Int.{w32}
 use Rattle.mh_core.specs.declared.reply.Reply.{Reply}
 use Rattle.mh_core.specs.declared.reply.Reply.TheVariants.{Called}
 use Rattle.mh_core.specs.Outcome.{Outcome}
 use Rattle.mh_core.specs.Outcome.TheVariants as outcome
 use Rattle.mh_core.specs.Value.{Value}
 use Rattle.mh_core.specs.Value.TheVariants.{Int, Long, Boolean, Text}
+use Rattle.mh_type.specs.Printable.{is_text}
 use Rattle.mh_type.specs.declared.outcome.Throw.TheVariants.{ArithmeticException, TextTooLong}
 use Rattle.mhlink_c.specs.declared.value.MhlinkReply.{MhlinkReply}
 use Rattle.mhlink_c.specs.declared.value.MhlinkValue.{MhlinkValue}
@@ -32,17 +34,32 @@ abbrev pub bytes_of : Value → List ℕ
 bytes_of (Text t) = t
 bytes_of _ = []
 
+-- an int has 32 bits, and a text is one: a long has 64 bits and a boolean is true or false in any case
+abbrev pub IsOfItsKind : Value → Type 0
+IsOfItsKind (Int n) = FitsSigned w32 n
+IsOfItsKind (Text t) = is_text t ≡ true
+IsOfItsKind _ = Unit {0}
+
 -- what C passes is this value, whose bytes begin the texts
 pub record IsValue (v : MhlinkValue) (texts : List ℕ) (x : Value) : Type 0 where
+  pub lawful : IsOfItsKind x
   pub kind : v.kind ≡ value_kind x
   pub number : v.number ≡ value_number x
   pub bytes : take (length (bytes_of x)) texts ≡ bytes_of x
+
+-- no text of so many bytes begins the texts
+abbrev pub IsNoText : ℤ → List ℕ → Type 0
+IsNoText count texts = (t : List ℕ) → count ≡ pos (length t) → take (length t) texts ≡ t → is_text t ≡ true → ⊥
 
 -- the values in order, whose bytes stand one behind another
 abbrev pub AreValues : List MhlinkValue → List ℕ → List Value → Type 0
 AreValues [] texts [] = Unit {0}
 AreValues (v ∷ vs) texts (x ∷ xs) = IsValue v texts x × AreValues vs (drop (length (bytes_of x)) texts) xs
 AreValues _ texts _ = ⊥
+
+-- they are the values of no list
+abbrev pub AreNoValues : List MhlinkValue → List ℕ → Type 0
+AreNoValues given texts = (xs : List Value) → AreValues given texts xs → ⊥
 
 -- what a reply has of an outcome
 abbrev pub reply_kind : Outcome → ℕ

@@ -10,3 +10,5 @@ pub mod Changes
 pub mod Opening
 pub mod Texts
 pub mod Problems
+pub mod Flows
+pub mod Wording

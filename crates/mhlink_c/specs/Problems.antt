@@ -31,6 +31,10 @@ pub record IsChoice (P : ProblemData) (links : List ℕ) (value : ℤ) : Type 0 
   pub ascending : IsStrictlyIncreasing links
   pub is_worth : value ≡ worth P (member links)
 
+-- the best links, of such the fewest, whatever they are worth
+abbrev pub IsLeastChoice : ProblemData → List ℕ → Type 0
+IsLeastChoice P links = IsLeast P (member links) × IsStrictlyIncreasing links
+
 -- needs that are not there, out of memory, or the first failing test of a large problem
 abbrev pub RefusesRows : List ℕ → List MhlinkLink → List ℕ → Fault → Type 0
 RefusesRows needs links costs e =

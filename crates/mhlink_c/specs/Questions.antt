@@ -45,7 +45,8 @@ HasNoLink d s key =
 -- there is no such link, or its key is no value or too much for the memory
 abbrev pub IsUnknownLink : DefinitionData → ℕ → MhlinkValue → List ℕ → Fault → Type 0
 IsUnknownLink d s key text e =
-    (e ≡ BadValue) ⊎ (e ≡ no_memory) ⊎ ((e ≡ Unknown) × ((x : Value) × (IsValue key text x × HasNoLink d s x)))
+    ((e ≡ BadValue) × ((x : Value) → IsValue key text x → ⊥)) ⊎ (e ≡ no_memory)
+    ⊎ ((e ≡ Unknown) × ((x : Value) × (IsValue key text x × HasNoLink d s x)))
 
 -- why a question has no answer
 abbrev pub IsUnknown : HostState → Question → Fault → Type 0

@@ -1,6 +1,6 @@
 //! Bytes and numbers into buffers of the caller's.
 
-ghost use Rattle.std.specs.Prelude.{◌≡◌, IfErr, OnErr, OnOk};
+ghost use Rattle.std.specs.Prelude.{◌≡◌, ◌≤◌, length, take, IfErr, OnErr, OnOk};
 ghost use Rattle.mhlink_c.specs.Buffers.{IsCopied, IsTooShort};
 ghost use Rattle.mhlink_c.specs.declared.fault.Fault.TheVariants.{Short};
 
@@ -18,6 +18,14 @@ pub(crate) fn copy<T: Copy>(from: &[T], buffer: &mut [T], count: &mut usize) -> 
     if buffer.len() < from.len() {
         return Err(Fault::Short);
     }
-    buffer[..from.len()].copy_from_slice(from);
+    fill(from, buffer);
     Ok(())
+}
+
+/// Copies items to the beginning of a buffer that has room for them.
+pub(crate) fn fill<T: Copy>(from: &[T], buffer: &mut [T])
+    requires room { length from.now ≤ length buffer.old }
+    ensures items { take (length from.now) buffer.new ≡ from.now }
+{
+    buffer[..from.len()].copy_from_slice(from);
 }

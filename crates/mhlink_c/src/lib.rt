@@ -6,12 +6,14 @@
 //! is as before.
 #![tactic(auto)]
 
+mod amounts;
 mod asking;
 mod buffers;
 mod calling;
 mod changing;
 mod fault;
 mod finding;
+mod flow;
 mod handle;
 mod held;
 mod host;

@@ -1,16 +1,18 @@
 //! The planner over arrays, without a machine.
 
-ghost use Rattle.std.specs.Prelude.{◌≡◌, ◌≢◌, ◌⊎◌, ◌<◌, length, take, All, IfErr, IfOk, OnErr, OnOk};
+ghost use Rattle.std.specs.Prelude.{◌≡◌, ◌≢◌, ◌⊎◌, ◌≤◌, length, take, All, IfErr, IfOk, OnErr, OnOk};
 ghost use Rattle.mh_base.specs.Tests.{Passes};
 ghost use Rattle.mh_network.specs.Problems.{large_tests, problem_of};
-ghost use Rattle.mhlink_c.specs.Problems.{HasNeeds, IsChoice, RefusesRows, needs_of as its_needs, row_of, rows_of};
+ghost use Rattle.mhlink_c.specs.Flows.{IsLeastPlan};
+ghost use Rattle.mhlink_c.specs.Problems.{HasNeeds, IsChoice, IsLeastChoice, RefusesRows, needs_of as its_needs, row_of, rows_of};
 ghost use Rattle.mhlink_c.specs.Statuses.{no_memory, status_of};
+ghost use Rattle.mhlink_c.specs.Texts.{IsUncopied};
 ghost use Rattle.mhlink_c.specs.declared.fault.Fault.{Fault as FaultOf};
-ghost use Rattle.mhlink_c.specs.declared.fault.Fault.TheVariants.{Short, Unknown};
+ghost use Rattle.mhlink_c.specs.declared.fault.Fault.TheVariants.{Unknown};
 
 use crate::buffers::copy;
 use crate::fault::{Fault, status};
-use mh_core::{LinkRow, Listing, Problem};
+use mh_core::{LinkRow, Listing, Plan, Problem};
 use mh_plan::plan_alone;
 use std::alloc::Global;
 
@@ -49,12 +51,15 @@ pub extern "C" fn mhlink_plan_problem(
 ) -> u32
     ensures chosen { result ≡ 0 → IsChoice (problem_of (rows_of needs.now links.now) costs.now)
         (take count.new chosen.new) value.new }
+    ensures count { result ≡ 0 → count.new ≤ length chosen.new }
+    ensures there { result ≡ 0 → All (HasNeeds needs.now) links.now }
     ensures tested { result ≡ 0 → Passes (large_tests (rows_of needs.now links.now) costs.now) }
     ensures value { result ≢ 0 → value.new ≡ value.old }
     ensures untouched { result ≢ 0 → chosen.new ≡ chosen.old }
     ensures refused { result ≢ 0 → (e : FaultOf) × ((result ≡ status_of e)
-        × (RefusesRows needs.now links.now costs.now e
-        ⊎ ((e ≡ Short) × (length chosen.old < count.new)))) }
+        × (RefusesRows needs.now links.now costs.now e ⊎ IsUncopied
+        (IsLeastChoice (problem_of (rows_of needs.now links.now) costs.now)) count.new chosen.old
+        e)) }
 {
     status(choose(alloc, costs, links, needs, chosen, count, value))
 }
@@ -70,23 +75,43 @@ fn choose(
 ) -> Result<(), Fault>
     ensures chosen { OnOk result (IsChoice (problem_of (rows_of needs.now links.now) costs.now)
         (take count.new chosen.new) value.new) }
+    ensures count { OnOk result (count.new ≤ length chosen.new) }
+    ensures there { OnOk result (All (HasNeeds needs.now) links.now) }
     ensures tested { OnOk result
         (Passes (large_tests (rows_of needs.now links.now) costs.now)) }
     ensures value { OnErr result (value.new ≡ value.old) }
     ensures untouched { OnErr result (chosen.new ≡ chosen.old) }
-    ensures refused { IfErr result (λ e. RefusesRows needs.now links.now costs.now e
-        ⊎ ((e ≡ Short) × (length chosen.old < count.new))) }
+    ensures refused { IfErr result (λ e. RefusesRows needs.now links.now costs.now e ⊎ IsUncopied
+        (IsLeastChoice (problem_of (rows_of needs.now links.now) costs.now)) count.new chosen.old
+        e) }
 {
-    let rows = rows(alloc, links, needs)?;
-    let problem = Problem::large(rows, Vec::from_slice(alloc, costs)?)?;
-    let plan = plan_alone(alloc, &problem)?;
+    let plan = best_plan(alloc, costs, links, needs)?;
     copy(plan.links.as_slice(), chosen, count)?;
     *value = plan.value;
     Ok(())
 }
 
+/// The plan of the best links, of such the fewest.
+pub(crate) fn best_plan(
+    alloc: Global,
+    costs: &[u64],
+    links: &[MhlinkLink],
+    needs: &[u32],
+) -> Result<Plan, Fault>
+    ensures plan { IfOk result (IsLeastPlan (problem_of (rows_of needs.now links.now) costs.now)) }
+    ensures there { OnOk result (All (HasNeeds needs.now) links.now) }
+    ensures tested { OnOk result
+        (Passes (large_tests (rows_of needs.now links.now) costs.now)) }
+    ensures refused { IfErr result (RefusesRows needs.now links.now costs.now) }
+{
+    let rows = rows(alloc, links, needs)?;
+    let problem = Problem::large(rows, Vec::from_slice(alloc, costs)?)?;
+    Ok(plan_alone(alloc, &problem)?)
+}
+
 fn rows(alloc: Global, links: &[MhlinkLink], needs: &[u32]) -> Result<Vec<LinkRow>, Fault>
     ensures value { IfOk result (λ rows. rows.items ≡ rows_of needs.now links.now) }
+    ensures there { OnOk result (All (HasNeeds needs.now) links.now) }
     ensures refused { IfErr result (λ e. ((All (HasNeeds needs.now) links.now → ⊥) × (e ≡ Unknown))
         ⊎ (e ≡ no_memory)) }
 {
@@ -100,6 +125,7 @@ fn rows(alloc: Global, links: &[MhlinkLink], needs: &[u32]) -> Result<Vec<LinkRo
 
 fn row(alloc: Global, link: &MhlinkLink, needs: &[u32]) -> Result<LinkRow, Fault>
     ensures value { IfOk result (λ row. row ≡ row_of needs.now link.now) }
+    ensures there { OnOk result (HasNeeds needs.now link.now) }
     ensures refused { IfErr result (λ e. ((HasNeeds needs.now link.now → ⊥) × (e ≡ Unknown))
         ⊎ (e ≡ no_memory)) }
 {
@@ -114,6 +140,7 @@ fn row(alloc: Global, link: &MhlinkLink, needs: &[u32]) -> Result<LinkRow, Fault
 
 fn needs_of<'a>(link: &MhlinkLink, needs: &'a [u32]) -> Result<&'a [u32], Fault>
     ensures value { IfOk result (λ its. its.now ≡ its_needs needs.now link.now) }
+    ensures there { OnOk result (HasNeeds needs.now link.now) }
     ensures refused { IfErr result (λ e. (HasNeeds needs.now link.now → ⊥) × (e ≡ Unknown)) }
 {
     if link.first > needs.len() || link.count > needs.len() - link.first {

@@ -1,7 +1,8 @@
 //! Values as they cross to C.
 
 ghost use Rattle.std.specs.Prelude.{◌≡◌, ◌⊎◌, length, pos, take, IfErr, IfOk};
-ghost use Rattle.mhlink_c.specs.Crossing.{AreValues, IsValue, bytes_of, reply_kind, reply_number, reply_steps, value_kind};
+ghost use Rattle.mhlink_c.specs.Crossing.{AreNoValues, AreValues, IsNoText, IsOfItsKind, IsValue, bytes_of, reply_kind, reply_number, reply_steps, value_kind};
+ghost use Rattle.mh_core.specs.Value.{Value as AnyValue};
 ghost use Rattle.mhlink_c.specs.Statuses.{no_memory};
 ghost use Rattle.mhlink_c.specs.declared.fault.Fault.TheVariants.{BadValue};
 
@@ -40,7 +41,8 @@ pub(crate) fn values(
     texts: &[u8],
 ) -> Result<Vec<Value>, Fault>
     ensures values { IfOk result (λ a. AreValues given.now texts.now a.items) }
-    ensures refused { IfErr result (λ e. (e ≡ BadValue) ⊎ (e ≡ no_memory)) }
+    ensures refused { IfErr result (λ e. ((e ≡ BadValue) × AreNoValues given.now texts.now)
+        ⊎ (e ≡ no_memory)) }
 {
     let mut values = Vec::new(alloc);
     let mut rest = texts;
@@ -67,7 +69,8 @@ fn text_length(value: &Value) -> usize
 #[inline(always)]
 pub(crate) fn value(alloc: Global, given: &MhlinkValue, texts: &[u8]) -> Result<Value, Fault>
     ensures value { IfOk result (IsValue given.now texts.now) }
-    ensures refused { IfErr result (λ e. (e ≡ BadValue) ⊎ (e ≡ no_memory)) }
+    ensures refused { IfErr result (λ e. ((e ≡ BadValue)
+        × ((x : AnyValue) → IsValue given.now texts.now x → ⊥)) ⊎ (e ≡ no_memory)) }
 {
     let number = given.number;
     match given.kind {
@@ -87,7 +90,9 @@ pub(crate) fn value(alloc: Global, given: &MhlinkValue, texts: &[u8]) -> Result<
 fn text(alloc: Global, count: i64, texts: &[u8]) -> Result<Value, Fault>
     ensures value { IfOk result (λ x. (count ≡ pos (length (bytes_of x)))
         × ((take (length (bytes_of x)) texts.now ≡ bytes_of x) × (value_kind x ≡ 4))) }
-    ensures refused { IfErr result (λ e. (e ≡ BadValue) ⊎ (e ≡ no_memory)) }
+    ensures lawful { IfOk result IsOfItsKind }
+    ensures refused { IfErr result (λ e. ((e ≡ BadValue) × IsNoText count texts.now)
+        ⊎ (e ≡ no_memory)) }
 {
     if count < 0 || count > LONGEST_TEXT as i64 {
         return Err(Fault::BadValue);

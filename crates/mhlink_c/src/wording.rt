@@ -1,5 +1,11 @@
 //! What a status means, in words.
 
+ghost use Rattle.std.specs.Prelude.{◌≡◌, ◌≢◌, ℕ, List, Some, None, IfErr, IfNone, IfSome, OnErr, OnOk};
+ghost use Rattle.mhlink_c.specs.Buffers.{IsCopied};
+ghost use Rattle.mhlink_c.specs.Statuses.{part_of, status_of as number_of};
+ghost use Rattle.mhlink_c.specs.Wording.{IsTold, RefusesWords, beside, fault_words, inputs, others, refusals, with_part, words_of as its_words};
+ghost use Rattle.mhlink_c.specs.declared.fault.Fault.{Fault as FaultOf};
+
 use crate::buffers::copy;
 use crate::fault::{Fault, status as status_of};
 use std::alloc::Global;
@@ -14,7 +20,15 @@ pub extern "C" fn mhlink_fault_text(
     part: u64,
     buffer: &mut [u8],
     count: &mut usize,
-) -> u32 {
+) -> u32
+    ensures told { result ≡ 0 → (words : List ℕ) × ((its_words status ≡ Some words)
+        × IsCopied (with_part words part) count.new buffer.new) }
+    ensures faults { result ≡ 0 → (e : FaultOf) → IsTold e → status ≡ number_of e
+        → part ≡ part_of e → IsCopied (fault_words e) count.new buffer.new }
+    ensures refused { result ≢ 0 → (e : FaultOf) × ((result ≡ number_of e)
+        × RefusesWords status part count.new buffer.old e) }
+    ensures untouched { result ≢ 0 → buffer.new ≡ buffer.old }
+{
     status_of(word(alloc, status, part, buffer, count))
 }
 
@@ -24,7 +38,12 @@ fn word(
     part: u64,
     buffer: &mut [u8],
     count: &mut usize,
-) -> Result<(), Fault> {
+) -> Result<(), Fault>
+    ensures told { OnOk result ((words : List ℕ) × ((its_words status ≡ Some words)
+        × IsCopied (with_part words part) count.new buffer.new)) }
+    ensures refused { IfErr result (RefusesWords status part count.new buffer.old) }
+    ensures untouched { OnErr result (buffer.new ≡ buffer.old) }
+{
     let words = words_of(status).ok_or(Fault::Unknown)?;
     if part == 0 {
         return copy(words.as_bytes(), buffer, count);
@@ -34,22 +53,22 @@ fn word(
 }
 
 // The words of a status; none of another number.
-fn words_of(status: u32) -> Option<&'static str> {
-    match status {
-        0 => Some("done"),
-        1..=14 => refusal_words(status),
-        101..=113 => input_words(status - 100),
-        201..=208 => problem_words(status - 200),
-        301 => Some("a name, a key or a number of nothing that is there"),
-        302 => Some("the buffer is too short"),
-        303 => Some("a value of no kind, out of its kind's range, or whose text is not passed"),
-        304 => Some("a limit, or the number of workers, is out of its range"),
-        _ => None,
-    }
+fn words_of(status: u32) -> Option<&'static str>
+    ensures words { IfSome result (λ words. its_words status ≡ Some words.now) }
+    ensures none { IfNone result (its_words status ≡ None) }
+{
+    refusal_words(status)
+        .or(input_words(status))
+        .or(other_words(status))
 }
 
-fn refusal_words(number: u32) -> Option<&'static str> {
-    match number {
+// The words of what is done, and of a refusal.
+fn refusal_words(status: u32) -> Option<&'static str>
+    ensures words { IfSome result (λ words. beside refusals status ≡ Some words.now) }
+    ensures none { IfNone result (beside refusals status ≡ None) }
+{
+    match status {
+        0 => Some("done"),
         1 => Some("refused 1 NoMemory"),
         2 => Some("refused 2 HistoryFull"),
         3 => Some("refused 3 NoSite"),
@@ -68,34 +87,46 @@ fn refusal_words(number: u32) -> Option<&'static str> {
     }
 }
 
-fn input_words(number: u32) -> Option<&'static str> {
-    match number {
-        2 => Some("fault 2 TooLong"),
-        3 => Some("fault 3 NotJson"),
-        4 => Some("fault 4 BadShape"),
-        5 => Some("fault 5 BadValue"),
-        6 => Some("fault 6 UnknownShared"),
-        7 => Some("fault 7 Tree"),
-        8 => Some("fault 8 Definition"),
-        9 => Some("fault 9 Problem"),
-        12 => Some("fault 12 BadType"),
-        13 => Some("fault 13 UnknownSite"),
-        14 => Some("fault 14 UnknownPoint"),
-        15 => Some("fault 15 PointTwice"),
-        16 => Some("fault 16 NeedTwice"),
+// The words of a fault of an input.
+fn input_words(status: u32) -> Option<&'static str>
+    ensures words { IfSome result (λ words. beside inputs status ≡ Some words.now) }
+    ensures none { IfNone result (beside inputs status ≡ None) }
+{
+    match status {
+        102 => Some("fault 2 TooLong"),
+        103 => Some("fault 3 NotJson"),
+        104 => Some("fault 4 BadShape"),
+        105 => Some("fault 5 BadValue"),
+        106 => Some("fault 6 UnknownShared"),
+        107 => Some("fault 7 Tree"),
+        108 => Some("fault 8 Definition"),
+        109 => Some("fault 9 Problem"),
+        112 => Some("fault 12 BadType"),
+        113 => Some("fault 13 UnknownSite"),
+        114 => Some("fault 14 UnknownPoint"),
+        115 => Some("fault 15 PointTwice"),
+        116 => Some("fault 16 NeedTwice"),
         _ => None,
     }
 }
 
-fn problem_words(number: u32) -> Option<&'static str> {
-    match number {
-        2 => Some("fault 9 Problem 2"),
-        3 => Some("fault 9 Problem 3"),
-        4 => Some("fault 9 Problem 4"),
-        5 => Some("fault 9 Problem 5"),
-        6 => Some("fault 9 Problem 6"),
-        7 => Some("fault 9 Problem 7"),
-        8 => Some("fault 9 Problem 8"),
+// The words of a fault of a problem, and of these calls alone.
+fn other_words(status: u32) -> Option<&'static str>
+    ensures words { IfSome result (λ words. beside others status ≡ Some words.now) }
+    ensures none { IfNone result (beside others status ≡ None) }
+{
+    match status {
+        202 => Some("fault 9 Problem 2"),
+        203 => Some("fault 9 Problem 3"),
+        204 => Some("fault 9 Problem 4"),
+        205 => Some("fault 9 Problem 5"),
+        206 => Some("fault 9 Problem 6"),
+        207 => Some("fault 9 Problem 7"),
+        208 => Some("fault 9 Problem 8"),
+        301 => Some("a name, a key or a number of nothing that is there"),
+        302 => Some("the buffer is too short"),
+        303 => Some("a value of no kind, out of its kind's range, or whose text is not passed"),
+        304 => Some("a limit, or the number of workers, is out of its range"),
         _ => None,
     }
 }

@@ -1,6 +1,16 @@
+use Rattle.std.proofs.Common.{◌∙◌, inl, inr}
+use Rattle.std.proofs.lemmas.Result.{err_from_is_err_and}
 use Rattle.mhlink_c.specs.Crossing.{bytes_of}
-use Rattle.mhlink_c.proofs.Values.{left_is, read_all, read_next}
+use Rattle.mhlink_c.proofs.Values.{left_is, none_next, read_all, read_next}
 use Rattle.mhlink_c.proofs.value.values.Goals as goal
+
+pub returns-in_err-value-clause-refused : goal.returns-in_err-value-clause-refused
+returns-in_err-value-clause-refused c =
+    let p = err_from_is_err_and c.from_residual.result c.from_residual.ensures.1 in
+    rw p.1 (elim c.in_err-value.ensures.refused [
+      | inl bad ↦ inl (p.2 ∙ bad.0, none_next c.args.given.now c.loop-one.one-index _ c.args.texts.now c.loop-one.values.items c.loop-one.rest.now c.loop-one-test.true c.loop-one.invariant bad.1)
+      | inr memory ↦ inr (p.2 ∙ memory)
+    ])
 
 pub loop-one-preserved : goal.loop-one-preserved
 loop-one-preserved c =
