@@ -1,13 +1,15 @@
 -- What the words after `plan` say, as it is read.
-use Rattle.std.proofs.Common.{◌≡◌, ◌≤◌, ◌<◌, ◌^◌, ◌∙◌, refl, sym, ap, subst, arith, ℕ, Bool, true, false, List, Option, Some, None, Result, Ok, Err, codes, IfSome}
+use Rattle.std.proofs.Common.{◌≡◌, ◌≤◌, ◌<◌, ◌^◌, ◌∙◌, refl, sym, ap, subst, arith, ℕ, Bool, true, false, List, Option, Some, None, Result, Ok, Err, codes, length, IfSome}
 use Rattle.std.specs.Str.Parse.{ParsesUnsigned}
-use Rattle.clap.specs.Words.{ReadsOne, one_of, one_text, rows_of}
+use Rattle.clap.specs.Words.{ReadsOne, Row, one_of, one_text, rows_of}
 use Rattle.clap.specs.declared.parser.matches.Found.{Found}
 use Rattle.clap.proofs.WalkLemmas.{one_text-rows}
 use Rattle.mh_text.specs.declared.streams.run.RunOptions.{RunOptions}
 use Rattle.mh_stress.specs.declared.stress.StressOptions.{StressOptions}
-use Rattle.mh_command.specs.CommandLine.{AreStressed, AreWorkers, IsNumber, IsRead, IsReported, IsUnexplained, MayBeNumber, truth_text}
+use Rattle.mh_command.specs.CommandLine.{AreStressed, AreWorkers, IsNumber, IsRead, IsReadFor, IsRequest, plain, IsReported, IsUnexplained, MayBeNumber, truth_text}
 use Rattle.mh_command.specs.declared.reading.Reading.{Reading}
+use Rattle.mh_command.specs.declared.request.Request.{Request}
+use Rattle.mh_command.specs.declared.request.Request.TheVariants.{Run, Check, Plan, Stress, Profile}
 
 -- a number that has so many bits is read as what it is
 number_read : {E : Type 0} (bits : ℕ) (G : List ℕ → Result ℕ E → Type 0) → ((t : List ℕ) (x : Result ℕ E) → G t x → ParsesUnsigned bits 10 t x)
@@ -80,3 +82,19 @@ module _ (f : Found) (options : StressOptions) (are : AreStressed options (rows_
       → (r : Option ℕ) → ((t : List ℕ) → one_text f (codes "rounds") ≡ Some t → ReadsOne G t r) → r ≡ Some options.rounds
   rounds_are G only r reads = number_read 32 G only (one_text f (codes "rounds")) options.rounds r reads
       (subst (λ o. IsNumber o options.rounds) (sym (one_text-rows f (codes "rounds"))) are.rounds) (let few = are.lawful.few in omega (arith, few))
+
+-- words after `profile` ask for a profile alone, which is read as it is
+pub reading_plain : (request : Request) (reading : Reading) (name : List ℕ) (rows : List Row) → name ≡ codes "profile" → IsRequest request name rows → IsReadFor request reading rows → plain ≡ reading
+reading_plain (Run options) reading name rows is asks reads = absurd (omega (arith, ap length (sym is ∙ asks.0)))
+reading_plain Check reading name rows is asks reads = absurd (omega (arith, ap length (sym is ∙ asks)))
+reading_plain (Plan options) reading name rows is asks reads = absurd (omega (arith, ap length (sym is ∙ asks.0)))
+reading_plain (Stress options) reading name rows is asks reads = absurd (omega (arith, ap length (sym is ∙ asks.0)))
+reading_plain (Profile options) reading name rows is asks reads = sym reads
+
+-- words after any other subcommand say how its input is read
+pub reading_said : (request : Request) (reading : Reading) (name : List ℕ) (rows : List Row) → (name ≡ codes "profile" → ⊥) → IsRequest request name rows → IsReadFor request reading rows → IsRead reading rows
+reading_said (Run options) reading name rows other asks reads = reads
+reading_said Check reading name rows other asks reads = reads
+reading_said (Plan options) reading name rows other asks reads = reads
+reading_said (Stress options) reading name rows other asks reads = reads
+reading_said (Profile options) reading name rows other asks reads = absurd (other asks.0)

@@ -7,12 +7,11 @@ ghost use Rattle.mh_text.specs.Script.{most_workers};
 ghost use Rattle.mh_text.specs.declared.streams.run.RunOptions.{RunOptions};
 ghost use Rattle.mh_stress.specs.Stress.{AreLawful};
 ghost use Rattle.mh_stress.specs.declared.stress.StressOptions.{StressOptions};
-ghost use Rattle.mh_command.specs.CommandLine.{root_app, plain_app, further_app, run_app, check_app, plan_app, stress_app, profile_app, program, workers_rule, callers_rule, rounds_rule, AreOptions, AreProfiled, AreStressed, AreWorkers, AsksFor, AsksNoExplanation, IsReadFor, IsReported, IsRequest, IsUnexplained, IsNamed, HasWorkers, SaysNoExplanation};
+ghost use Rattle.mh_command.specs.CommandLine.{root_app, plain_app, further_app, run_app, check_app, plan_app, stress_app, profile_app, program, workers_rule, callers_rule, rounds_rule, AreOptions, AreProfiled, AreStressed, AreWorkers, AsksFor, AsksNoExplanation, IsReadFor, IsReported, IsRequest, IsNamed, HasWorkers, SaysNoExplanation};
 ghost use Rattle.mh_command.specs.Readings.{form_of, refused_at};
 ghost use Rattle.mh_profile.specs.declared.planning.ProfileOptions.{ProfileOptions};
 ghost use Rattle.mh_command.specs.declared.reading.Reading.{Reading};
 ghost use Rattle.mh_command.specs.declared.request.Asked.{Asked};
-ghost use Rattle.mh_command.specs.declared.request.Request.TheVariants.{Profile};
 
 use crate::flags::{flag, with_option};
 use crate::reading::{Reading, reading_of, with_reading};
@@ -405,16 +404,16 @@ fn request_of(name: &str, matches: &ArgMatches) -> Option<Request>
     }
 }
 
-/// How the input of a request is read. That of a profile is read as it is.
-fn reading_for(request: Request, matches: &ArgMatches) -> Reading
-    ensures value { (reading : Reading)
+/// How the input of the subcommand of this name is read. That of a profile is read as it is.
+fn reading_for(name: &str, matches: &ArgMatches) -> Reading
+    ensures value { (request : Request) → (reading : Reading)
+        → IsRequest request name.now (rows_of (found_of matches.now))
         → IsReadFor request reading (rows_of (found_of matches.now)) → result ≡ reading }
-    ensures unexplained { IsUnexplained (rows_of (found_of matches.now)) → result.explain ≡ false }
-    ensures profile { (options : ProfileOptions) → request ≡ Profile options
+    ensures unexplained { SaysNoExplanation (Some (name.now, rows_of (found_of matches.now)))
         → result.explain ≡ false }
 {
-    match request {
-        Request::Profile(_) => Reading {
+    match name {
+        "profile" => Reading {
             explain: false,
             strict: false,
         },
@@ -434,7 +433,7 @@ fn asked_of(matches: &ArgMatches) -> Option<Asked>
     let request = request_of(name, options)?;
     Some(Asked {
         request,
-        reading: reading_for(request, options),
+        reading: reading_for(name, options),
     })
 }
 

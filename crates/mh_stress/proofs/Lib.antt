@@ -2,3 +2,4 @@ mod Hits
 mod WorkerSums
 mod Settling
 mod Sending
+mod Scripts

@@ -104,6 +104,10 @@ IsSettledTextOf options script =
 abbrev pub IsStressed : StressOptions → List ℕ → List ℕ → Type 0
 IsStressed options input text = (script : Script) × (script_of_input input ≡ Ok script) × IsSettledTextOf options script text
 
+-- an input is a script
+abbrev pub IsScript : List ℕ → Type 0
+IsScript input = (script : Script) × (script_of_input input ≡ Ok script)
+
 -- Where a fault leaves the writer: as it was, or with a beginning of the line.
 abbrev pub FailsStress : StressOptions → Option (List ℕ) → Option (List ℕ) → Option (List ℕ) → Type 0 → Type 0 → Fault → Type 0
 FailsStress options input old new ReadHasFailed WriteHasFailed e =

@@ -1,12 +1,12 @@
 //! A script in, the sums of its workers out.
-ghost use Rattle.std.specs.Prelude.{◌≡◌, ◌⊎◌, ◌<◌, ◌≤◌, ℕ, List, string_bytes, length, IfOk, IfErr, IfSome, OnOk};
+ghost use Rattle.std.specs.Prelude.{◌≡◌, ◌⊎◌, ◌<◌, ◌≤◌, ℕ, List, string_bytes, length, IfOk, IfErr, IfSome, IsErrOf, OnOk};
 ghost use Rattle.std.specs.Io.KnownBytes.{Appends};
 ghost use Rattle.mh_text.specs.Bytes.{HasFailed};
 ghost use Rattle.mh_text.specs.Gives.{no_memory, IsHonest};
 ghost use Rattle.mh_text.specs.Output.{outside};
 ghost use Rattle.mh_text.specs.declared.fault.TextFault.TheVariants.{NoReader};
 ghost use Rattle.mh_live.specs.Limits.{most_workers};
-ghost use Rattle.mh_stress.specs.Stress.{AreLawful, FailsStress, cause_of, IsSettledText, IsSettledTextOf, IsStressed, workers_of};
+ghost use Rattle.mh_stress.specs.Stress.{AreLawful, FailsStress, cause_of, IsSettledText, IsScript, IsSettledTextOf, IsStressed, workers_of};
 ghost use Rattle.mh_stress.specs.Rounds.{AreFresh};
 
 use crate::division::{Division, divide};
@@ -146,8 +146,8 @@ fn stress_script<T: Threads + Wait + Sync>(
 /// that was made is added up.
 ///
 /// The input is read to its end, or to the first byte past 1,048,576. A fault in it, of memory or
-/// of readers of the published world (`NoReader`) writes nothing. A failing write leaves a
-/// beginning of the line, and is told at 0.
+/// of readers of the published world (`NoReader`, which is told of a script alone) writes nothing.
+/// A failing write leaves a beginning of the line, and is told at 0.
 pub fn stress_bytes<T: Threads + Wait + Sync, R: Read, W: Write>(
     rt: &T,
     alloc: Global,
@@ -163,6 +163,8 @@ pub fn stress_bytes<T: Threads + Wait + Sync, R: Read, W: Write>(
         (W.contents writer.old.inner) (W.contents writer.new.inner)
         (HasFailed reader.old.failures reader.new.failures)
         (HasFailed writer.old.failures writer.new.failures)) }
+    ensures script { IsErrOf result (outside NoReader) → IfSome (R.remaining reader.old.inner)
+        IsScript }
     ensures honest { IsHonest result reader.old.failures reader.new.failures
         writer.old.failures writer.new.failures }
 {

@@ -1,0 +1,73 @@
+-- The fault of an input is never that of readers of a published world.
+use Rattle.std.proofs.Common.{◌≡◌, inl, inr, ℕ, ◌+◌, Bool, true, false, List, [], ◌∷◌, Option, Some, None, Result, Ok, Err, IfSome, ap, subst, sym, ◌∙◌}
+use Rattle.std.specs.Prelude.{⊤, codes, if◌then◌else◌, nat_le, length}
+use Rattle.mh_text.specs.Bytes.{most_bytes}
+use Rattle.mh_text.specs.Gives.{◌>>=◌, at_place, no_memory}
+use Rattle.mh_text.specs.Inputs.{json_in, json_of_input}
+use Rattle.mh_text.specs.Output.{EndsReading, IsUnread, outside, script_of_input}
+use Rattle.mh_text.specs.Script.{declarations_of, limits_of, schedule_of, script_of, step_list_of, step_of, steps_of, workers_of}
+use Rattle.mh_text.specs.Shape.{each_from, list_of, member_of}
+use Rattle.mh_text.specs.declared.fault.Fault.{Fault}
+use Rattle.mh_text.specs.declared.fault.InputFault.{InputFault}
+use Rattle.mh_text.specs.declared.fault.InputFault.TheVariants.{TooLong}
+use Rattle.mh_text.specs.declared.fault.TextFault.TheVariants.{NoReader, ReadFailed}
+use Rattle.mh_text.specs.declared.json.declarations.Declarations.{Declarations}
+use Rattle.mh_stress.specs.Stress.{IsScript}
+
+-- a result has no such fault
+abbrev HasNone : {A : Type 0} → Result A Fault → Type 0
+HasNone (Ok x) = ⊤
+HasNone (Err e) = e.kind ≡ NoReader → ⊥
+
+placed : {A : Type 0} (n : ℕ) (r : Result A InputFault) → HasNone (at_place n r)
+placed n (Ok x) = tt
+placed n (Err e) = λ is. cc
+
+followed : {A B : Type 0} (r : Result A Fault) (f : A → Result B Fault) → HasNone r → ((x : A) → HasNone (f x)) → HasNone (r >>= f)
+followed (Ok x) f none more = more x
+followed (Err e) f none more = none
+
+each_none : {A : Type 0} (f : ℕ → _ → Result A Fault) → ((n : ℕ) (d : _) → HasNone (f n d)) → (n : ℕ) (ds : List _) → HasNone (each_from f n ds)
+each_none f none n [] = tt
+each_none f none n (d ∷ ds) = followed (f n d) _ (none n d) (λ x. followed (each_from f (n + 1) ds) _ (each_none f none (n + 1) ds) (λ xs. tt))
+
+steps_none : (declared : Declarations) (ds : List _) → HasNone (steps_of declared ds)
+steps_none declared ds = each_none (λ n d. at_place n (step_of declared d)) (λ n d. placed n (step_of declared d)) 1 ds
+
+step_list_none : (declared : Declarations) (d : _) → HasNone (step_list_of declared d)
+step_list_none declared d =
+    followed (at_place 0 (member_of (codes "events") d)) _ (placed 0 (member_of (codes "events") d)) (λ events.
+    followed (at_place 0 (list_of events)) _ (placed 0 (list_of events)) (λ ds. steps_none declared ds))
+
+schedule_none : (declared : Declarations) (d : _) → HasNone (schedule_of declared d)
+schedule_none declared d =
+    followed (at_place 0 (workers_of d)) _ (placed 0 (workers_of d)) (λ workers.
+    followed (at_place 0 (limits_of d)) _ (placed 0 (limits_of d)) (λ limits.
+    followed (step_list_of declared d) _ (step_list_none declared d) (λ steps. tt)))
+
+script_none : (d : _) → HasNone (script_of d)
+script_none d =
+    followed (at_place 0 (declarations_of d)) _ (placed 0 (declarations_of d)) (λ declared.
+    followed (schedule_of declared d) _ (schedule_none declared d) (λ schedule. tt))
+
+chosen : {A : Type 0} (b : Bool) (n : ℕ) (r s : Result A InputFault) → HasNone (if b then at_place n r else at_place n s)
+chosen true n r s = placed n r
+chosen false n r s = placed n s
+
+input_none : (input : List ℕ) → HasNone (script_of_input input)
+input_none input =
+    followed (json_of_input input) script_of (chosen (nat_le (length input) most_bytes) 0 (json_in input) (Err TooLong)) script_none
+
+memory_differs : no_memory ≡ NoReader → ⊥
+memory_differs same = cc
+
+read_differs : ReadFailed ≡ NoReader → ⊥
+read_differs same = cc
+
+-- that fault of reading is told of a script alone, which is never
+pub told_of_a_script : (input : Option (List ℕ)) (A : Type 0) (e : Fault) → IsUnread EndsReading input A e → e ≡ outside NoReader → IfSome input IsScript
+told_of_a_script None A e unread is = tt
+told_of_a_script (Some bytes) A e (inl memory) is = absurd (memory_differs (ap (λ f. f.kind) (sym memory ∙ is)))
+told_of_a_script (Some bytes) A e (inr (inl (read, failed))) is = absurd (read_differs (ap (λ f. f.kind) (sym read ∙ is)))
+told_of_a_script (Some bytes) A e (inr (inr (inl fault))) is = absurd (subst HasNone fault (input_none bytes) (ap (λ f. f.kind) is))
+told_of_a_script (Some bytes) A e (inr (inr (inr (memory, reached)))) is = absurd (memory_differs (sym memory ∙ ap (λ f. f.kind) is))
