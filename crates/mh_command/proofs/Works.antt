@@ -128,13 +128,6 @@ not_refused false found is = refl
 pub plain_unrefused : (asked : Asked) → asked.reading.strict ≡ false → (bytes : List ℕ) → refused_at asked bytes ≡ None
 plain_unrefused asked plain bytes = not_refused asked.reading.strict (unread_in (form_of asked.request) bytes) plain
 
-none_either : (strict : Bool) → (if strict then None else None) ≡ None
-none_either true = refl
-none_either false = refl
-
-pub lines_unrefused : (asked : Asked) → form_of asked.request ≡ None → (bytes : List ℕ) → refused_at asked bytes ≡ None
-lines_unrefused asked lines bytes = ap (λ (form : Option InputForm). if asked.reading.strict then unread_in form bytes else None) lines ∙ none_either asked.reading.strict
-
 module _ (asked : Asked) (never : (bytes : List ℕ) → refused_at asked bytes ≡ None) where
   unrefused : (input : Option (List ℕ)) → IfSome input (λ bytes. refused_at asked bytes ≡ None)
   unrefused None = tt
