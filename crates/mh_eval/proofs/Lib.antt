@@ -4,6 +4,7 @@ mod EntersLeading
 mod Extending
 mod FilterRuns
 mod FilterWalks
+mod Forwards
 mod Invocations
 mod LawfulTrees
 mod QuietCalls

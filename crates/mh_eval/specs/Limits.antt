@@ -9,6 +9,10 @@ least_room = 16384
 abbrev pub lower_room : ℕ
 lower_room = 6144
 
+-- the locals that a tree's code has at once: 16 for each of 96 levels
+abbrev pub most_locals : ℕ
+most_locals = 1536
+
 -- the values that a level of a tree takes at most: a node's arguments, and as many again for those of the node below it
 abbrev pub level_room : ℕ
 level_room = 32

@@ -18,6 +18,7 @@ mod evaluating;
 mod evaluator;
 mod fault;
 mod fitting;
+mod forwarding;
 mod frames;
 mod here;
 mod invoking;

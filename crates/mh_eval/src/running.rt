@@ -1,6 +1,6 @@
 //! Running prepared code on the stack.
 
-ghost use Rattle.std.specs.Prelude.{◌≡◌, ◌+◌, ◌-◌, ◌≤◌, ◌∷◌, [], length, take, map, vec_capacity, IfOk, IfErr};
+ghost use Rattle.std.specs.Prelude.{◌≡◌, ◌+◌, ◌-◌, ◌≤◌, ◌∷◌, ℕ, [], length, take, map, vec_capacity, IfOk, IfErr};
 ghost use Rattle.mh_eval.specs.Answers.{Gives, Ran, PushedBy, IsPushed};
 ghost use Rattle.mh_tree.specs.Code.{bind, branch, call};
 ghost use Rattle.mh_tree.specs.CodeOf.{code_of};
@@ -9,16 +9,20 @@ ghost use Rattle.mh_eval.specs.Quiet.{IsAnswered, IsQuiet, deep};
 ghost use Rattle.mh_tree.specs.Running.{run_code as code_outcome, code_steps, value_of, weight};
 ghost use Rattle.mh_tree.specs.Scoped.{IsIn, AllIn, IsScoped};
 ghost use Rattle.mh_type.specs.Operations.{operate as operated};
+ghost use Rattle.mh_type.specs.declared.outcome.Outcome.{Outcome as OutcomeData};
 ghost use Rattle.mh_tree.specs.Sites.{setting, env, MayCall, most_at, greatest_steps};
+ghost use Rattle.mh_eval.specs.Limits.{least_room};
 ghost use Rattle.mh_eval.specs.Lower.{IsReady, AreReady};
+ghost use Rattle.mh_tree.specs.Prepared.{leading_arguments};
 ghost use Rattle.mh_eval.specs.Frames.{Extends};
 
 use crate::answer::{Answer, Pushed, outcome_of};
+use crate::forwarding::{Reached, forwarded};
 use crate::frames::put_owner;
 use crate::here::Here;
 use crate::operations::{operate, outcome_of_number, share};
 use crate::reading::{is_key, read};
-use crate::walking::walk;
+use crate::walking::{compare, walk};
 use mh_base::NoMemory;
 use mh_tree::{Operand, Piece};
 use mh_type::{Op, Outcome, Value};
@@ -61,6 +65,7 @@ pub(crate) fn run_code(
     before: u128,
 ) -> Result<(Outcome, u128), NoMemory>
     requires empty { stack.old.items ≡ [] }
+    requires wide { least_room ≤ vec_capacity stack.old }
     requires scoped { IsScoped (MayCall level here.now.targets.now (length here.now.valid.now))
         (length here.now.valid.now) (length arguments.now) (length stack.old.items)
         (code_of code.now) }
@@ -90,6 +95,8 @@ fn run_piece(
     arguments: &[Value],
     before: u128,
 ) -> Result<(Outcome, u128), NoMemory>
+    requires empty { stack.old.items ≡ [] }
+    requires wide { least_room ≤ vec_capacity stack.old }
     requires scoped { IsScoped (MayCall level here.now.targets.now (length here.now.valid.now))
         (length here.now.valid.now) (length arguments.now) (length stack.old.items)
         (code_of code.now) }
@@ -123,6 +130,8 @@ fn run_by_call(
     arguments: &[Value],
     before: u128,
 ) -> Result<(Outcome, u128), NoMemory>
+    requires empty { stack.old.items ≡ [] }
+    requires wide { least_room ≤ vec_capacity stack.old }
     requires scoped { IsScoped (MayCall level here.now.targets.now (length here.now.valid.now))
         (length here.now.valid.now) (length arguments.now) (length stack.old.items)
         (code_of code.now) }
@@ -150,6 +159,8 @@ fn run_any(
     arguments: &[Value],
     before: u128,
 ) -> Result<(Outcome, u128), NoMemory>
+    requires empty { stack.old.items ≡ [] }
+    requires wide { least_room ≤ vec_capacity stack.old }
     requires scoped { IsScoped (MayCall level here.now.targets.now (length here.now.valid.now))
         (length here.now.valid.now) (length arguments.now) (length stack.old.items)
         (code_of code.now) }
@@ -186,6 +197,8 @@ fn run_other(
     arguments: &[Value],
     before: u128,
 ) -> Result<(Outcome, u128), NoMemory>
+    requires empty { stack.old.items ≡ [] }
+    requires wide { least_room ≤ vec_capacity stack.old }
     requires scoped { IsScoped (MayCall level here.now.targets.now (length here.now.valid.now))
         (length here.now.valid.now) (length arguments.now) (length stack.old.items)
         (code_of code.now) }
@@ -198,8 +211,156 @@ fn run_other(
     ensures ready { AreReady level lower.new }
     ensures room { vec_capacity stack.old ≤ vec_capacity stack.new }
 {
-    let (answer, total) = answer_piece(alloc, stack, lower, here, level, code, arguments, before);
+    let (answer, total) = answer_whole(alloc, stack, lower, here, level, code, arguments, before);
     outcome_of(answer, total)
+}
+
+// The answer of prepared code on a stack without locals, and the total steps. A leaf is answered
+// here.
+#[inline(always)]
+fn answer_whole(
+    alloc: Global,
+    stack: &mut Vec<Value>,
+    lower: &mut [Vec<Value>],
+    here: &Here<'_>,
+    level: u8,
+    code: &Piece,
+    arguments: &[Value],
+    before: u128,
+) -> (Answer, u128)
+    requires empty { stack.old.items ≡ [] }
+    requires wide { least_room ≤ vec_capacity stack.old }
+    requires scoped { IsScoped (MayCall level here.now.targets.now (length here.now.valid.now))
+        (length here.now.valid.now) (length arguments.now) (length stack.old.items)
+        (code_of code.now) }
+    requires ready { AreReady level lower.old }
+    requires few { before + weight (most_at level) (code_of code.now) ≤ greatest_steps }
+    ensures ran { Ran result.0 result.1
+        (code_outcome (env (setting level here.now.valid.now here.now.targets.now)) (code_of
+        code.now) arguments.now stack.old.items)
+        (before + code_steps (env (setting level here.now.valid.now here.now.targets.now))
+        (code_of code.now) arguments.now stack.old.items) }
+    ensures few { result.1 ≤ before + weight (most_at level) (code_of code.now) }
+    ensures stack { stack.new.items ≡ stack.old.items }
+    ensures ready { AreReady level lower.new }
+    ensures room { vec_capacity stack.old ≤ vec_capacity stack.new }
+    ensures quiet { IsQuiet (setting level here.now.valid.now here.now.targets.now) (code_of
+        code.now) arguments.now stack.old.items
+        → length stack.old.items + deep (code_of code.now) ≤ vec_capacity stack.old
+        → IsAnswered result.0 }
+{
+    match code {
+        Piece::Leaf { operand, steps } => {
+            let answer = share(read(arguments, stack.as_slice(), operand));
+            (answer, before + u128::from(*steps))
+        }
+        _ => run_whole(alloc, stack, lower, here, level, code, arguments, before),
+    }
+}
+
+// The same where it may be an invocation on leading arguments.
+#[inline(never)]
+fn run_whole(
+    alloc: Global,
+    stack: &mut Vec<Value>,
+    lower: &mut [Vec<Value>],
+    here: &Here<'_>,
+    level: u8,
+    code: &Piece,
+    arguments: &[Value],
+    before: u128,
+) -> (Answer, u128)
+    requires empty { stack.old.items ≡ [] }
+    requires wide { least_room ≤ vec_capacity stack.old }
+    requires scoped { IsScoped (MayCall level here.now.targets.now (length here.now.valid.now))
+        (length here.now.valid.now) (length arguments.now) (length stack.old.items)
+        (code_of code.now) }
+    requires ready { AreReady level lower.old }
+    requires few { before + weight (most_at level) (code_of code.now) ≤ greatest_steps }
+    ensures ran { Ran result.0 result.1
+        (code_outcome (env (setting level here.now.valid.now here.now.targets.now)) (code_of
+        code.now) arguments.now stack.old.items)
+        (before + code_steps (env (setting level here.now.valid.now here.now.targets.now))
+        (code_of code.now) arguments.now stack.old.items) }
+    ensures few { result.1 ≤ before + weight (most_at level) (code_of code.now) }
+    ensures stack { stack.new.items ≡ stack.old.items }
+    ensures ready { AreReady level lower.new }
+    ensures room { vec_capacity stack.old ≤ vec_capacity stack.new }
+    ensures quiet { IsQuiet (setting level here.now.valid.now here.now.targets.now) (code_of
+        code.now) arguments.now stack.old.items
+        → length stack.old.items + deep (code_of code.now) ≤ vec_capacity stack.old
+        → IsAnswered result.0 }
+{
+    if let Piece::Forward { site, count, steps } = code {
+        let used = before + u128::from(*steps);
+        let reached = forwarded(here, level, *site, *count, arguments, used);
+        return run_reached(alloc, stack, lower, here, level, &reached);
+    }
+    run_on(alloc, stack, lower, here, level, code, arguments, before)
+}
+
+// The answer of a piece of a site's tree on a stack without locals, and the total steps. An
+// operation's int is returned first, so that it is written once.
+#[inline(always)]
+fn run_reached(
+    alloc: Global,
+    stack: &mut Vec<Value>,
+    lower: &mut [Vec<Value>],
+    here: &Here<'_>,
+    level: u8,
+    reached: &Reached<'_>,
+) -> (Answer, u128)
+    requires empty { stack.old.items ≡ [] }
+    requires below { reached.now.level ≤ level }
+    requires ready { AreReady level lower.old }
+    requires scoped { IsScoped
+        (MayCall reached.now.level here.now.targets.now (length here.now.valid.now))
+        (length here.now.valid.now) (length reached.now.arguments.now) 0
+        (code_of reached.now.piece.now) }
+    requires few { reached.now.total + weight (most_at reached.now.level)
+        (code_of reached.now.piece.now) ≤ greatest_steps }
+    ensures ran { Ran result.0 result.1
+        (code_outcome (env (setting reached.now.level here.now.valid.now here.now.targets.now))
+        (code_of reached.now.piece.now) reached.now.arguments.now [])
+        (reached.now.total + code_steps
+        (env (setting reached.now.level here.now.valid.now here.now.targets.now))
+        (code_of reached.now.piece.now) reached.now.arguments.now []) }
+    ensures few { result.1 ≤ reached.now.total + weight (most_at reached.now.level)
+        (code_of reached.now.piece.now) }
+    ensures stack { stack.new.items ≡ [] }
+    ensures ready { AreReady level lower.new }
+    ensures room { vec_capacity stack.old ≤ vec_capacity stack.new }
+    ensures quiet { IsQuiet (setting reached.now.level here.now.valid.now here.now.targets.now)
+        (code_of reached.now.piece.now) reached.now.arguments.now []
+        → deep (code_of reached.now.piece.now) ≤ vec_capacity stack.old
+        → IsAnswered result.0 }
+{
+    let stacks = 2 * usize::from(reached.level);
+    let (_, below) = lower.split_at_mut(lower.len() - stacks);
+    if let Piece::Apply {
+        op,
+        first,
+        second,
+        steps,
+    } = reached.piece
+    {
+        let total = reached.total + u128::from(*steps);
+        let answer = apply(alloc, reached.arguments, stack, op, first, second);
+        if let Answer::Int(number) = answer {
+            return (Answer::Int(number), total);
+        }
+        return (answer, total);
+    }
+    answer_piece(
+        alloc,
+        stack,
+        below,
+        here,
+        reached.level,
+        reached.piece,
+        reached.arguments,
+        reached.total,
+    )
 }
 
 // The answer of prepared code, and the total steps, including `before`. A leaf and an operation are
@@ -290,8 +451,7 @@ fn run_on(
     let mut node = code;
     let mut total = before;
     loop {
-        let (piece, so_far) = walk(stack.as_slice(), here, level, node, arguments, total);
-        let (next, after) = enter(alloc, stack, lower, here, level, piece, arguments, so_far);
+        let (next, after) = enter(alloc, stack, lower, here, level, node, arguments, total);
         match next {
             Ok(next) => node = next,
             Err(answer) => {
@@ -401,6 +561,13 @@ fn enter<'a>(
             );
             (Err(answer), after)
         }
+        Piece::Forward { site, count, steps } => {
+            let used = before + u128::from(*steps);
+            let (answer, after) = run_leading(
+                alloc, lower, here, level, *site, *count, arguments, used,
+            );
+            (Err(answer), after)
+        }
     }
 }
 
@@ -436,8 +603,8 @@ fn enter_bind<'a>(
     ensures ready { AreReady level lower.new }
     ensures room { vec_capacity stack.old ≤ vec_capacity stack.new }
 {
-    let (pushed, after) = push_first(alloc, stack, lower, here, level, first, arguments, before);
-    match pushed {
+    let (answer, after) = answer_part(alloc, stack, lower, here, level, first, arguments, before);
+    match push_answer(stack, answer) {
         Pushed::Value => (Ok(then), after),
         Pushed::Thrown(throw) => (Err(Answer::Thrown(throw)), after),
         Pushed::NoMemory => (Err(Answer::NoMemory), after),
@@ -477,7 +644,19 @@ fn enter_branch<'a>(
     ensures ready { AreReady level lower.new }
     ensures room { vec_capacity stack.old ≤ vec_capacity stack.new }
 {
-    let (answer, after) = answer_piece(alloc, stack, lower, here, level, test, arguments, before);
+    if let Piece::Apply {
+        op,
+        first,
+        second,
+        steps,
+    } = test
+    {
+        if let Some(holds) = compare(arguments, stack.as_slice(), op, first, second) {
+            let next = if holds { target } else { fallback };
+            return (Ok(next), before + u128::from(*steps));
+        }
+    }
+    let (answer, after) = answer_part(alloc, stack, lower, here, level, test, arguments, before);
     match answer {
         Answer::Boolean(true) => (Ok(target), after),
         Answer::Thrown(throw) => (Err(Answer::Thrown(throw)), after),
@@ -486,50 +665,121 @@ fn enter_branch<'a>(
     }
 }
 
-// Puts the first piece's value on the stack, as one more local.
-#[inline(never)]
+// Puts the value that was answered on the stack, as one more local.
+#[inline(always)]
+fn push_answer(stack: &mut Vec<Value>, answer: Answer) -> Pushed
+    ensures pushed { (o : OutcomeData) → (n m : ℕ) → Ran answer n o m
+        → PushedBy result n o m stack.old.items stack.new.items }
+    ensures room { vec_capacity stack.old ≤ vec_capacity stack.new }
+    ensures quiet { IsAnswered answer → length stack.old.items + 1 ≤ vec_capacity stack.old
+        → IsPushed result }
+{
+    let value = match answer {
+        Answer::Int(number) => Value::Int(number),
+        Answer::Long(number) => Value::Long(number),
+        Answer::Boolean(truth) => Value::Boolean(truth),
+        Answer::Text(text) => Value::Text(text),
+        Answer::Thrown(throw) => return Pushed::Thrown(throw),
+        Answer::NoMemory => return Pushed::NoMemory,
+    };
+    let Ok(()) = stack.push(value) else {
+        return Pushed::NoMemory;
+    };
+    Pushed::Value
+}
+
+// The answer of a first piece and of the second, which reads its value. The steps of both together
+// are counted in `before`.
+#[inline(always)]
 #[cycle(run_on)]
-fn push_first(
+fn answer_bind(
     alloc: Global,
     stack: &mut Vec<Value>,
     lower: &mut [Vec<Value>],
     here: &Here<'_>,
     level: u8,
     first: &Piece,
+    then: &Piece,
     arguments: &[Value],
     before: u128,
-) -> (Pushed, u128)
+) -> (Answer, u128)
     requires scoped { IsScoped (MayCall level here.now.targets.now (length here.now.valid.now))
         (length here.now.valid.now) (length arguments.now) (length stack.old.items)
-        (code_of first.now) }
+        (bind 0 (code_of first.now) (code_of then.now)) }
     requires ready { AreReady level lower.old }
-    requires few { before + weight (most_at level) (code_of first.now) ≤ greatest_steps }
-    ensures pushed { PushedBy result.0 result.1
-        (code_outcome (env (setting level here.now.valid.now here.now.targets.now)) (code_of
-        first.now) arguments.now stack.old.items)
+    requires few { before + weight (most_at level) (bind 0 (code_of first.now) (code_of then.now))
+        ≤ greatest_steps }
+    ensures ran { Ran result.0 result.1
+        (code_outcome (env (setting level here.now.valid.now here.now.targets.now))
+        (bind 0 (code_of first.now) (code_of then.now)) arguments.now stack.old.items)
         (before + code_steps (env (setting level here.now.valid.now here.now.targets.now))
-        (code_of first.now) arguments.now stack.old.items) stack.old.items stack.new.items }
-    ensures few { result.1 ≤ before + weight (most_at level) (code_of first.now) }
+        (bind 0 (code_of first.now) (code_of then.now)) arguments.now stack.old.items) }
+    ensures few { result.1 ≤ before + weight (most_at level)
+        (bind 0 (code_of first.now) (code_of then.now)) }
+    ensures stack { stack.new.items ≡ stack.old.items }
     ensures ready { AreReady level lower.new }
     ensures room { vec_capacity stack.old ≤ vec_capacity stack.new }
     ensures quiet { IsQuiet (setting level here.now.valid.now here.now.targets.now)
-        (code_of first.now) arguments.now stack.old.items
-        → length stack.old.items + deep (code_of first.now) ≤ vec_capacity stack.old
-        → length stack.old.items + 1 ≤ vec_capacity stack.old → IsPushed result.0 }
+        (bind 0 (code_of first.now) (code_of then.now)) arguments.now stack.old.items
+        → length stack.old.items + deep (bind 0 (code_of first.now) (code_of then.now))
+        ≤ vec_capacity stack.old → IsAnswered result.0 }
 {
-    let (answer, total) = run_on(alloc, stack, lower, here, level, first, arguments, before);
-    let value = match answer {
-        Answer::Int(number) => Value::Int(number),
-        Answer::Long(number) => Value::Long(number),
-        Answer::Boolean(truth) => Value::Boolean(truth),
-        Answer::Text(text) => Value::Text(text),
-        Answer::Thrown(throw) => return (Pushed::Thrown(throw), total),
-        Answer::NoMemory => return (Pushed::NoMemory, total),
-    };
-    let Ok(()) = stack.push(value) else {
-        return (Pushed::NoMemory, total);
-    };
-    (Pushed::Value, total)
+    let depth = stack.len();
+    let (answer, after) = answer_piece(alloc, stack, lower, here, level, first, arguments, before);
+    match push_answer(stack, answer) {
+        Pushed::Value => {
+            let (answer, total) = answer_piece(
+                alloc, stack, lower, here, level, then, arguments, after,
+            );
+            stack.truncate(depth);
+            (answer, total)
+        }
+        Pushed::Thrown(throw) => (Answer::Thrown(throw), after),
+        Pushed::NoMemory => (Answer::NoMemory, after),
+    }
+}
+
+// The answer of a part, one level of which is answered here.
+#[inline(always)]
+#[cycle(run_on)]
+fn answer_part(
+    alloc: Global,
+    stack: &mut Vec<Value>,
+    lower: &mut [Vec<Value>],
+    here: &Here<'_>,
+    level: u8,
+    code: &Piece,
+    arguments: &[Value],
+    before: u128,
+) -> (Answer, u128)
+    requires scoped { IsScoped (MayCall level here.now.targets.now (length here.now.valid.now))
+        (length here.now.valid.now) (length arguments.now) (length stack.old.items)
+        (code_of code.now) }
+    requires ready { AreReady level lower.old }
+    requires few { before + weight (most_at level) (code_of code.now) ≤ greatest_steps }
+    ensures ran { Ran result.0 result.1
+        (code_outcome (env (setting level here.now.valid.now here.now.targets.now)) (code_of
+        code.now) arguments.now stack.old.items)
+        (before + code_steps (env (setting level here.now.valid.now here.now.targets.now))
+        (code_of code.now) arguments.now stack.old.items) }
+    ensures few { result.1 ≤ before + weight (most_at level) (code_of code.now) }
+    ensures stack { stack.new.items ≡ stack.old.items }
+    ensures ready { AreReady level lower.new }
+    ensures room { vec_capacity stack.old ≤ vec_capacity stack.new }
+    ensures quiet { IsQuiet (setting level here.now.valid.now here.now.targets.now) (code_of
+        code.now) arguments.now stack.old.items
+        → length stack.old.items + deep (code_of code.now) ≤ vec_capacity stack.old
+        → IsAnswered result.0 }
+{
+    match code {
+        Piece::Bind { first, then, steps } => {
+            let used = before + u128::from(*steps);
+            answer_bind(
+                alloc, stack, lower, here, level, first, then, arguments, used,
+            )
+        }
+        _ => answer_piece(alloc, stack, lower, here, level, code, arguments, before),
+    }
 }
 
 // Puts further owners of the values of operands on a stack.
@@ -589,6 +839,47 @@ fn run_site(
     run_framed(
         alloc, frame, stack, rest, here, level, site, operands, arguments, locals, before,
     )
+}
+
+// Runs a site's tree on the leading arguments: its answer, and the total steps, including `before`.
+#[inline(never)]
+#[cycle(run_on)]
+fn run_leading(
+    alloc: Global,
+    lower: &mut [Vec<Value>],
+    here: &Here<'_>,
+    level: u8,
+    site: u32,
+    count: u32,
+    arguments: &[Value],
+    before: u128,
+) -> (Answer, u128)
+    requires scoped { IsScoped (MayCall level here.now.targets.now (length here.now.valid.now))
+        (length here.now.valid.now) (length arguments.now) 0
+        (call 0 site (leading_arguments count)) }
+    requires ready { AreReady level lower.old }
+    requires few { before + weight (most_at level) (call 0 site (leading_arguments count))
+        ≤ greatest_steps }
+    ensures ran { Ran result.0 result.1 (code_outcome (env (setting level here.now.valid.now
+        here.now.targets.now))
+        (call 0 site (leading_arguments count)) arguments.now [])
+        (before + code_steps (env (setting level here.now.valid.now here.now.targets.now))
+        (call 0 site (leading_arguments count)) arguments.now []) }
+    ensures few { result.1 ≤ before + weight (most_at level)
+        (call 0 site (leading_arguments count)) }
+    ensures ready { AreReady level lower.new }
+    ensures quiet { IsQuiet (setting level here.now.valid.now here.now.targets.now)
+        (call 0 site (leading_arguments count)) arguments.now [] → IsAnswered result.0 }
+{
+    let Some((_frame, others)) = lower.split_first_mut() else {
+        return (Answer::NoMemory, before);
+    };
+    let Some((stack, rest)) = others.split_first_mut() else {
+        return (Answer::NoMemory, before);
+    };
+    let piece = here.targets[site as usize].code();
+    let leading = &arguments[..count as usize];
+    run_on(alloc, stack, rest, here, level - 1, piece, leading, before)
 }
 
 // Runs a site's tree with two stacks of its own, for its arguments and for its locals.

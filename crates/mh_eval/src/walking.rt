@@ -18,7 +18,7 @@ use mh_type::{Op, Value};
 
 // The truth of an operation that compares two operands, where they are numbers.
 #[inline(always)]
-fn compare(
+pub(crate) fn compare(
     arguments: &[Value],
     locals: &[Value],
     op: &Op,

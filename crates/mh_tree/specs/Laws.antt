@@ -23,7 +23,7 @@ pub use Rattle.mh_tree.specs.Laws.LeadingArguments.{argument_more, arity_counts,
 pub use Rattle.mh_tree.specs.Laws.Means.{means}
 pub use Rattle.mh_tree.specs.Laws.OperandReads.{Reads, filter_wide, one_more, permuted_wide, reads_at, reads_discarded, reads_inserted, reads_newest, reads_nothing, reads_now, reads_one, reads_permuted, reads_set, shorter}
 pub use Rattle.mh_tree.specs.Laws.ResultKinds.{GivesKind, mean_alike, result_kind}
-pub use Rattle.mh_tree.specs.Laws.Scope.{in_at, reads_arguments}
+pub use Rattle.mh_tree.specs.Laws.Scope.{in_at, leading_few, reads_arguments, reads_first}
 pub use Rattle.mh_tree.specs.Laws.Sites.{alone_lawful, each_map, lawful_in_place, lawful_reaches, may_reach, mean_by, site_costs, site_means, steps_at, steps_by}
 pub use Rattle.mh_tree.specs.Laws.Tests.{guard_passes, limits_pass, point_passes}
 pub use Rattle.mh_tree.specs.Laws.Trees.{tree_of_filter}

@@ -38,6 +38,10 @@ abbrev mutual
   prepared_filters (present f fs) p env d s go =
       bind s (prepared f (operand_at env p ∷ []) d 0) (prepared_filters fs (p + 1) (slice_set env p (Local d)) (d + 1) 0 go)
 
+-- so many of the leading arguments
+abbrev pub leading_arguments : ℕ → List Operand
+leading_arguments n = map (λ i. Argument i) (range_with_len 0 n)
+
 -- the code of a handle: its parameters are the arguments of a call, and there are no locals yet
 abbrev pub handle_code : TypedTree → Code
 handle_code h = prepared h.tree (map (λ i. Argument i) (range_with_len 0 (length h.signature.parameters))) 0 0

@@ -1,14 +1,17 @@
 //! Lists of operands.
 
-ghost use Rattle.std.specs.Prelude.{◌≡◌, ◌∷◌, IsTrue, [], ◌++◌, take, drop, map, ◌+◌, slice_set, IfOk, OnOk};
+ghost use Rattle.std.specs.Prelude.{◌≡◌, ◌∷◌, IsTrue, [], ◌++◌, take, drop, map, ◌+◌, slice_set, IfOk, IfSome, OnOk};
 ghost use Rattle.std.specs.List.{range_with_len};
 ghost use Rattle.mh_tree.specs.declared.operand.Operand.TheVariants.{Argument, Constant, Local};
-ghost use Rattle.mh_tree.specs.Prepared.{operand_at};
+ghost use Rattle.mh_tree.specs.Prepared.{leading_arguments, operand_at};
 
 use crate::operand::Operand;
 use mh_base::NoMemory;
 use mh_type::{Value, same_value};
 use std::alloc::Global;
+
+// The most arguments that a call has.
+const WIDEST: u32 = 16;
 
 // Another operand of the same place.
 pub(crate) fn same(operand: &Operand) -> Result<Operand, NoMemory>
@@ -177,6 +180,20 @@ pub(crate) fn with_local(
         list[place] = Operand::Local(local);
     }
     Ok(list)
+}
+
+// How many operands there are, where they are the leading arguments in their order.
+pub(crate) fn leading(operands: &[Operand]) -> Option<u32>
+    ensures value { IfSome result (λ n. operands.now ≡ leading_arguments n) }
+{
+    let mut count = 0;
+    for operand in operands {
+        match operand {
+            Operand::Argument(place) if *place == count && count < WIDEST => count += 1,
+            _ => return None,
+        }
+    }
+    Some(count)
 }
 
 // The operands before a place, and the others.

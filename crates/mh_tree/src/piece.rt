@@ -56,6 +56,12 @@ pub enum Piece {
         operands: Vec<Operand>,
         steps: u32,
     },
+    /// An invocation of a site on so many of the leading arguments.
+    Forward {
+        site: u32,
+        count: u32,
+        steps: u32,
+    },
 }
 
 /// A test whether an int argument is one number, the test of most inline caches: the operation

@@ -15,7 +15,9 @@ ghost use Rattle.mh_tree.specs.declared.operand.Operand.TheVariants.{Constant, L
 use crate::code_cache::CodeCache;
 use crate::node::Node;
 use crate::operand::Operand;
-use crate::operands::{at, copied, local_first, parts, put_in, reordered, taken_out, with_local};
+use crate::operands::{
+    at, copied, leading, local_first, parts, put_in, reordered, taken_out, with_local,
+};
 use crate::piece::{KeyTest, Piece};
 use mh_base::NoMemory;
 use mh_type::{Op, Value};
@@ -187,11 +189,14 @@ fn invoke(
     ensures value { IfOk result (λ c. code_of (arc_value c)
         ≡ call_code steps site (take count operands.now)) }
 {
-    let operands = copied(alloc, parts(operands, count).0)?;
-    let piece = Piece::Invoke {
-        site,
-        operands,
-        steps,
+    let (read, _) = parts(operands, count);
+    let piece = match leading(read) {
+        Some(count) => Piece::Forward { site, count, steps },
+        None => Piece::Invoke {
+            site,
+            operands: copied(alloc, read)?,
+            steps,
+        },
     };
     owned(alloc, piece)
 }

@@ -39,10 +39,14 @@ fn an_invocation_means_the_tree_of_the_site(rt: HostRuntime) -> Result<(), Fail>
     Ok(())
 }
 
-/// What a handle with its code gives on 5 where site 0, of level 0, has this tree with its code.
-fn ran_over(alloc: Global, handle: &Prepared, target: Prepared) -> Result<Given, Fail> {
-    let arguments = [Value::Int(5)];
-    if !fits(handle.handle().method_type(), &arguments) {
+/// What a handle with its code gives where site 0, of level 0, has this tree with its code.
+fn ran_over(
+    alloc: Global,
+    handle: &Prepared,
+    target: Prepared,
+    arguments: &[Value],
+) -> Result<Given, Fail> {
+    if !fits(handle.handle().method_type(), arguments) {
         return Err("the argument does not fit".into());
     }
     if handle.handle().point_bound() > 0 || target.handle().point_bound() > 0 {
@@ -56,7 +60,7 @@ fn ran_over(alloc: Global, handle: &Prepared, target: Prepared) -> Result<Given,
         valid: &[],
         targets: &[target],
     };
-    let (outcome, steps) = run(&mut stack, &here, handle, &arguments)?;
+    let (outcome, steps) = run(&mut stack, &here, handle, arguments)?;
     Ok(read(&outcome, steps))
 }
 
@@ -66,14 +70,34 @@ fn both_ran(alloc: Global) -> Result<[Given; 2], Fail> {
     let negation = Prepared::new(&op(alloc, Op::Ineg)?)?;
     let identity = Prepared::new(&Handle::identity(alloc, Kind::Int)?)?;
     Ok([
-        ran_over(alloc, &handle, negation)?,
-        ran_over(alloc, &handle, identity)?,
+        ran_over(alloc, &handle, negation, &[Value::Int(5)])?,
+        ran_over(alloc, &handle, identity, &[Value::Int(5)])?,
     ])
 }
 
 #[test]
 fn prepared_trees_invoke_sites(rt: HostRuntime) -> Result<(), Fail> {
     assert_eq!(rt; both_ran(rt.alloc())?, [int(5, 4), int(-5, 4)]);
+    Ok(())
+}
+
+/// What an invocation of site 0 gives on one of the two ints 5 and 7, where the site has the
+/// negation.
+fn ran_on(alloc: Global, place: usize) -> Result<Given, Fail> {
+    let site = Handle::invoke(alloc, 0, &MethodType::parse("(int)int")?)?;
+    let of_two = MethodType::parse("(int,int)int")?;
+    let handle = Prepared::new(&Handle::permute(alloc, &site, &of_two, &[place])?)?;
+    let negation = Prepared::new(&op(alloc, Op::Ineg)?)?;
+    ran_over(alloc, &handle, negation, &[Value::Int(5), Value::Int(7)])
+}
+
+#[test]
+fn an_invocation_is_on_any_argument(rt: HostRuntime) -> Result<(), Fail> {
+    let alloc = rt.alloc();
+    assert_eq!(rt;
+        [ran_on(alloc, 0)?, ran_on(alloc, 1)?],
+        [int(-5, 3), int(-7, 3)]
+    );
     Ok(())
 }
 

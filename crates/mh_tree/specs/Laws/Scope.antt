@@ -130,12 +130,17 @@ mutual
   scoped_filters C P allows k n (present f fs) [] new p env d s go w typed wide h b e g = absurd typed
   scoped_filters C P allows k n (present f fs) (z ∷ old) [] p env d s go w typed wide h b e g = absurd typed
 
+-- where so many arguments from a place on are there, there are as many
+pub leading_few : (n d a k : ℕ) → a ≤ n → AllIn n d (map (λ x. Argument x) (range_with_len a k)) → a + k ≤ n
+leading_few n d a zero h all = omega (arith, h)
+leading_few n d a (suc k) h (p, ps) = omega (arith, leading_few n d (a + 1) k (omega (arith, p)) ps)
+
 -- the operands of a call
 pub in_arguments : (n k a : ℕ) → a + k ≤ n → AllIn n 0 (map (λ x. Argument x) (range_with_len a k))
 in_arguments n zero a h = tt
 in_arguments n (suc k) a h = (omega arith, in_arguments n k (a + 1) (omega arith))
 
-reads_first : (a l : List Value) (k : ℕ) → k ≤ length a → map (value_of a l) (map (λ x. Argument x) (range_with_len 0 k)) ≡ take k a
+pub reads_first : (a l : List Value) (k : ℕ) → k ≤ length a → map (value_of a l) (map (λ x. Argument x) (range_with_len 0 k)) ≡ take k a
 reads_first a l zero h = refl
 reads_first a l (suc k) h =
     let e : suc k ≡ k + 1 = omega arith in

@@ -1,4 +1,4 @@
-use Rattle.std.proofs.Common.{◌≡◌, ◌+◌, ◌-◌, ◌*◌, ◌≤◌, length, take, vec_capacity}
+use Rattle.std.proofs.Common.{◌≡◌, ◌+◌, ◌-◌, ◌*◌, ◌≤◌, length, max, take, vec_capacity}
 use Rattle.mh_tree.specs.CodeOf.{code_of}
 use Rattle.mh_eval.specs.Height.{height}
 use Rattle.mh_eval.specs.Quiet.{IsQuiet, deep}
@@ -8,31 +8,37 @@ use Rattle.mh_eval.proofs.running.+run_on.Given as goal
 use Rattle.mh_tree.specs.Sites.{setting, env, MayCall, most_at, greatest_steps}
 use Rattle.mh_eval.specs.Lower.{AreReady}
 
--- what is left to do: as much as a tree's code may take for each tree that may be invoked below another; four for each level, and one to
--- three for the call that has entered a piece
+-- what is left to do: as much as a tree's code may take for each tree that may be invoked below another; six for each level, and one to
+-- six for the call that has entered a piece
 abbrev pub decreases-run_site : goal.decreases-run_site
-decreases-run_site l = 1048600 * l.level
+decreases-run_site l = 1572900 * l.level
+
+abbrev pub decreases-run_leading : goal.decreases-run_leading
+decreases-run_leading l = 1572900 * l.level
 
 abbrev pub decreases-run_framed : goal.decreases-run_framed
-decreases-run_framed l = 1048600 * l.level - 1
+decreases-run_framed l = 1572900 * l.level - 1
 
 abbrev pub decreases-run_on : goal.decreases-run_on
-decreases-run_on l = 1048600 * l.level + 4 * height (code_of l.code.now) + 2
+decreases-run_on l = 1572900 * l.level + 6 * height (code_of l.code.now) + 2
 
 abbrev pub decreases-enter : goal.decreases-enter
-decreases-enter l = 1048600 * l.level + 4 * height (code_of l.piece.now) + 1
+decreases-enter l = 1572900 * l.level + 6 * height (code_of l.piece.now) + 1
 
 abbrev pub decreases-enter_bind : goal.decreases-enter_bind
-decreases-enter_bind l = 1048600 * l.level + 4 * height (code_of l.first.now) + 4
+decreases-enter_bind l = 1572900 * l.level + 6 * height (code_of l.first.now) + 6
 
 abbrev pub decreases-enter_branch : goal.decreases-enter_branch
-decreases-enter_branch l = 1048600 * l.level + 4 * height (code_of l.test.now) + 4
+decreases-enter_branch l = 1572900 * l.level + 6 * height (code_of l.test.now) + 6
 
 abbrev pub decreases-answer_piece : goal.decreases-answer_piece
-decreases-answer_piece l = 1048600 * l.level + 4 * height (code_of l.code.now) + 3
+decreases-answer_piece l = 1572900 * l.level + 6 * height (code_of l.code.now) + 3
 
-abbrev pub decreases-push_first : goal.decreases-push_first
-decreases-push_first l = 1048600 * l.level + 4 * height (code_of l.first.now) + 3
+abbrev pub decreases-answer_bind : goal.decreases-answer_bind
+decreases-answer_bind l = 1572900 * l.level + 6 * max (height (code_of l.first.now)) (height (code_of l.then.now)) + 4
+
+abbrev pub decreases-answer_part : goal.decreases-answer_part
+decreases-answer_part l = 1572900 * l.level + 6 * height (code_of l.code.now) + 5
 
 abbrev pub decreases-run_on-loop-next : goal.decreases-run_on-loop-next
 decreases-run_on-loop-next l = height (code_of l.node)
