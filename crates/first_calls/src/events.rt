@@ -1,40 +1,39 @@
-//! The events that the machine is asked, each by a call of its own.
+//! What the runtime is asked, each by a call of its own.
 
 ghost use Rattle.std.specs.Prelude.{◌≡◌, ◌∷◌, [], IfSome};
 ghost use Rattle.mh_core.specs.Outcome.TheVariants as outcome;
 ghost use Rattle.mh_core.specs.Value.TheVariants.{Int};
-ghost use Rattle.mh_core.specs.Histories.{records};
 ghost use Rattle.mh_core.specs.Meaning.{mean};
 ghost use Rattle.mh_core.specs.Records.{base, environment_of_bases};
 
 use crate::definition::{F, one_less};
-use mh_core::{Arguments, Declared, Listing, Machine, Outcome, Value};
+use mh_core::{Declared, Listing, Outcome, Runtime, Value};
 use std::alloc::Global;
 
 /// The int that worker 0 gets for a call of a site, which is what the site's tree means at that
-/// step, or None where the machine answers otherwise.
-pub(crate) fn call(machine: &mut Machine, site: usize, argument: i32) -> Option<i32>
-    ensures value { let d = machine.old.setting.definition in
-        let r = records d machine.old.history in
+/// step, or None where the runtime answers otherwise.
+pub(crate) fn call(runtime: &mut Runtime, site: usize, argument: i32) -> Option<i32>
+    ensures value { let d = runtime.old.book.definition in
+        let r = runtime.old.book.records in
         IfSome result (λ n. mean (environment_of_bases d r) (base d r site).tree (Int argument ∷ [])
         ≡ outcome.Value (Int n)) }
 {
-    match machine.call(0, site, Arguments::one(Value::Int(argument))) {
+    match runtime.call(0, site, &[Value::Int(argument)]) {
         Ok((Outcome::Value(Value::Int(number)), _steps)) => Some(number),
         _ => None,
     }
 }
 
 /// The hits of worker 0 are added to the totals.
-pub(crate) fn flush(rt: &impl Print, machine: &mut Machine) -> anyhow::Result<()> {
-    machine.flush(0)?;
+pub(crate) fn flush(rt: &impl Print, runtime: &mut Runtime) -> anyhow::Result<()> {
+    runtime.flush(0)?;
     println!(rt; "flush: ok")?;
     Ok(())
 }
 
 /// The totals are kept under the next number, with the points that are valid.
-pub(crate) fn take_snapshot(rt: &impl Print, machine: &mut Machine) -> anyhow::Result<()> {
-    let snapshot = machine.snapshot()?;
+pub(crate) fn take_snapshot(rt: &impl Print, runtime: &mut Runtime) -> anyhow::Result<()> {
+    let snapshot = runtime.snapshot()?;
     println!(rt; "snapshot: {snapshot}")?;
     Ok(())
 }
@@ -43,10 +42,10 @@ pub(crate) fn take_snapshot(rt: &impl Print, machine: &mut Machine) -> anyhow::R
 pub(crate) fn invalidate(
     rt: &impl Print,
     alloc: Global,
-    machine: &mut Machine,
+    runtime: &mut Runtime,
 ) -> anyhow::Result<()> {
     let points = Listing::from_vec(Vec::from_slice(alloc, &[0])?);
-    machine.invalidate(points)?;
+    runtime.invalidate(points)?;
     println!(rt; "invalidate a: ok")?;
     Ok(())
 }
@@ -55,10 +54,10 @@ pub(crate) fn invalidate(
 pub(crate) fn retarget(
     rt: &impl Print,
     alloc: Global,
-    machine: &mut Machine,
+    runtime: &mut Runtime,
 ) -> anyhow::Result<()> {
     let tree = Declared::new(&one_less(alloc)?)?;
-    machine.target(F, tree)?;
+    runtime.target(F, tree)?;
     println!(rt; "target f: ok")?;
     Ok(())
 }

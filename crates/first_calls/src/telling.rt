@@ -2,17 +2,17 @@
 
 use crate::definition::F;
 use crate::events::call;
-use mh_core::Machine;
+use mh_core::Runtime;
 
 /// Calls a site, and prints the int that it gives.
 pub(crate) fn tell_call(
     rt: &impl Print,
-    machine: &mut Machine,
+    runtime: &mut Runtime,
     site: usize,
     argument: i32,
 ) -> anyhow::Result<()> {
     let name = if site == F { "f" } else { "g" };
-    match call(machine, site, argument) {
+    match call(runtime, site, argument) {
         Some(number) => println!(rt; "{name}({argument}): {number}")?,
         None => println!(rt; "{name}({argument}): no int")?,
     }

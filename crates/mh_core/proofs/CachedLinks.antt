@@ -44,9 +44,12 @@ all_own d s is h k e within =
     let inside : k < length (site_at d s).links = omega (arith, within, count) in
     subst (IsOwn d s) (sym (get_or-range_with_len (first_link d s) (length (site_at d s).links) k e inside)) (own d s k is h inside)
 
+pub chosen_own : (d : DefinitionData) (r : List Record) (m s : ℕ) → IsDefinition d → s < length d.sites → All (IsOwn d s) (chosen d r m s)
+chosen_own d r m s is h = All-filter (member (plan_at r m).plan.links) (IsOwn d s) (own_links d s) (all_own d s is h)
+
 pub usable_own : (d : DefinitionData) (r : List Record) (m s : ℕ) → IsDefinition d → s < length d.sites → All (IsOwn d s) (usable d r m s)
 usable_own d r m s is h =
-    All-filter (is_eligible d r) (IsOwn d s) (chosen d r m s) (All-filter (member (plan_at r m).plan.links) (IsOwn d s) (own_links d s) (all_own d s is h))
+    All-filter (is_eligible d r) (IsOwn d s) (chosen d r m s) (chosen_own d r m s is h)
 
 fewer : (p : ℕ → Bool) (xs : List ℕ) → length (filter p xs) ≤ length xs
 fewer p [] = omega arith
@@ -56,9 +59,12 @@ fewer p (x ∷ xs) = by_test (p x) (fewer p xs)
     by_test true later = omega (arith, later)
     by_test false later = omega (arith, later)
 
+pub chosen_few : (d : DefinitionData) (r : List Record) (m s : ℕ) → length (chosen d r m s) ≤ length (site_at d s).links
+chosen_few d r m s = omega (arith, fewer (member (plan_at r m).plan.links) (own_links d s), length-range_with_len (first_link d s) (length (site_at d s).links))
+
 usable_few : (d : DefinitionData) (r : List Record) (m s : ℕ) → length (usable d r m s) ≤ length (site_at d s).links
 usable_few d r m s =
-    omega (arith, fewer (is_eligible d r) (chosen d r m s), fewer (member (plan_at r m).plan.links) (own_links d s), length-range_with_len (first_link d s) (length (site_at d s).links))
+    omega (arith, fewer (is_eligible d r) (chosen d r m s), chosen_few d r m s)
 
 -- the entries of usable links suit their site's key place
 pub may_chain : (d : DefinitionData) (l : LimitsData) (r : List Record) (m s q : ℕ) → IsDefinition d → Legal d l r → s < length d.sites → (site_at d s).key ≡ Some q

@@ -9,7 +9,7 @@ use Rattle.mh_core.specs.declared.record.Record.TheVariants.{Flushed, Targeted, 
 use Rattle.mh_core.specs.Books.{BookState, IsBook}
 use Rattle.mh_core.specs.Installations.{PublishedPlan}
 use Rattle.mh_core.specs.Pending.{HasEffect}
-use Rattle.mh_core.specs.Replayed.{controls, world}
+use Rattle.mh_core.specs.Replayed.{controls}
 use Rattle.mh_core.specs.Snapshots.{SnapshotState, snapshot_of}
 use Rattle.mh_core.specs.Laws.Worlds.{world_push}
 use Rattle.mh_core.specs.Laws.Changes.{moves}

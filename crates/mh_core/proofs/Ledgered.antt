@@ -1,18 +1,19 @@
 -- What the ledgers of a machine's workers have after one event more.
-use Rattle.std.proofs.Common.{◌≡◌, ◌≢◌, inl, inr, ℕ, ◌+◌, ◌<◌, ◌==◌, ◌&&◌, Bool, true, false, cond, List, [], ◌∷◌, length, map, replicate, slice_index_or, slice_set, refl, ap, sym, subst, ◌∙◌, arith}
+use Rattle.std.proofs.Common.{◌≡◌, ◌≢◌, inl, inr, ℕ, ◌+◌, ◌<◌, ◌==◌, ◌&&◌, Bool, true, false, cond, List, [], ◌∷◌, length, map, replicate, slice_set, refl, ap, sym, subst, ◌∙◌, arith}
 use Rattle.std.specs.List.{range_with_len}
 use Rattle.std.proofs.lemmas.Bool.{cases_eq, eq-eqb, ne_eqb}
-use Rattle.std.proofs.lemmas.List.{ext_get_or, get_or_default, get_or-replicate, get_or-set_other, get_or-set_same, length-replicate, length-set}
+use Rattle.std.proofs.lemmas.List.{ext_get_or, get_or-replicate, get_or-set_other, get_or-set_same, length-replicate, length-set}
 use Rattle.std.proofs.lemmas.List.FromFn.{get_or-map-range_with_len, length-map-range_with_len}
 use Rattle.mh_type.specs.declared.value.Value.{Value}
-use Rattle.mh_ledger.specs.Ledgers.{AreHeld, LedgerState, TotalsState, at, ledger_at, no_ledger, opened_ledger, settled, with_hit}
+use Rattle.mh_ledger.specs.Ledgers.{LedgerState, at, ledger_at, no_ledger, opened_ledger, settled, with_hit}
 use Rattle.mh_site.specs.Defined.{DefinitionData}
 use Rattle.mh_site.specs.Links.{links}
 use Rattle.mh_core.specs.declared.event.Event.{Event}
 use Rattle.mh_core.specs.declared.event.Event.TheVariants.{Call, Flush}
-use Rattle.mh_core.specs.Books.{AreLedgers, BookState}
-use Rattle.mh_core.specs.Hits.{hits, unflushed, unflushed_hits}
-use Rattle.mh_core.specs.Limits.{LimitsData}
+use Rattle.std.specs.Prelude.{Option, Some, None}
+use Rattle.mh_core.specs.Hits.{IsHitLink, hits, unflushed, unflushed_hits}
+use Rattle.mh_core.specs.Machines.{AreCounted}
+use Rattle.mh_core.specs.Runtimes.{CountsHit}
 use Rattle.mh_core.specs.Laws.Numbered.{at_number, same_numbers}
 
 -- ---- what a worker's numbers are
@@ -29,62 +30,24 @@ is_unflushed d h w ns count same =
     (λ j within. let inside : j < length (links d) = omega (arith, within, count) in same j inside ∙ sym (unflushed_at d h w j inside))
 
 -- ---- all ledgers
--- the ledger that was read of a worker
-pub ledger_read : (b : BookState) (workers : ℕ) (h : List Event) (ledgers : List LedgerState) (w : ℕ) (l : LedgerState) → AreLedgers b workers h ledgers → w < workers
-    → l ≡ slice_index_or ledgers w l → (l ≡ ledger_at ledgers w) × (l.worker ≡ w)
-ledger_read b workers h ledgers w l are known read =
-    let inside : w < length ledgers = omega (arith, known, are.count) in
-    let found : l ≡ ledger_at ledgers w = read ∙ get_or_default ledgers w l no_ledger inside in
-    (found, ap (λ (x : LedgerState). x.worker) found ∙ are.held.workers w inside)
-
 -- an event that counts nothing
-pub same_ledgers : (b new : BookState) (workers : ℕ) (h more : List Event) (ledgers : List LedgerState) → AreLedgers b workers h ledgers
-    → new.definition ≡ b.definition → new.limits ≡ b.limits → new.totals ≡ b.totals
-    → ((w j : ℕ) → unflushed b.definition more w j ≡ unflushed b.definition h w j) → AreLedgers new workers more ledgers
-same_ledgers b new workers h more ledgers are definition limits totals same =
-    record {
-      count = are.count;
-      held = subst (λ (t : TotalsState). AreHeld t ledgers) (sym totals) are.held;
-      unflushed = λ w inside.
-          are.unflushed w inside
-          ∙ (same_numbers 0 (unflushed b.definition h w) (unflushed b.definition more w) (length (links b.definition)) (λ j _. sym (same w j))
-          ∙ ap (λ (d : DefinitionData). unflushed_hits d more w) (sym definition));
-      limit = λ w inside. are.limit w inside ∙ ap (λ (l : LimitsData). l.ledger) (sym limits);
-    }
+pub same_counted : (d : DefinitionData) (h more : List Event) (ledgers : List LedgerState) → AreCounted d h ledgers
+    → ((w j : ℕ) → unflushed d more w j ≡ unflushed d h w j) → AreCounted d more ledgers
+same_counted d h more ledgers are same w inside =
+    are w inside ∙ same_numbers 0 (unflushed d h w) (unflushed d more w) (length (links d)) (λ j _. sym (same w j))
 
 -- an event of a worker, whose ledger alone changes
-pub set_ledgers : (b new : BookState) (workers : ℕ) (h more : List Event) (ledgers : List LedgerState) (v : ℕ) (l : LedgerState) → AreLedgers b workers h ledgers → v < workers
-    → new.definition ≡ b.definition → new.limits ≡ b.limits → AreHeld new.totals (slice_set ledgers v l)
-    → l.limit ≡ (ledger_at ledgers v).limit → l.unflushed ≡ unflushed_hits b.definition more v
-    → ((w j : ℕ) → w ≢ v → unflushed b.definition more w j ≡ unflushed b.definition h w j) → AreLedgers new workers more (slice_set ledgers v l)
-set_ledgers b new workers h more ledgers v l are known definition limits held limit own others =
-    record {
-      count = length-set ledgers v l ∙ are.count;
-      held = held;
-      unflushed = λ w inside. by_worker w inside ∙ ap (λ (d : DefinitionData). unflushed_hits d more w) (sym definition);
-      limit = λ w inside. limit_by w inside ∙ ap (λ (x : LimitsData). x.ledger) (sym limits);
-    }
-  where
-    here : (w : ℕ) → w ≡ v → ledger_at (slice_set ledgers v l) w ≡ l
-    here w e = ap (ledger_at (slice_set ledgers v l)) e ∙ get_or-set_same ledgers v l no_ledger (omega (arith, known, are.count))
-
-    there : (w : ℕ) → w ≢ v → ledger_at (slice_set ledgers v l) w ≡ ledger_at ledgers w
-    there w e = get_or-set_other ledgers v w l no_ledger e
-
-    by_worker : (w : ℕ) → w < workers → (ledger_at (slice_set ledgers v l) w).unflushed ≡ unflushed_hits b.definition more w
-    by_worker w inside = elim (cases_eq w v) [
-      | inl e ↦ ap (λ (x : LedgerState). x.unflushed) (here w e) ∙ (own ∙ ap (unflushed_hits b.definition more) (sym e))
-      | inr e ↦
-          ap (λ (x : LedgerState). x.unflushed) (there w e)
-          ∙ (are.unflushed w inside
-          ∙ same_numbers 0 (unflushed b.definition h w) (unflushed b.definition more w) (length (links b.definition)) (λ j _. sym (others w j e)))
-    ]
-
-    limit_by : (w : ℕ) → w < workers → (ledger_at (slice_set ledgers v l) w).limit ≡ b.limits.ledger
-    limit_by w inside = elim (cases_eq w v) [
-      | inl e ↦ ap (λ (x : LedgerState). x.limit) (here w e) ∙ (limit ∙ are.limit v known)
-      | inr e ↦ ap (λ (x : LedgerState). x.limit) (there w e) ∙ are.limit w inside
-    ]
+pub set_counted : (d : DefinitionData) (h more : List Event) (ledgers : List LedgerState) (v : ℕ) (l : LedgerState) → AreCounted d h ledgers → v < length ledgers
+    → l.unflushed ≡ unflushed_hits d more v → ((w j : ℕ) → w ≢ v → unflushed d more w j ≡ unflushed d h w j) → AreCounted d more (slice_set ledgers v l)
+set_counted d h more ledgers v l are known own others w inside = elim (cases_eq w v) [
+  | inl e ↦
+      ap (λ (x : LedgerState). x.unflushed) (ap (ledger_at (slice_set ledgers v l)) e ∙ get_or-set_same ledgers v l no_ledger known)
+      ∙ (own ∙ ap (unflushed_hits d more) (sym e))
+  | inr e ↦
+      ap (λ (x : LedgerState). x.unflushed) (get_or-set_other ledgers v w l no_ledger e)
+      ∙ (are w (omega (arith, inside, length-set ledgers v l))
+      ∙ same_numbers 0 (unflushed d h w) (unflushed d more w) (length (links d)) (λ j _. sym (others w j e)))
+]
 
 -- ---- a flush
 pub flush_empties : (d : DefinitionData) (h : List Event) (v : ℕ) (l : LedgerState) → length l.unflushed ≡ length (links d) → (settled l).unflushed ≡ unflushed_hits d (Flush v ∷ h) v
@@ -140,32 +103,30 @@ module _ (d : DefinitionData) (h : List Event) (v s : ℕ) (a : List Value) wher
           by_test true f = absurd (e (alone j f))
           by_test false f = refl
 
--- a call that hits a link, for which its worker's ledger has room
-pub hit_ledgers : (b : BookState) (workers : ℕ) (h : List Event) (ledgers : List LedgerState) (v s : ℕ) (a : List Value) (k : ℕ) (l new : LedgerState) → AreLedgers b workers h ledgers → v < workers
-    → l ≡ slice_index_or ledgers v l → k < length (links b.definition) → hits b.definition s a k ≡ true → ((i : ℕ) → hits b.definition s a i ≡ true → i ≡ k)
-    → new ≡ with_hit l k → AreHeld b.totals (slice_set ledgers l.worker new) → AreLedgers b workers (Call v s a ∷ h) (slice_set ledgers v new)
-hit_ledgers b workers h ledgers v s a k l new are known read inside hit alone counted held =
-    let own = ledger_read b workers h ledgers v l are known read in
-    let before : l.unflushed ≡ unflushed_hits b.definition h v = ap (λ (x : LedgerState). x.unflushed) own.0 ∙ are.unflushed v known in
-    set_ledgers b b workers h (Call v s a ∷ h) ledgers v new are known refl refl
-    (subst (λ (w : ℕ). AreHeld b.totals (slice_set ledgers w new)) own.1 held)
-    (ap (λ (x : LedgerState). x.limit) counted ∙ ap (λ (x : LedgerState). x.limit) own.0)
-    (ap (λ (x : LedgerState). x.unflushed) counted ∙ hit_counts b.definition h v s a l k inside before hit alone)
-    (λ w j e. call_of_others b.definition h v s a w j e)
+-- the ledgers after a call
+pub call_counted : (d : DefinitionData) (h : List Event) (ledgers new : List LedgerState) (v s : ℕ) (a : List Value) (link : Option ℕ) → AreCounted d h ledgers → v < length ledgers
+    → IsHitLink d s a link → CountsHit d v s a ledgers new → AreCounted d (Call v s a ∷ h) new
+call_counted d h ledgers new v s a (Some k) are known hit counts =
+    subst (AreCounted d (Call v s a ∷ h)) (sym (counts.hit k hit.1.0))
+    (set_counted d h (Call v s a ∷ h) ledgers v (with_hit (ledger_at ledgers v) k) are known
+    (hit_counts d h v s a (ledger_at ledgers v) k hit.0 (are v known) hit.1.0 hit.1.1)
+    (λ w j e. call_of_others d h v s a w j e))
+call_counted d h ledgers new v s a None are known hit counts =
+    subst (AreCounted d (Call v s a ∷ h)) (sym (counts.none hit)) (same_counted d h (Call v s a ∷ h) ledgers are (λ w j. no_hit d h v s a hit w j))
+
+-- the ledgers after a flush
+pub flush_counted : (d : DefinitionData) (h : List Event) (ledgers : List LedgerState) (v : ℕ) → AreCounted d h ledgers → v < length ledgers
+    → AreCounted d (Flush v ∷ h) (slice_set ledgers v (settled (ledger_at ledgers v)))
+flush_counted d h ledgers v are known =
+    set_counted d h (Flush v ∷ h) ledgers v (settled (ledger_at ledgers v)) are known
+    (flush_empties d h v (ledger_at ledgers v) (ap length (are v known) ∙ unflushed_length d h v))
+    (λ w j e. flush_of_others d h v w j e)
 
 -- ---- before any event
-pub opened_ledgers : (b : BookState) (workers : ℕ) (ledgers : List LedgerState) → AreHeld b.totals ledgers
-    → ledgers ≡ map (opened_ledger (length (links b.definition)) b.limits.ledger) (range_with_len 0 workers) → AreLedgers b workers [] ledgers
-opened_ledgers b workers ledgers held is =
-    let n = length (links b.definition) in
-    let opened = opened_ledger n b.limits.ledger in
-    let each : (w : ℕ) → w < workers → ledger_at ledgers w ≡ opened w =
-    λ w inside. ap (λ ls. ledger_at ls w) is ∙ get_or-map-range_with_len opened 0 workers w w no_ledger inside (omega arith) in
-    record {
-      count = ap length is ∙ length-map-range_with_len opened 0 workers;
-      held = held;
-      unflushed = λ w inside.
-          ap (λ (l : LedgerState). l.unflushed) (each w inside)
-          ∙ is_unflushed b.definition [] w (replicate n 0) (length-replicate n 0) (λ j within. get_or-replicate n j 0 0 within);
-      limit = λ w inside. ap (λ (l : LedgerState). l.limit) (each w inside);
-    }
+pub opened_counted : (d : DefinitionData) (limit workers : ℕ) → AreCounted d [] (map (opened_ledger (length (links d)) limit) (range_with_len 0 workers))
+opened_counted d limit workers w inside =
+    let n = length (links d) in
+    let opened = opened_ledger n limit in
+    let known : w < workers = omega (arith, inside, length-map-range_with_len opened 0 workers) in
+    ap (λ (l : LedgerState). l.unflushed) (get_or-map-range_with_len opened 0 workers w w no_ledger known (omega arith))
+    ∙ is_unflushed d [] w (replicate n 0) (length-replicate n 0) (λ j within. get_or-replicate n j 0 0 within)

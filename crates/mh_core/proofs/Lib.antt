@@ -9,7 +9,6 @@ mod Growing
 mod HitCounts
 mod HitLinks
 mod InstalledLinks
-mod Joined
 mod Ledgered
 mod Machines
 mod PlanTests

@@ -1,179 +1,158 @@
 -- What a machine keeps with one event more.
-use Rattle.std.proofs.Common.{◌≡◌, inr, ℕ, ◌+◌, ◌<◌, ◌≤◌, Bool, true, false, List, [], ◌∷◌, length, map, slice_index_or, slice_set, refl, ap, sym, subst, ◌∙◌, arith}
-use Rattle.std.specs.List.{range_with_len}
-use Rattle.std.specs.Prelude.{Option, Some, None, IfSome, ◌↔◌}
+use Rattle.std.proofs.Common.{◌≡◌, inl, inr, ℕ, ◌+◌, ◌<◌, ◌≤◌, true, false, List, [], ◌∷◌, length, slice_set, refl, ap, sym, subst, ◌∙◌, arith}
+use Rattle.std.specs.Prelude.{Option, Some, None}
+use Rattle.std.proofs.lemmas.List.{length-set}
+use Rattle.std.proofs.lemmas.List.FromFn.{length-map-range_with_len}
 use Rattle.mh_type.specs.declared.value.Value.{Value}
-use Rattle.mh_ledger.specs.Ledgers.{AreHeld, LedgerState, at, opened_ledger, settled}
+use Rattle.mh_ledger.specs.Ledgers.{at, ledger_at, opened_ledger, settled, with_hit}
 use Rattle.mh_site.specs.Defined.{DefinitionData}
 use Rattle.mh_site.specs.Links.{links}
-use Rattle.mh_core.specs.declared.call.AcceptedCall.{AcceptedCall}
 use Rattle.mh_core.specs.declared.event.Event.{Event}
-use Rattle.mh_core.specs.declared.event.Event.TheVariants.{Flush}
+use Rattle.mh_core.specs.declared.event.Event.TheVariants as event
 use Rattle.mh_core.specs.declared.record.Record.{Record}
 use Rattle.mh_core.specs.declared.record.Record.TheVariants.{Flushed, Targeted, Invalidated, Snapped, Published, Installed}
-use Rattle.mh_core.specs.declared.reply.Reply.{Reply}
 use Rattle.mh_core.specs.declared.refusal.Refusal.{Refusal}
-use Rattle.mh_core.specs.Books.{AreLedgers, BookState, IsMachine, Takes, opened_book, reply_to}
-use Rattle.mh_core.specs.Histories.{ArePlaced, event_of, joined, records}
-use Rattle.mh_core.specs.Hits.{IsHitLink, hits, moved, unflushed, unflushed_hits}
+use Rattle.mh_core.specs.declared.reply.Reply.{Reply}
+use Rattle.mh_core.specs.declared.reply.Reply.TheVariants as answers
+use Rattle.mh_core.specs.Books.{BookState, MayRefuse, MayTake, Rejects, Takes, reply_to}
+use Rattle.mh_core.specs.Callers.{IsCallable}
+use Rattle.mh_core.specs.Histories.{event_of, records}
+use Rattle.mh_core.specs.Hits.{IsHitLink, hits, moved, unflushed}
 use Rattle.mh_core.specs.Legal.{HasRoom, MachineState, Setting, answer, extended, record_tests, tests as event_tests}
-use Rattle.mh_core.specs.Limits.{LimitsData}
+use Rattle.mh_core.specs.Limits.{IsLimits, LimitsData, most_events}
+use Rattle.mh_core.specs.Machines.{AreCounted, IsMachine, machine_of}
 use Rattle.mh_core.specs.Pending.{IsNoFlush}
 use Rattle.mh_core.specs.Records.{hits_in}
 use Rattle.mh_core.specs.Rows.{tests}
+use Rattle.mh_core.specs.Runtimes.{CountsHit, RefusesFlush, RuntimeState, flush_of, opened_runtime, room_tests}
+use Rattle.mh_core.specs.Steps.{IsAccepted, IsRefused}
+use Rattle.mh_core.specs.Runtimes as runtime
 use Rattle.mh_base.specs.Tests.{Passes, Refuses}
 use Rattle.mh_core.proofs.Growing.{fits_in}
-use Rattle.mh_core.proofs.Joined.{event_of_call, joined_call, joined_length, joined_record, placed_record}
-use Rattle.mh_core.proofs.Ledgered.{flush_empties, flush_of_others, ledger_read, opened_ledgers, same_ledgers, set_ledgers, unflushed_at, unflushed_length}
+use Rattle.mh_core.proofs.Ledgered.{call_counted, flush_counted, opened_counted, same_counted, unflushed_at}
 
-abbrev pub setting_of : BookState → ℕ → Setting
-setting_of b workers = record { definition = b.definition; workers = workers; limits = b.limits }
+-- there are no more records than events
+pub few_records : (d : DefinitionData) (h : List Event) → length (records d h) ≤ length h
+few_records d [] = omega arith
+few_records d (event.Call w s a ∷ h) = omega (arith, few_records d h)
+few_records d (event.Flush w ∷ h) = omega (arith, few_records d h)
+few_records d (event.Target s tree ∷ h) = omega (arith, few_records d h)
+few_records d (event.Invalidate points ∷ h) = omega (arith, few_records d h)
+few_records d (event.Snapshot ∷ h) = omega (arith, few_records d h)
+few_records d (event.Publish n plan ∷ h) = omega (arith, few_records d h)
+few_records d (event.Install m ∷ h) = omega (arith, few_records d h)
 
--- a machine as plain data
-abbrev pub machine_of : BookState → List AcceptedCall → ℕ → MachineState
-machine_of b calls workers = record { setting = setting_of b workers; history = joined calls b.records }
+module _ (r : RuntimeState) (h : List Event) (is : IsMachine r h) where
+  abbrev x : Setting
+  x = (machine_of r h).setting
 
--- the same under equal numbers and records
-pub takes_same : (b new : BookState) (n k : ℕ) (e f : Record) → n ≡ k → e ≡ f → Takes b n e new → Takes b k f new
-takes_same b new n k e f same alike takes = subst (λ (m : ℕ). Takes b m f new) same (subst (λ (g : Record). Takes b n g new) alike takes)
+  -- a flush of a worker is of what its calls have hit
+  pub flush_is : (w : ℕ) → w < length r.ledgers → flush_of r w ≡ Flushed w (moved r.book.definition h w)
+  flush_is w known = ap (λ (ns : List ℕ). Flushed w (hits_in ns)) (is.counted w known)
 
-pub passes_same : (b : BookState) (n k : ℕ) (e f : Record) → n ≡ k → e ≡ f → Passes (tests b.definition b.limits (length b.records + n) b.records e) → Passes (tests b.definition b.limits (length b.records + k) b.records f)
-passes_same b n k e f same alike p =
-    subst (λ (m : ℕ). Passes (tests b.definition b.limits (length b.records + m) b.records f)) same
-    (subst (λ (g : Record). Passes (tests b.definition b.limits (length b.records + n) b.records g)) alike p)
+  -- beside so many calls
+  module _ (n : ℕ) (count : length r.book.records + n ≡ length h) (e : Record) where
+    pub passes : MayTake r.book n e → Passes (record_tests x h e)
+    passes p =
+        let behind = subst (λ (g : List Record). Passes (tests r.book.definition r.book.limits (length r.book.records + n) g e)) is.records p in
+        subst (λ (k : ℕ). Passes (tests r.book.definition r.book.limits k (records r.book.definition h) e)) count behind
 
-pub refuses_same : (b : BookState) (n k : ℕ) (e f : Record) (told : Refusal) → n ≡ k → e ≡ f → Refuses (tests b.definition b.limits (length b.records + n) b.records e) told
-    → Refuses (tests b.definition b.limits (length b.records + k) b.records f) told
-refuses_same b n k e f told same alike p =
-    subst (λ (m : ℕ). Refuses (tests b.definition b.limits (length b.records + m) b.records f) told) same
-    (subst (λ (g : Record). Refuses (tests b.definition b.limits (length b.records + n) b.records g) told) alike p)
+    pub refuses : (told : Refusal) → MayRefuse r.book n e told → Refuses (record_tests x h e) told
+    refuses told p =
+        let behind = subst (λ (g : List Record). Refuses (tests r.book.definition r.book.limits (length r.book.records + n) g e) told) is.records p in
+        subst (λ (k : ℕ). Refuses (tests r.book.definition r.book.limits k (records r.book.definition h) e) told) count behind
 
-module _ (b : BookState) (calls : List AcceptedCall) (workers : ℕ) (ledgers : List LedgerState) (is : IsMachine b calls workers ledgers (joined calls b.records)) where
-  abbrev h : List Event
-  h = joined calls b.records
+    -- with one record more
+    module _ (new : RuntimeState) (takes : Takes r.book n e new.book) where
+      pub grows : e ∷ records r.book.definition h ≡ records r.book.definition (event_of e ∷ h) → AreCounted r.book.definition (event_of e ∷ h) new.ledgers → IsMachine new (event_of e ∷ h)
+      grows same counted =
+          let few = fits_in r.book.definition r.book.limits (length r.book.records + n) r.book.records e takes.passes in
+          record {
+            limits = subst IsLimits (sym takes.limits) is.limits;
+            records =
+                takes.records
+                ∙ (ap (λ (g : List Record). e ∷ g) is.records ∙ (same ∙ ap (λ (d : DefinitionData). records d (event_of e ∷ h)) (sym takes.definition)));
+            few = omega (arith, few, count, ap (λ (l : LimitsData). l.history) takes.limits);
+            counted = subst (λ (d : DefinitionData). AreCounted d (event_of e ∷ h) new.ledgers) (sym takes.definition) counted;
+          }
 
-  -- a flush of a worker is of what its ledger has
-  pub flush_is : (w : ℕ) (l : LedgerState) → w < workers → l ≡ slice_index_or ledgers w l → Flushed l.worker (hits_in l.unflushed) ≡ Flushed w (moved b.definition h w)
-  flush_is w l known read =
-      let own = ledger_read b workers h ledgers w l is.counted known read in
-      let hits : l.unflushed ≡ unflushed_hits b.definition h w = ap (λ (x : LedgerState). x.unflushed) own.0 ∙ is.counted.unflushed w known in
-      ap (λ (v : ℕ). Flushed v (hits_in l.unflushed)) own.1 ∙ ap (λ (ns : List ℕ). Flushed w (hits_in ns)) hits
+      pub view_grows : length new.ledgers ≡ length r.ledgers → machine_of new (event_of e ∷ h) ≡ extended (machine_of r h) (event_of e)
+      view_grows workers =
+          ap (λ (d : DefinitionData). by_parts d (length new.ledgers) new.book.limits) takes.definition
+          ∙ (ap (λ (k : ℕ). by_parts r.book.definition k new.book.limits) workers ∙ ap (by_parts r.book.definition (length r.ledgers)) takes.limits)
+        where
+          by_parts : DefinitionData → ℕ → LimitsData → MachineState
+          by_parts d k l = record { setting = record { definition = d; workers = k; limits = l }; history = event_of e ∷ h }
 
-  -- the tests of a record behind the history are those behind the records
-  pub passes_here : (e : Record) → Passes (record_tests (setting_of b workers) h e) → Passes (tests b.definition b.limits (length b.records + length calls) b.records e)
-  passes_here e p =
-      let counted = subst (λ (n : ℕ). Passes (tests b.definition b.limits n (records b.definition h) e)) (joined_length calls b.records) p in
-      subst (λ (r : List Record). Passes (tests b.definition b.limits (length b.records + length calls) r e)) (sym is.records) counted
+  -- the hits that a worker's ledger has
+  pub hits_had : (w j : ℕ) → w < length r.ledgers → j < length (links r.book.definition) → at (ledger_at r.ledgers w).unflushed j ≡ unflushed r.book.definition h w j
+  hits_had w j known inside = ap (λ (ns : List ℕ). at ns j) (is.counted w known) ∙ unflushed_at r.book.definition h w j inside
 
-  pub passes_there : (e : Record) → Passes (tests b.definition b.limits (length b.records + length calls) b.records e) → Passes (record_tests (setting_of b workers) h e)
-  passes_there e p =
-      let counted = subst (λ (n : ℕ). Passes (tests b.definition b.limits n b.records e)) (sym (joined_length calls b.records)) p in
-      subst (λ (r : List Record). Passes (tests b.definition b.limits (length h) r e)) is.records counted
+  -- what is not full has room for one event more
+  pub room_left : length h < r.book.limits.history → length h < most_events
+  room_left few = omega (arith, few, is.limits.history)
 
-  pub refuses_there : (e : Record) (told : Refusal) → Refuses (tests b.definition b.limits (length b.records + length calls) b.records e) told → Refuses (record_tests (setting_of b workers) h e) told
-  refuses_there e told p =
-      let counted = subst (λ (n : ℕ). Refuses (tests b.definition b.limits n b.records e) told) (sym (joined_length calls b.records)) p in
-      subst (λ (r : List Record). Refuses (tests b.definition b.limits (length h) r e) told) is.records counted
+  -- a call of a worker that is there, which passes the tests that no hits decide
+  module _ (w s : ℕ) (a : List Value) (link : Option ℕ) (known : w < length r.ledgers) (may : IsCallable r.book.definition s a) (hit : IsHitLink r.book.definition s a link) (few : length h < r.book.limits.history) where
+    link_inside : (l : Option ℕ) → IsHitLink r.book.definition s a l → (j : ℕ) → hits r.book.definition s a j ≡ true → j < length (links r.book.definition)
+    link_inside (Some k) is_hit j own = omega (arith, is_hit.0, is_hit.1.1 j own)
+    link_inside None is_hit j own = let no : hits r.book.definition s a j ≡ false = is_hit j in cc
 
-  -- what a worker's ledger has
-  pub own_ledger : (w : ℕ) (l : LedgerState) → w < workers → l ≡ slice_index_or ledgers w l → (l.unflushed ≡ unflushed_hits b.definition h w) × (l.limit ≡ b.limits.ledger)
-  own_ledger w l known read =
-      let found = (ledger_read b workers h ledgers w l is.counted known read).0 in
-      (ap (λ (x : LedgerState). x.unflushed) found ∙ is.counted.unflushed w known, ap (λ (x : LedgerState). x.limit) found ∙ is.counted.limit w known)
+    room_there : runtime.HasRoom r w s a → HasRoom x h w s a
+    room_there room j inside own = omega (arith, room j own, hits_had w j known inside)
 
-  -- with one record more
-  pub view_grows : (new : BookState) (e : Record) → Takes b (length calls) e new → machine_of new calls workers ≡ extended (machine_of b calls workers) (event_of e)
-  view_grows new e takes =
-      ap (λ (d : DefinitionData). by_parts d new.limits (joined calls new.records)) takes.definition
-      ∙ (ap (λ (l : LimitsData). by_parts b.definition l (joined calls new.records)) takes.limits
-      ∙ ap (by_parts b.definition b.limits) (ap (joined calls) takes.records ∙ joined_record calls b.records e is.placed))
-    where
-      by_parts : DefinitionData → LimitsData → List Event → MachineState
-      by_parts d l g = record { setting = record { definition = d; workers = workers; limits = l }; history = g }
+    room_here : HasRoom x h w s a → runtime.HasRoom r w s a
+    room_here room j own = let inside = link_inside link hit j own in omega (arith, room j inside own, hits_had w j known inside)
 
-  pub machine_grows : (new : BookState) (e : Record) (more : List LedgerState) → Takes b (length calls) e new → e ∷ records b.definition h ≡ records b.definition (event_of e ∷ h)
-      → AreLedgers new workers (event_of e ∷ h) more → IsMachine new calls workers more (joined calls new.records)
-  machine_grows new e more takes same counted =
-      let history : joined calls new.records ≡ event_of e ∷ h = ap (joined calls) takes.records ∙ joined_record calls b.records e is.placed in
-      let few = fits_in b.definition b.limits (length b.records + length calls) b.records e takes.passes in
-      record {
-        records =
-            takes.records
-            ∙ (ap (λ (r : List Record). e ∷ r) is.records ∙ (same ∙ (ap (records b.definition) (sym history) ∙ ap (λ (d : DefinitionData). records d (joined calls new.records)) (sym takes.definition))));
-        placed = subst (ArePlaced calls) (sym takes.records) (placed_record calls b.records e is.placed);
-        few = omega (arith, few, ap length history, joined_length calls b.records, ap (λ (l : LimitsData). l.history) takes.limits);
-        counted = subst (λ (g : List Event). AreLedgers new workers g more) (sym history) counted;
+    pub passes_call : runtime.HasRoom r w s a → Passes (event_tests x h (event.Call w s a))
+    passes_call room = (known, (may.inside, (may.fits, (few, (room_there room, tt)))))
+
+    pub refuses_call : (told : Refusal) → Refuses (room_tests r w s a) told → Refuses (event_tests x h (event.Call w s a)) told
+    refuses_call told p = inr (
+      known,
+      inr (
+        may.inside,
+        inr (
+          may.fits,
+          inr (
+            few,
+            elim p [
+              | inl full ↦ inl ((λ room. full.0 (room_here room)), full.1)
+              | inr memory ↦ inr (room_there memory.0, memory.1)
+            ],
+          ),
+        ),
+      ),
+    )
+
+    -- what it leaves
+    module _ (new : RuntimeState) (same : new.book ≡ r.book) (counts : CountsHit r.book.definition w s a r.ledgers new.ledgers) where
+      pub machine_calls : IsMachine new (event.Call w s a ∷ h)
+      machine_calls = record {
+        limits = subst (λ (b : BookState). IsLimits b.limits) (sym same) is.limits;
+        records = ap (λ (b : BookState). b.records) same ∙ (is.records ∙ ap (λ (b : BookState). records b.definition h) (sym same));
+        few = omega (arith, few, ap (λ (b : BookState). b.limits.history) same);
+        counted = subst (λ (b : BookState). AreCounted b.definition (event.Call w s a ∷ h) new.ledgers) (sym same)
+            (call_counted r.book.definition h r.ledgers new.ledgers w s a link is.counted known hit counts);
       }
 
-  -- with a flush
-  pub machine_flushes : (new : BookState) (v : ℕ) (l flushed : LedgerState) → v < workers → l ≡ slice_index_or ledgers v l → flushed ≡ settled l → Takes b (length calls) (Flushed v (moved b.definition h v)) new
-      → AreHeld new.totals (slice_set ledgers l.worker flushed) → IsMachine new calls workers (slice_set ledgers v flushed) (joined calls new.records)
-  machine_flushes new v l flushed known read settles takes held =
-      let read_is = ledger_read b workers h ledgers v l is.counted known read in
-      let count : length l.unflushed ≡ length (links b.definition) = ap length (own_ledger v l known read).0 ∙ unflushed_length b.definition h v in
-      machine_grows new (Flushed v (moved b.definition h v)) (slice_set ledgers v flushed) takes refl
-      (set_ledgers b new workers h (Flush v ∷ h) ledgers v flushed is.counted known takes.definition takes.limits
-      (subst (λ (w : ℕ). AreHeld new.totals (slice_set ledgers w flushed)) read_is.1 held)
-      (ap (λ (x : LedgerState). x.limit) settles ∙ ap (λ (x : LedgerState). x.limit) read_is.0)
-      (ap (λ (x : LedgerState). x.unflushed) settles ∙ flush_empties b.definition h v l count)
-      (λ w j e. flush_of_others b.definition h v w j e))
+      workers_same : (l : Option ℕ) → IsHitLink r.book.definition s a l → length new.ledgers ≡ length r.ledgers
+      workers_same (Some k) is_hit = ap length (counts.hit k is_hit.1.0) ∙ length-set r.ledgers w (with_hit (ledger_at r.ledgers w) k)
+      workers_same None is_hit = ap length (counts.none is_hit)
 
-  -- the tests of a flush are those of what its ledger has
-  pub refuses_flush : (x : MachineState) (n w : ℕ) (l : LedgerState) (told : Refusal) → machine_of b calls workers ≡ x → n ≡ length calls → w < workers → l ≡ slice_index_or ledgers w l
-      → Refuses (tests b.definition b.limits (length b.records + n) b.records (Flushed l.worker (hits_in l.unflushed))) told → Refuses (event_tests x.setting x.history (Flush w)) told
-  refuses_flush x n w l told view count known read p =
-      subst (λ (y : MachineState). Refuses (event_tests y.setting y.history (Flush w)) told) view
-      (inr (known, refuses_there (Flushed w (moved b.definition h w)) told (refuses_same b n (length calls) (Flushed l.worker (hits_in l.unflushed)) (Flushed w (moved b.definition h w)) told count (flush_is w l known read) p)))
-
-  -- the same beside what is seen of the machine, where this is the number of its calls
-  module _ (x : MachineState) (n : ℕ) (view : machine_of b calls workers ≡ x) (count : n ≡ length calls) (e : Record) where
-    pub passes_record : Passes (record_tests x.setting x.history e) → Passes (tests b.definition b.limits (length b.records + n) b.records e)
-    passes_record p = passes_same b (length calls) n e e (sym count) refl (passes_here e (subst (λ (y : MachineState). Passes (record_tests y.setting y.history e)) (sym view) p))
-
-    pub passes_event : Passes (tests b.definition b.limits (length b.records + n) b.records e) → Passes (record_tests x.setting x.history e)
-    passes_event p = subst (λ (y : MachineState). Passes (record_tests y.setting y.history e)) view (passes_there e (passes_same b n (length calls) e e count refl p))
-
-    pub refuses_event : (told : Refusal) → Refuses (tests b.definition b.limits (length b.records + n) b.records e) told → Refuses (record_tests x.setting x.history e) told
-    refuses_event told p = subst (λ (y : MachineState). Refuses (record_tests y.setting y.history e) told) view (refuses_there e told (refuses_same b n (length calls) e e told count refl p))
-
-    pub view_takes : (new : BookState) → Takes b n e new → machine_of new calls workers ≡ extended x (event_of e)
-    view_takes new takes = view_grows new e (takes_same b new n (length calls) e e count refl takes) ∙ ap (λ (y : MachineState). extended y (event_of e)) view
-
-    -- a record that leaves the ledgers and the totals
-    pub machine_takes : (new : BookState) → Takes b n e new → e ∷ records b.definition h ≡ records b.definition (event_of e ∷ h)
-        → ((w j : ℕ) → unflushed b.definition (event_of e ∷ h) w j ≡ unflushed b.definition h w j) → new.totals ≡ b.totals → IsMachine new calls workers ledgers (joined calls new.records)
-    machine_takes new takes same counts totals =
-        machine_grows new e ledgers (takes_same b new n (length calls) e e count refl takes) same
-        (same_ledgers b new workers h (event_of e ∷ h) ledgers is.counted takes.definition takes.limits totals counts)
-
-  -- with one call more
-  pub machine_calls : (c : AcceptedCall) (more : List LedgerState) → c.place ≡ length b.records → length h < b.limits.history
-      → AreLedgers b workers (event_of_call c ∷ h) more → IsMachine b (c ∷ calls) workers more (joined (c ∷ calls) b.records)
-  machine_calls c more place few counted =
-      let history : joined (c ∷ calls) b.records ≡ event_of_call c ∷ h = joined_call c calls b.records place in
-      record {
-        records = is.records ∙ ap (records b.definition) (sym history);
-        placed = omega (arith, place);
-        few = omega (arith, few, ap length history);
-        counted = subst (λ (g : List Event). AreLedgers b workers g more) (sym history) counted;
-      }
-
-  pub view_calls : (c : AcceptedCall) → c.place ≡ length b.records → machine_of b (c ∷ calls) workers ≡ extended (machine_of b calls workers) (event_of_call c)
-  view_calls c place = ap (λ (g : List Event). record { setting = setting_of b workers; history = g }) (joined_call c calls b.records place)
+      pub view_calls : machine_of new (event.Call w s a ∷ h) ≡ extended (machine_of r h) (event.Call w s a)
+      view_calls =
+          ap (λ (b : BookState). machine_of record { book = b; ledgers = new.ledgers } (event.Call w s a ∷ h)) same
+          ∙ ap (λ (k : ℕ). record { setting = record { definition = r.book.definition; workers = k; limits = r.book.limits }; history = event.Call w s a ∷ h }) (workers_same link hit)
 
 -- before any event
-pub machine_opened : (d : DefinitionData) (l : LimitsData) (b : BookState) (calls : List AcceptedCall) (workers : ℕ) (ledgers : List LedgerState) → b ≡ opened_book d workers l → calls ≡ []
-    → ledgers ≡ map (opened_ledger (length (links d)) l.ledger) (range_with_len 0 workers) → AreHeld b.totals ledgers → IsMachine b calls workers ledgers (joined calls b.records)
-machine_opened d l b calls workers ledgers is none opened held =
-    let history : joined calls b.records ≡ [] = ap (λ (cs : List AcceptedCall). joined cs b.records) none ∙ ap (λ (x : BookState). joined [] x.records) is in
-    record {
-      records = ap (λ (x : BookState). x.records) is ∙ ap (records b.definition) (sym history);
-      placed = subst (λ (cs : List AcceptedCall). ArePlaced cs b.records) (sym none) tt;
-      few = omega (arith, ap length history);
-      counted = subst (λ (g : List Event). AreLedgers b workers g ledgers) (sym history)
-          (opened_ledgers b workers ledgers held
-          (opened ∙ ap (λ (x : BookState). map (opened_ledger (length (links x.definition)) x.limits.ledger) (range_with_len 0 workers)) (sym is)));
-    }
+pub machine_opened : (d : DefinitionData) (l : LimitsData) (workers : ℕ) → IsLimits l → IsMachine (opened_runtime d workers l) []
+machine_opened d l workers limits = record { limits = limits; records = refl; few = omega arith; counted = opened_counted d l.ledger workers }
+
+pub view_opened : (d : DefinitionData) (l : LimitsData) (workers : ℕ)
+    → machine_of (opened_runtime d workers l) [] ≡ record { setting = record { definition = d; workers = workers; limits = l }; history = [] }
+view_opened d l workers =
+    ap (λ (k : ℕ). record { setting = record { definition = d; workers = k; limits = l }; history = [] }) (length-map-range_with_len (opened_ledger (length (links d)) l.ledger) 0 workers)
 
 -- a record that is no flush is the one of its event, which leaves what was counted
 pub record IsOwn (x : Setting) (h : List Event) (e : Record) : Type 0 where
@@ -191,23 +170,70 @@ own_event x h Snapped other = record { passes = λ p. p; refuses = λ told p. p;
 own_event x h (Published n plan) other = record { passes = λ p. p; refuses = λ told p. p; answer = refl; records = refl; unflushed = λ w j. refl }
 own_event x h (Installed m) other = record { passes = λ p. p; refuses = λ told p. p; answer = refl; records = refl; unflushed = λ w j. refl }
 
--- a book that is not full leaves room in the history
-pub room_left : (b : BookState) (calls : List AcceptedCall) (workers n : ℕ) (x : MachineState) → machine_of b calls workers ≡ x → n ≡ length calls → length b.records + n < b.limits.history → length x.history < x.setting.limits.history
-room_left b calls workers n x view count few =
-    omega (arith, few, count, joined_length calls b.records, ap (λ (y : MachineState). y.setting.limits.history) view, ap (λ (y : MachineState). length y.history) view)
+-- ---- beside what is seen of a machine
+module _ (r : RuntimeState) (h : List Event) (is : IsMachine r h) (m : MachineState) (view : machine_of r h ≡ m) (n : ℕ) (seen : length (records m.setting.definition m.history) + n ≡ length m.history) where
+  -- the calls beside the records
+  pub calls_beside : length r.book.records + n ≡ length h
+  calls_beside =
+      omega (
+        arith,
+        seen,
+        ap length is.records,
+        ap (λ (y : MachineState). length (records y.setting.definition y.history)) view,
+        ap (λ (y : MachineState). length y.history) view,
+      )
 
--- the room of a call is that of the one link that it hits
-pub room_is : (x : Setting) (h : List Event) (w s : ℕ) (a : List Value) (k : ℕ) → IsHitLink x.definition s a (Some k) → HasRoom x h w s a ↔ (unflushed x.definition h w k < x.limits.ledger)
-room_is x h w s a k hit = (
-  λ room. room k hit.0 hit.1.0,
-  λ few j _ other. subst (λ i. unflushed x.definition h w i < x.limits.ledger) (sym (hit.1.1 j other)) few,
-)
+  -- a record that is no flush
+  module _ (e : Record) (other : IsNoFlush e) (new : RuntimeState) (ledgers : new.ledgers ≡ r.ledgers) where
+    own : IsOwn (machine_of r h).setting h e
+    own = own_event (machine_of r h).setting h e other
 
--- a call that hits no link has room
-pub room_free : (x : Setting) (h : List Event) (w s : ℕ) (a : List Value) → IsHitLink x.definition s a None → HasRoom x h w s a
-room_free x h w s a none j _ hit = let no : hits x.definition s a j ≡ false = none j in cc
+    module _ (takes : Takes r.book n e new.book) (g : List Event) (noted : g ≡ event_of e ∷ h) where
+      pub machine_takes : IsMachine new g
+      machine_takes =
+          subst (IsMachine new) (sym noted)
+          (grows r h is n calls_beside e new takes own.records
+          (subst (AreCounted r.book.definition (event_of e ∷ h)) (sym ledgers) (same_counted r.book.definition h (event_of e ∷ h) r.ledgers is.counted own.unflushed)))
 
--- the link that a call hits is one of so many
-pub link_inside : (d : DefinitionData) (s : ℕ) (a : List Value) (link : Option ℕ) (n : ℕ) → IsHitLink d s a link → n ≡ length (links d) → IfSome link (λ j. j < n)
-link_inside d s a (Some j) n hit count = omega (arith, hit.0, count)
-link_inside d s a None n hit count = tt
+      pub machine_accepts : (reply : Reply) → reply ≡ reply_to r.book.definition r.book.records e → IsAccepted m (event_of e) reply (machine_of new g)
+      machine_accepts reply answers = subst (λ (y : MachineState). IsAccepted y (event_of e) reply (machine_of new g)) view record {
+        passes = own.passes (passes r h is n calls_beside e takes.passes);
+        answers = answers ∙ (ap (λ (k : List Record). reply_to r.book.definition k e) is.records ∙ sym own.answer);
+        taken = ap (machine_of new) noted ∙ view_grows r h is n calls_beside e new takes (ap length ledgers);
+      }
+
+    pub machine_rejects : (told : Refusal) → Rejects r.book n e told new.book → IsRefused m (event_of e) told (machine_of new h)
+    machine_rejects told rejects = subst (λ (y : MachineState). IsRefused y (event_of e) told (machine_of new h)) view record {
+      refuses = own.refuses told (refuses r h is n calls_beside e told rejects.refuses);
+      same =
+          ap (λ (b : BookState). machine_of record { book = b; ledgers = new.ledgers } h) rejects.same
+          ∙ ap (λ (k : ℕ). record { setting = record { definition = r.book.definition; workers = k; limits = r.book.limits }; history = h }) (ap length ledgers);
+    }
+
+  -- a flush
+  module _ (w : ℕ) (new : RuntimeState) where
+    abbrev flushed : Record
+    flushed = flush_of r w
+
+    module _ (known : w < length r.ledgers) (takes : Takes r.book n flushed new.book) (ledgers : new.ledgers ≡ slice_set r.ledgers w (settled (ledger_at r.ledgers w))) (g : List Event) (noted : g ≡ event.Flush w ∷ h) where
+      pub machine_flushes : IsMachine new g
+      machine_flushes =
+          subst (IsMachine new) (sym noted)
+          (grows r h is n calls_beside flushed new takes (ap (λ (e : Record). e ∷ records r.book.definition h) (flush_is r h is w known))
+          (subst (AreCounted r.book.definition (event.Flush w ∷ h)) (sym ledgers) (flush_counted r.book.definition h r.ledgers w is.counted known)))
+
+      pub flush_accepts : IsAccepted m (event.Flush w) answers.Done (machine_of new g)
+      flush_accepts = subst (λ (y : MachineState). IsAccepted y (event.Flush w) answers.Done (machine_of new g)) view record {
+        passes = (known, subst (λ (e : Record). Passes (record_tests (machine_of r h).setting h e)) (flush_is r h is w known) (passes r h is n calls_beside flushed takes.passes));
+        answers = refl;
+        taken = ap (machine_of new) noted ∙ view_grows r h is n calls_beside flushed new takes (ap length ledgers ∙ length-set r.ledgers w (settled (ledger_at r.ledgers w)));
+      }
+
+    pub flush_rejects : (told : Refusal) → RefusesFlush r n w told → new ≡ r → IsRefused m (event.Flush w) told (machine_of new h)
+    flush_rejects told p same = subst (λ (y : MachineState). IsRefused y (event.Flush w) told (machine_of new h)) view record {
+      refuses = elim p [
+        | inl none ↦ inl none
+        | inr there ↦ inr (there.0, subst (λ (e : Record). Refuses (record_tests (machine_of r h).setting h e) told) (flush_is r h is w there.0) (refuses r h is n calls_beside flushed told there.1))
+      ];
+      same = ap (λ (y : RuntimeState). machine_of y h) same;
+    }

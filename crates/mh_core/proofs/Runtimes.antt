@@ -1,5 +1,5 @@
 -- What a runtime keeps when it is opened and at a flush.
-use Rattle.std.proofs.Common.{◌≡◌, ◌≢◌, inl, inr, ℕ, ◌<◌, List, [], length, map, slice_index_or, slice_set, ap, sym, subst, ◌∙◌, arith}
+use Rattle.std.proofs.Common.{◌≡◌, ◌≢◌, inl, inr, ℕ, ◌<◌, List, length, map, slice_index_or, slice_set, ap, sym, subst, ◌∙◌, arith}
 use Rattle.std.specs.List.{range_with_len}
 use Rattle.std.proofs.lemmas.Bool.{cases_eq}
 use Rattle.std.proofs.lemmas.List.{get_or_default, get_or-set_other, get_or-set_same, length-replicate, length-set}
@@ -13,20 +13,24 @@ use Rattle.mh_core.specs.Books.{BookState, MayRefuse, opened_book}
 use Rattle.mh_core.specs.Limits.{LimitsData}
 use Rattle.mh_core.specs.Records.{hits_in}
 use Rattle.mh_core.specs.Runtimes.{IsRuntime, RefusesFlush, RuntimeState}
-use Rattle.mh_core.proofs.Ledgered.{opened_ledgers, unflushed_length}
+use Rattle.std.proofs.lemmas.List.FromFn.{get_or-map-range_with_len, length-map-range_with_len}
 
 -- before any call
 pub runtime_opened : (d : DefinitionData) (l : LimitsData) (b : BookState) (workers : ℕ) (ledgers : List LedgerState) → b ≡ opened_book d workers l
-    → ledgers ≡ map (opened_ledger (length (links d)) l.ledger) (range_with_len 0 workers) → AreHeld b.totals ledgers → IsRuntime b ledgers
+    → ledgers ≡ map (opened_ledger (length (links d)) l.ledger) (range_with_len 0 workers) → AreHeld b.totals ledgers → IsRuntime b ledgers × (length ledgers ≡ workers)
 runtime_opened d l b workers ledgers is opened held =
-    let are =
-    opened_ledgers b workers ledgers held
-    (opened ∙ ap (λ (x : BookState). map (opened_ledger (length (links x.definition)) x.limits.ledger) (range_with_len 0 workers)) (sym is)) in
-    record {
-      held = held;
-      links = λ w inside. ap length (are.unflushed w (omega (arith, inside, are.count))) ∙ unflushed_length b.definition [] w;
-      limit = λ w inside. are.limit w (omega (arith, inside, are.count));
-    }
+    let n = length (links d) in
+    let make = opened_ledger n l.ledger in
+    let count : length ledgers ≡ workers = ap length opened ∙ length-map-range_with_len make 0 workers in
+    let each : (w : ℕ) → w < length ledgers → ledger_at ledgers w ≡ make w =
+    λ w inside. ap (λ ls. ledger_at ls w) opened ∙ get_or-map-range_with_len make 0 workers w w no_ledger (omega (arith, inside, count)) (omega arith) in (
+      record {
+        held = held;
+        links = λ w inside. ap (λ (x : LedgerState). length x.unflushed) (each w inside) ∙ (length-replicate n 0 ∙ ap (λ (x : BookState). length (links x.definition)) (sym is));
+        limit = λ w inside. ap (λ (x : LedgerState). x.limit) (each w inside) ∙ ap (λ (x : BookState). x.limits.ledger) (sym is);
+      },
+      count,
+    )
 
 module _ (b : BookState) (ledgers : List LedgerState) (is : IsRuntime b ledgers) (v : ℕ) (l : LedgerState) (known : v < length ledgers) (read : l ≡ slice_index_or ledgers v l) where
   own : l ≡ ledger_at ledgers v
@@ -66,8 +70,8 @@ module _ (b : BookState) (ledgers : List LedgerState) (is : IsRuntime b ledgers)
       ]
 
   -- the tests of a flush are those of what the ledger has
-  pub refuses_flush : (r : RuntimeState) (told : Refusal) → record { book = b; ledgers = ledgers } ≡ r → MayRefuse b 0 (Flushed l.worker (hits_in l.unflushed)) told → RefusesFlush r v told
-  refuses_flush r told view p =
+  pub refuses_flush : (r : RuntimeState) (n : ℕ) (told : Refusal) → record { book = b; ledgers = ledgers } ≡ r → MayRefuse b n (Flushed l.worker (hits_in l.unflushed)) told → RefusesFlush r n v told
+  refuses_flush r n told view p =
       let entry : Flushed l.worker (hits_in l.unflushed) ≡ Flushed v (hits_in (ledger_at ledgers v).unflushed) =
       ap (λ (w : ℕ). Flushed w (hits_in l.unflushed)) worker ∙ ap (λ (x : LedgerState). Flushed v (hits_in x.unflushed)) own in
-      subst (λ (x : RuntimeState). RefusesFlush x v told) view (inr (known, subst (λ (e : Record). MayRefuse b 0 e told) entry p))
+      subst (λ (x : RuntimeState). RefusesFlush x n v told) view (inr (known, subst (λ (e : Record). MayRefuse b n e told) entry p))

@@ -1,19 +1,15 @@
 -- What contracts see of a book, and what books and machines keep.
 use Rattle.std.specs.Prelude.{◌≡◌, ℕ, ◌+◌, ◌<◌, ◌≤◌, Bool, false, List, [], ◌∷◌, length}
-use Rattle.mh_ledger.specs.Ledgers.{LedgerState, TotalsState, AreHeld, at, ledger_at, opened_totals}
+use Rattle.mh_ledger.specs.Ledgers.{TotalsState, at, opened_totals}
 use Rattle.mh_site.specs.Defined.{DefinitionData}
 use Rattle.mh_site.specs.Lawful.{IsDefinition}
 use Rattle.mh_site.specs.Links.{links}
 use Rattle.mh_site.specs.Worlds.{WorldState, opened}
-use Rattle.mh_core.specs.declared.call.AcceptedCall.{AcceptedCall}
-use Rattle.mh_core.specs.declared.event.Event.{Event}
 use Rattle.mh_core.specs.declared.record.Record.{Record}
 use Rattle.mh_core.specs.declared.record.Record.TheVariants.{Flushed, Targeted, Invalidated, Snapped, Published, Installed}
 use Rattle.mh_core.specs.declared.refusal.Refusal.{Refusal}
 use Rattle.mh_core.specs.declared.reply.Reply.{Reply}
 use Rattle.mh_core.specs.declared.reply.Reply.TheVariants as reply
-use Rattle.mh_core.specs.Histories.{records, ArePlaced}
-use Rattle.mh_core.specs.Hits.{unflushed_hits}
 use Rattle.mh_core.specs.Limits.{LimitsData, IsLimits}
 use Rattle.mh_core.specs.Installations.{PublishedPlan, report}
 use Rattle.mh_core.specs.PlanTables.{plans_of}
@@ -90,17 +86,3 @@ pub record Takes (b : BookState) (calls : ℕ) (e : Record) (new : BookState) : 
 pub record Rejects (b : BookState) (calls : ℕ) (e : Record) (told : Refusal) (new : BookState) : Type 0 where
   pub refuses : MayRefuse b calls e told
   pub same : new ≡ b
-
--- each worker's ledger has the hits of its calls since its last flush, and the totals hold it
-pub record AreLedgers (b : BookState) (workers : ℕ) (h : List Event) (ledgers : List LedgerState) : Type 0 where
-  pub count : length ledgers ≡ workers
-  pub held : AreHeld b.totals ledgers
-  pub unflushed : (w : ℕ) → w < workers → (ledger_at ledgers w).unflushed ≡ unflushed_hits b.definition h w
-  pub limit : (w : ℕ) → w < workers → (ledger_at ledgers w).limit ≡ b.limits.ledger
-
--- a machine's book has the records of its history, which is within the limit
-pub record IsMachine (b : BookState) (calls : List AcceptedCall) (workers : ℕ) (ledgers : List LedgerState) (h : List Event) : Type 0 where
-  pub records : b.records ≡ records b.definition h
-  pub placed : ArePlaced calls b.records
-  pub few : length h ≤ b.limits.history
-  pub counted : AreLedgers b workers h ledgers

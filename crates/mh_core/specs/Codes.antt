@@ -26,8 +26,11 @@ coded_book =
     (λ b. ((b.definition, b.limits), ((b.records, b.world), ((b.totals, b.room), (b.snapshots, b.plans)))))
     (λ p. record { definition = p.0.0; limits = p.0.1; records = p.1.0.0; world = p.1.0.1; totals = p.1.1.0.0; snapshots = p.1.1.1.0; plans = p.1.1.1.1; room = p.1.1.0.1 }) (λ _. refl)
 
+abbrev pub coded_events : Coded (List Event)
+coded_events = coded_list event.the_row.coded
+
 abbrev pub coded_machine : Coded MachineState
 coded_machine =
-    code_by ((DefinitionData × (ℕ × LimitsData)) × List Event) (coded× (coded× coded_definition (coded× coded_ℕ coded_limits)) (coded_list event.the_row.coded))
+    code_by ((DefinitionData × (ℕ × LimitsData)) × List Event) (coded× (coded× coded_definition (coded× coded_ℕ coded_limits)) coded_events)
     (λ m. ((m.setting.definition, (m.setting.workers, m.setting.limits)), m.history))
     (λ p. record { setting = record { definition = p.0.0; workers = p.0.1.0; limits = p.0.1.1 }; history = p.1 }) (λ _. refl)

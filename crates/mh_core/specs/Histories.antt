@@ -1,7 +1,6 @@
 -- Histories: the accepted events, newest first.
-use Rattle.std.specs.Prelude.{◌-◌, ◌≤◌, List, [], ◌∷◌, ◌++◌, map, length, take, drop}
+use Rattle.std.specs.Prelude.{List, [], ◌∷◌}
 use Rattle.mh_site.specs.Defined.{DefinitionData}
-use Rattle.mh_core.specs.declared.call.AcceptedCall.{AcceptedCall}
 use Rattle.mh_core.specs.declared.event.Event.{Event}
 use Rattle.mh_core.specs.declared.event.Event.TheVariants.{Call, Flush, Target, Invalidate, Snapshot, Publish, Install}
 use Rattle.mh_core.specs.declared.record.Record.{Record}
@@ -27,13 +26,3 @@ event_of (Invalidated points) = Invalidate points
 event_of Snapped = Snapshot
 event_of (Published n plan) = Publish n plan
 event_of (Installed m) = Install m
-
--- calls among records, both newest first: each call stands behind as many records as its place says
-abbrev pub joined : List AcceptedCall → List Record → List Event
-joined [] r = map event_of r
-joined (c ∷ calls) r = map event_of (take (length r - c.place) r) ++ Call c.worker c.site c.arguments ∷ joined calls (drop (length r - c.place) r)
-
--- no call has more records before it than there are
-abbrev pub ArePlaced : List AcceptedCall → List Record → Type 0
-ArePlaced [] r = Unit {0}
-ArePlaced (c ∷ calls) r = c.place ≤ length r

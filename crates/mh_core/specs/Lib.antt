@@ -10,6 +10,7 @@ pub mod Tables
 pub mod Rows
 pub mod Hits
 pub mod Histories
+pub mod Callers
 pub mod Legal
 pub mod Steps
 pub mod Snapshots
@@ -19,13 +20,13 @@ pub mod Standing
 pub mod State
 pub mod Codes
 pub mod BookViews
-pub mod MachineViews
 pub mod Runtimes
+pub mod Machines
+pub mod MachineViews
 pub mod RuntimeCodes
 pub mod RuntimeViews
 pub mod ArgumentViews
 pub mod Pasts
-pub mod CallViews
 pub use Rattle.mh_base.specs.Tests
 pub use Rattle.mh_cert.specs.Plans
 pub use Rattle.mh_ledger.specs.Ledgers

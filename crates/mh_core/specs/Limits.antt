@@ -5,10 +5,6 @@ use Rattle.std.specs.Prelude.{ℕ, ◌≤◌, ◌^◌}
 abbrev pub most_events : ℕ
 most_events = 2 ^ 20
 
--- what a list of calls is shorter than, before one is added
-abbrev pub most_calls : ℕ
-most_calls = 2 ^ 63
-
 -- the most hits of a link that a worker may hold, and that the totals may hold
 abbrev pub most_held : ℕ
 most_held = 2 ^ 20

@@ -1,7 +1,6 @@
 -- Changes that a book has made ready: all tests and growths are behind them.
 use Rattle.std.specs.Prelude.{◌≡◌, ℕ, true, Option, Some, None, refl}
-use Rattle.std.specs.Coded.{Coded, code_by, coded×, coded_option, coded_ℕ}
-use Rattle.mh_site.specs.contracts.control.Control as controls
+use Rattle.std.specs.Coded.{Coded, code_by, coded×, coded_ℕ}
 use Rattle.mh_site.specs.declared.control.Control.{Control}
 use Rattle.mh_site.specs.declared.control.Control.TheVariants as control
 use Rattle.mh_core.specs.contracts.pending.Effect as effects
@@ -16,12 +15,10 @@ use Rattle.mh_core.specs.Books.{BookState, MayTake, reply_to}
 use Rattle.mh_core.specs.Replayed.{changes}
 use Rattle.mh_core.specs.Snapshots.{snapshot_of}
 
--- the record that will be appended, what it changes beside the records, what is left of that for a further world, its answer,
--- and how many calls were accepted beside the records
+-- the record that will be appended, what it changes beside the records, its answer, and how many calls were accepted beside the records
 pub record PendingState : Type 0 where
   pub entry : Record
   pub effect : Effect
-  pub published : Option Control
   pub reply : Reply
   pub calls : ℕ
 
@@ -62,7 +59,7 @@ SameBook old new = new ≡ record old { room = new.room }
 
 abbrev pub coded_pending : Coded PendingState
 coded_pending =
-    code_by (((Record × Effect) × Option Control) × (Reply × ℕ))
-    (coded× (coded× (coded× entries.the_row.coded effects.the_row.coded) (coded_option controls.the_row.coded)) (coded× replies.the_row.coded coded_ℕ))
-    (λ p. (((p.entry, p.effect), p.published), (p.reply, p.calls)))
-    (λ p. record { entry = p.0.0.0; effect = p.0.0.1; published = p.0.1; reply = p.1.0; calls = p.1.1 }) (λ _. refl)
+    code_by ((Record × Effect) × (Reply × ℕ))
+    (coded× (coded× entries.the_row.coded effects.the_row.coded) (coded× replies.the_row.coded coded_ℕ))
+    (λ p. ((p.entry, p.effect), (p.reply, p.calls)))
+    (λ p. record { entry = p.0.0; effect = p.0.1; reply = p.1.0; calls = p.1.1 }) (λ _. refl)

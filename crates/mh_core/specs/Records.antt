@@ -1,5 +1,5 @@
 -- What is so after a list of records, newest first: by looking back for the last that tells.
-use Rattle.std.specs.Prelude.{ℕ, ◌+◌, ◌==◌, Bool, true, not, ◌&&◌, List, [], ◌∷◌, map, filter, length, if◌then◌else◌}
+use Rattle.std.specs.Prelude.{ℕ, ◌+◌, ◌==◌, Bool, not, List, [], ◌∷◌, map, filter, length, if◌then◌else◌}
 use Rattle.std.specs.List.{range_with_len}
 use Rattle.mh_tree.specs.Handle.{TypedTree}
 use Rattle.mh_network.specs.Sums.{amount_at}

@@ -38,9 +38,13 @@ pub record IsRuntime (b : BookState) (ledgers : List LedgerState) : Type 0 where
 abbrev pub HasRoom : RuntimeState → ℕ → ℕ → List Value → Type 0
 HasRoom r w s a = (j : ℕ) → hits r.book.definition s a j ≡ true → at (ledger_at r.ledgers w).unflushed j < r.book.limits.ledger
 
+-- the tests of a call that its worker's hits decide
+abbrev pub room_tests : RuntimeState → ℕ → ℕ → List Value → Tests Refusal
+room_tests r w s a = test (HasRoom r w s a) (only LedgerFull) memory_last
+
 -- the tests of a call, in order
 abbrev pub call_tests : RuntimeState → ℕ → ℕ → List Value → Tests Refusal
-call_tests r w s a = callee_tests r.book.definition (length r.ledgers) w s a (test (HasRoom r w s a) (only LedgerFull) memory_last)
+call_tests r w s a = callee_tests r.book.definition (length r.ledgers) w s a (room_tests r w s a)
 
 -- the worker's ledger has one hit more of the link that is hit, and of no other
 pub record CountsHit (d : DefinitionData) (w s : ℕ) (a : List Value) (old new : List LedgerState) : Type 0 where
@@ -55,6 +59,6 @@ TakesNoMemory b s a = EntersPlain (linked_sites b.definition b.records) (linked 
 abbrev pub flush_of : RuntimeState → ℕ → Record
 flush_of r w = Flushed w (hits_in (ledger_at r.ledgers w).unflushed)
 
--- there is no such worker, or the first failing test of its flush is told
-abbrev pub RefusesFlush : RuntimeState → ℕ → Refusal → Type 0
-RefusesFlush r w told = ((w < length r.ledgers → ⊥) × (told ≡ NoWorker)) ⊎ ((w < length r.ledgers) × MayRefuse r.book 0 (flush_of r w) told)
+-- there is no such worker, or the first failing test of its flush is told, where so many calls were accepted beside the records
+abbrev pub RefusesFlush : RuntimeState → ℕ → ℕ → Refusal → Type 0
+RefusesFlush r calls w told = ((w < length r.ledgers → ⊥) × (told ≡ NoWorker)) ⊎ ((w < length r.ledgers) × MayRefuse r.book calls (flush_of r w) told)

@@ -1,5 +1,5 @@
 -- Worlds whose trees calls can run.
-use Rattle.std.specs.Prelude.{◌≡◌, ℕ, ◌<◌, ◌≤◌, Bool, List, length}
+use Rattle.std.specs.Prelude.{◌≡◌, ℕ, ◌<◌, ◌≤◌, List, length}
 use Rattle.mh_type.specs.declared.value.Value.{Value}
 use Rattle.mh_type.specs.Fits.{Fits}
 use Rattle.mh_tree.specs.Limits.{greatest_level, point_bound}
@@ -25,3 +25,9 @@ pub record IsStanding (d : DefinitionData) (w : WorldState) (s : ℕ) : Type 0 w
 
 abbrev pub AreStanding : DefinitionData → WorldState → Type 0
 AreStanding d w = (s : ℕ) → s < length d.sites → IsStanding d w s
+
+-- a world of the definition: it has its sites and its points, and calls can run its trees
+pub record IsWorldOf (d : DefinitionData) (w : WorldState) : Type 0 where
+  pub sites : length w.sites ≡ length d.sites
+  pub points : length w.valid ≡ length d.points
+  pub standing : AreStanding d w

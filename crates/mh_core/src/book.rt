@@ -1,6 +1,6 @@
 //! Books: the records of accepted events, and what was made of them.
 
-ghost use Rattle.std.specs.Prelude.{◌≡◌, ◌⊎◌, ◌+◌, ℕ, List, length, map, reverse, slice_set, OnOk, OnErr, IfOk, IfErr, IsTrue, ◌↔◌};
+ghost use Rattle.std.specs.Prelude.{◌≡◌, ◌⊎◌, ◌+◌, ◌<◌, ℕ, List, length, map, reverse, slice_index_or, slice_set, OnOk, OnErr, IfOk, IfErr, IsTrue, ◌↔◌};
 ghost use Rattle.std.specs.List.{range_with_len};
 ghost use Rattle.mh_ledger.specs.Ledgers.{AreHeld, Holds, LedgerState, opened_ledger, settled};
 ghost use Rattle.mh_site.specs.Links.{links as links_of};
@@ -136,6 +136,15 @@ impl Book {
         ensures book { IsBook self.now }
     {
         self.records.as_slice()
+    }
+
+    // The record that was taken last.
+    pub(crate) fn newest(&self) -> &Record
+        requires some { 0 < length self.now.records }
+        ensures value { result.now ≡ slice_index_or self.now.records 0 result.now }
+    {
+        let records = self.records.as_slice();
+        &records[records.len() - 1]
     }
 
     /// The world after the records.

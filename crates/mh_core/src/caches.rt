@@ -1,12 +1,13 @@
 //! The links of a plan that an installation can use, and the inline caches that they make.
 
-ghost use Rattle.std.specs.Prelude.{◌≡◌, ◌<◌, ◌≤◌, ◌&&◌, not, nat_lt, length, map, IfOk};
+ghost use Rattle.std.specs.Prelude.{◌≡◌, ◌<◌, ◌≤◌, ◌&&◌, ◌||◌, not, nat_lt, filter, length, map, IfOk};
 ghost use Rattle.std.specs.List.{All};
 ghost use Rattle.std.specs.List.Sorted.{IsStrictlyIncreasing};
 ghost use Rattle.mh_network.specs.Selection.{member};
+ghost use Rattle.mh_site.specs.Limits.{most_links};
 ghost use Rattle.mh_site.specs.Links.{links as links_of, site_of as site_of_link};
 ghost use Rattle.mh_core.specs.Books.{IsBook};
-ghost use Rattle.mh_core.specs.Installations.{IsPublished, cached, chosen, entry as entry_of, is_concerned as concerns, is_current as is_current_at, kept, left_out as left_out_of, plan_at, usable as usable_of};
+ghost use Rattle.mh_core.specs.Installations.{IsPublished, cached, chosen as chosen_of, entry as entry_of, is_current as is_current_at, kept, left_out as left_out_of, plan_at, usable as usable_of};
 ghost use Rattle.mh_core.specs.Problems.{is_eligible as is_eligible_after};
 ghost use Rattle.mh_core.specs.Records.{base};
 
@@ -86,55 +87,46 @@ impl Book {
         Ok(Entry::new(key, needs))
     }
 
-    // The links of a site that a plan has and whose needs are all valid.
-    pub(crate) fn usable(&self, plan: usize, site: usize) -> KeptLinks
+    // The links of a site that a plan has.
+    pub(crate) fn chosen(&self, plan: usize, site: usize) -> KeptLinks
         requires published { IsPublished self.now.records plan }
         requires inside { site < length self.now.definition.sites }
-        ensures value { result.items ≡ usable_of self.now.definition self.now.records plan site }
+        ensures value { result.items ≡ chosen_of self.now.definition self.now.records plan site }
     {
-        let mut usable = KeptLinks::new();
+        let mut chosen = KeptLinks::new();
         let first = self.definition.first_link(site);
         for link in first..first + self.definition.links(site).len() {
-            if self.is_usable(plan, link) {
-                usable.push(link);
+            if self.has(plan, link) {
+                chosen.push(link);
+            }
+        }
+        chosen
+    }
+
+    // Those of some links of a site whose needs are all valid.
+    pub(crate) fn usable(&self, chosen: &[usize]) -> KeptLinks
+        requires few { length chosen.now ≤ most_links }
+        requires inside { All (λ j. j < length (links_of self.now.definition)) chosen.now }
+        ensures value { result.items
+            ≡ filter (is_eligible_after self.now.definition self.now.records) chosen.now }
+    {
+        let mut usable = KeptLinks::new();
+        for link in chosen {
+            if self.is_eligible(*link) {
+                usable.push(*link);
             }
         }
         usable
     }
 
-    // Whether a plan has a link, and its needs are all valid.
-    fn is_usable(&self, plan: usize, link: usize) -> bool
-        requires published { IsPublished self.now.records plan }
-        requires inside { link < length (links_of self.now.definition) }
-        ensures value { result ≡ (member (plan_at self.now.records plan).plan.links link &&
-            is_eligible_after self.now.definition self.now.records link) }
-    {
-        self.has(plan, link) && self.is_eligible(link)
-    }
-
-    // Whether an installation concerns a site: the plan has a link of it, or it holds links.
-    pub(crate) fn is_concerned(&self, plan: usize, site: usize) -> bool
-        requires published { IsPublished self.now.records plan }
+    // Whether an installation concerns a site of which a plan has these links: there are some, or
+    // the site holds links.
+    pub(crate) fn is_concerned(&self, site: usize, chosen: &[usize]) -> bool
         requires inside { site < length self.now.definition.sites }
-        ensures value { result ≡ concerns self.now.definition self.now.records plan site }
+        ensures value { result ≡ (nat_lt 0 (length chosen.now) ||
+            nat_lt 0 (length (kept self.now.definition self.now.records site))) }
     {
-        self.has_any(plan, site) || !self.world.kept(site).is_empty()
-    }
-
-    // Whether a plan has a link of a site.
-    fn has_any(&self, plan: usize, site: usize) -> bool
-        requires published { IsPublished self.now.records plan }
-        requires inside { site < length self.now.definition.sites }
-        ensures value { result ≡ nat_lt 0
-            (length (chosen self.now.definition self.now.records plan site)) }
-    {
-        let first = self.definition.first_link(site);
-        for link in first..first + self.definition.links(site).len() {
-            if self.has(plan, link) {
-                return true;
-            }
-        }
-        false
+        !chosen.is_empty() || !self.world.kept(site).is_empty()
     }
 
     // Whether a plan has a link. O(log links).

@@ -2,7 +2,7 @@
 
 ghost use Rattle.std.specs.Prelude.{◌≡◌, ◌<◌, ◌++◌, ◌∷◌, [], true, false, length, map, IfOk, OnOk};
 ghost use Rattle.mh_core.specs.Books.{reply_to};
-ghost use Rattle.mh_core.specs.Installations.{IsPublished, concerned, is_current, linkage_of, site_linkage};
+ghost use Rattle.mh_core.specs.Installations.{IsPublished, chosen as chosen_of, concerned, is_current, linkage_of, site_linkage};
 ghost use Rattle.mh_core.specs.Pending.{HasEffect};
 ghost use Rattle.mh_core.specs.Replayed.{changes, relinked};
 ghost use Rattle.mh_core.specs.declared.record.Record.TheVariants.{Installed};
@@ -42,24 +42,27 @@ impl Book {
         let mut sites = Vec::new(self.alloc);
         let mut relinkings = Vec::new(self.alloc);
         for site in 0..self.definition.sites().len() {
-            if self.is_concerned(plan, site) {
-                let linkage = self.link(plan, site, &mut relinkings)?;
+            let chosen = self.chosen(plan, site);
+            if self.is_concerned(site, chosen.as_slice()) {
+                let linkage = self.link(plan, site, chosen.as_slice(), &mut relinkings)?;
                 sites.push(SiteLinkage { site, linkage })?;
             }
         }
         Ok((Listing::from_vec(sites), relinkings))
     }
 
-    // Adds the new linked tree of a site, unless the installation skips it, and says what became
-    // of it.
+    // Adds the new linked tree of a site of which the plan has these links, unless the installation
+    // skips it, and says what became of it.
     fn link(
         &self,
         plan: usize,
         site: usize,
+        chosen: &[usize],
         relinkings: &mut Vec<Relinking>,
     ) -> Result<Linkage, NoMemory>
         requires published { IsPublished self.now.records plan }
         requires inside { site < length self.now.definition.sites }
+        requires chosen { chosen.now ≡ chosen_of self.now.definition self.now.records plan site }
         ensures linkage { IfOk result (λ l. record { site = site; linkage = l }
             ≡ site_linkage self.now.definition self.now.records plan site) }
         ensures linked { OnOk result (is_current self.now.records plan site ≡ true
@@ -71,10 +74,11 @@ impl Book {
         if !self.is_current(plan, site) {
             return Ok(Linkage::Skipped);
         }
-        let kept = self.usable(plan, site);
-        let linkage = linkage(kept.as_slice());
-        let linked = self.make_cache(plan, site, kept.as_slice())?;
-        relinkings.push(Relinking::new(site, linked, kept))?;
+        self.kept();
+        let usable = self.usable(chosen);
+        let linkage = linkage(usable.as_slice());
+        let linked = self.make_cache(plan, site, usable.as_slice())?;
+        relinkings.push(Relinking::new(site, linked, usable))?;
         Ok(linkage)
     }
 }

@@ -18,10 +18,10 @@
 mod arguments;
 mod book;
 mod caches;
-mod call;
-mod call_history;
+mod caller;
 mod event;
 mod flush;
+mod history;
 mod hits;
 mod install_report;
 mod installation;
@@ -41,6 +41,7 @@ mod testing;
 
 pub use arguments::Arguments;
 pub use book::Book;
+pub use caller::{CalleeFault, count, evaluate, has_room, test_callee};
 pub use event::Event;
 pub use hits::hit_link;
 pub use install_report::{InstallReport, Linkage, SiteLinkage};

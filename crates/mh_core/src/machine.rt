@@ -1,63 +1,57 @@
-//! Machines: a book with the calls of its workers and their ledgers, and the history of all.
+//! Machines: a runtime whose calls are in its history too.
 
-ghost use Rattle.std.specs.Prelude.{◌≡◌, ◌+◌, length, IfErr, IfOk, OnErr};
-ghost use Rattle.mh_core.specs.declared.reply.Reply.TheVariants.{Refused};
+ghost use Rattle.std.specs.Prelude.{◌≡◌, ◌<◌, ◌≤◌, ◌+◌, length, IfErr, IfOk, IsTrue, OnErr, ◌↔◌};
+ghost use Rattle.mh_cert.specs.Plans.{Matches};
+ghost use Rattle.mh_core.specs.declared.event.Event.TheVariants.{Call, Flush, Publish};
+ghost use Rattle.mh_core.specs.declared.reply.Reply.TheVariants.{Called, Refused};
 ghost use Rattle.mh_core.specs.Steps.{IsAccepted, IsNoCall, IsRefused, call_reply, reply_of};
-ghost use Rattle.mh_core.specs.declared.event.Event.TheVariants.{Flush};
 ghost use Rattle.mh_core.specs.Histories.{event_of, records};
 ghost use Rattle.mh_core.specs.Legal.{MachineState, Step, Run, TakesNoMemory, opened_machine};
 ghost use Rattle.mh_core.specs.Pending.{IsNoFlush};
+ghost use Rattle.mh_core.specs.Problems.{IsTaken, problem_at};
 
-mod call;
-mod events;
-
+use crate::arguments::Arguments;
 use crate::book::Book;
-use crate::call_history::CallHistory;
 use crate::event::Event;
+use crate::history::History;
 use crate::limits::Limits;
+use crate::plan::SharedPlan;
 use crate::record::Record;
 use crate::refusal::Refusal;
 use crate::reply::Reply;
-pub(crate) use call::{count_hit, evaluate_call, test_callee};
+use crate::runtime::Runtime;
 use mh_base::NoMemory;
-use mh_eval::Stack;
-use mh_ledger::Ledger;
 use mh_site::Definition;
 use mh_type::Outcome;
 use std::alloc::Global;
 use std::fmt;
 use std::marker::Model;
 
-/// A book with the ledgers of its workers, and the history of its accepted events with the workers'
-/// calls.
+/// A runtime with the history of its accepted events, in which its calls are.
 ///
-/// A contract sees what does not change, and the history, newest first: the book's records with the
-/// calls among them. Of the calls their number is kept, and the hits in the ledgers; all else of
-/// them stands in the proofs alone, so that a call takes no memory that stays.
+/// A contract sees what does not change, and the history, newest first. Code keeps the book's
+/// records, and of all events their number: else they stand in the proofs alone, so that a call
+/// takes no memory that stays.
 #[derive(Drop)]
 pub struct Machine {
     pub(crate) alloc: Global,
-    pub(crate) book: Book,
-    pub(crate) workers: u32,
-    pub(crate) ledgers: Vec<Ledger>,
-    pub(crate) calls: CallHistory,
-    pub(crate) stack: Stack,
+    pub(crate) runtime: Runtime,
+    pub(crate) history: History,
 }
 
 impl Model for Machine {
-    ghost use Rattle.mh_core.specs.Books.{IsMachine};
     ghost use Rattle.mh_core.specs.Legal.{MachineState};
     ghost use Rattle.mh_core.specs.Codes.{coded_machine};
+    ghost use Rattle.mh_core.specs.Machines.{IsMachine};
+    ghost use Rattle.mh_core.specs.MachineViews.{machine_state};
 
     ghost Value = { MachineState };
 
     ghost coded = { coded_machine };
 
-    ghost use Rattle.mh_core.specs.MachineViews.{machine_state};
-
     ghost view = { machine_state };
 
-    ghost invariant = { λ m. IsMachine m.book m.calls m.workers m.ledgers.items (machine_state m).history };
+    ghost invariant = { λ m. IsMachine m.runtime m.history };
 }
 
 /// How many calls it accepted, and its book.
@@ -79,15 +73,13 @@ impl Machine {
     ) -> Result<Machine, NoMemory>
         ensures value { IfOk result (λ m. m ≡ opened_machine definition.now workers limits) }
     {
-        let stack = Stack::new(alloc)?;
-        let (book, ledgers) = Book::open(alloc, definition, workers, limits)?;
+        let runtime = Runtime::open(alloc, definition, workers, limits)?;
+        runtime.book().kept();
+        let history = History::new();
         Ok(Machine {
             alloc,
-            book,
-            workers,
-            ledgers,
-            calls: CallHistory::new(),
-            stack,
+            runtime,
+            history,
         })
     }
 
@@ -98,7 +90,7 @@ impl Machine {
         ensures records { result.now.records
             ≡ records self.now.setting.definition self.now.history }
     {
-        &self.book
+        self.runtime.book()
     }
 
     /// The number of accepted calls.
@@ -106,21 +98,21 @@ impl Machine {
         ensures count { length (records self.now.setting.definition self.now.history) + result
             ≡ length self.now.history }
     {
-        self.calls.len()
+        self.history.len() - self.book().records().len()
     }
 
     /// The number of accepted events.
     pub fn accepted(&self) -> usize
         ensures count { result ≡ length self.now.history }
     {
-        self.book.records().len() + self.calls.len()
+        self.history.len()
     }
 
     /// The number of workers.
     pub fn workers(&self) -> u32
         ensures value { result ≡ self.now.setting.workers }
     {
-        self.workers
+        self.runtime.workers()
     }
 
     /// Answers one event. Where a test fails or memory is refused, nothing changes. A call of which
@@ -141,6 +133,56 @@ impl Machine {
         }
     }
 
+    /// What a worker's call of a site gives, and the number of nodes that it entered
+    /// (`MutableCallSite.dynamicInvoker`): its site's linked tree is run, and the hit of its link
+    /// is counted. It is `step` of the call.
+    ///
+    /// Refused with `NoWorker`, `NoSite`, `WrongType`, `HistoryFull`, `LedgerFull`, and then with
+    /// `NoMemory`; nothing changes.
+    #[inline(always)]
+    pub fn call(
+        &mut self,
+        worker: u32,
+        site: usize,
+        arguments: Arguments,
+    ) -> Result<(Outcome, u128), Refusal>
+        ensures accepted { IfOk result (λ p. IsAccepted self.old (Call worker site arguments)
+            (Called p.0 p.1) self.new) }
+        ensures refused { IfErr result (λ told. IsRefused self.old (Call worker site arguments)
+            told self.new) }
+        ensures memory { TakesNoMemory self.old.setting self.old.history
+            (Call worker site arguments) → IfErr result (λ told. told ≡ Refusal.NoMemory → ⊥) }
+    {
+        let values = arguments.as_slice();
+        let link = self.runtime.test_callee(worker, site, values)?;
+        if self.is_full() {
+            return Err(Refusal::HistoryFull);
+        }
+        let (outcome, steps) = self.runtime.answer(worker, site, link, values)?;
+        self.history.add_call(worker, site, arguments);
+        Ok((outcome, steps))
+    }
+
+    /// Publishes a plan that is known to match the problem of a snapshot: it is `step` of the
+    /// publication, which does not check the plan anew. O(1).
+    ///
+    /// Refused with `HistoryFull`, also where there are 1,024 plans, and then with `NoMemory`;
+    /// nothing changes. It gives the reply of `step`.
+    pub fn publish_for(&mut self, snapshot: usize, plan: SharedPlan) -> Result<Reply, Refusal>
+        requires taken { IsTaken (records self.old.setting.definition self.old.history) snapshot }
+        requires matching { Matches (problem_at self.old.setting.definition
+            (records self.old.setting.definition self.old.history) snapshot) plan }
+        ensures accepted { IfOk result (λ reply. IsAccepted self.old (Publish snapshot plan) reply
+            self.new) }
+        ensures refused { IfErr result (λ told. IsRefused self.old (Publish snapshot plan) told
+            self.new) }
+    {
+        let calls = self.calls();
+        let reply = self.runtime.publish_behind(calls, snapshot, plan)?;
+        self.history.add_newest(self.runtime.book());
+        Ok(reply)
+    }
+
     // Answers an event that is no call. Apart from `step`, which keeps no room for its results.
     #[inline(never)]
     fn change(&mut self, event: Event) -> Result<Reply, Refusal>
@@ -150,13 +192,25 @@ impl Machine {
     {
         match event {
             Event::Call { .. } => unreachable!(),
-            Event::Flush { worker } => self.flush(worker).map(|()| Reply::Done),
+            Event::Flush { worker } => self.flush(worker),
             Event::Target { site, tree } => self.take(Record::Targeted { site, tree }),
             Event::Invalidate { points } => self.take(Record::Invalidated { points }),
             Event::Snapshot => self.take(Record::Snapped),
             Event::Publish { snapshot, plan } => self.take(Record::Published { snapshot, plan }),
             Event::Install { plan } => self.take(Record::Installed { plan }),
         }
+    }
+
+    // Adds the hits of a worker since its last flush to the totals.
+    fn flush(&mut self, worker: u32) -> Result<Reply, Refusal>
+        ensures accepted { IfOk result (λ reply. IsAccepted self.old (Flush worker) reply
+            self.new) }
+        ensures refused { IfErr result (λ told. IsRefused self.old (Flush worker) told self.new) }
+    {
+        let calls = self.calls();
+        self.runtime.flush_behind(calls, worker)?;
+        self.history.add_newest(self.runtime.book());
+        Ok(Reply::Done)
     }
 
     // Has the book take a record behind the accepted calls.
@@ -167,9 +221,18 @@ impl Machine {
         ensures refused { IfErr result (λ told. IsRefused self.old (event_of entry) told
             self.new) }
     {
-        let calls = self.calls.len();
-        let reply = self.book.accept(calls, entry)?;
+        let calls = self.calls();
+        let reply = self.runtime.accept(calls, entry)?;
+        self.history.add_newest(self.runtime.book());
         Ok(reply)
+    }
+
+    // Whether as many events were accepted as may be.
+    fn is_full(&self) -> bool
+        ensures decides { IsTrue result
+            ↔ (self.now.setting.limits.history ≤ length self.now.history) }
+    {
+        self.history.len() as u64 >= self.book().limits().history()
     }
 
     /// Answers the events in order. Where there is no memory for the replies, that is told before

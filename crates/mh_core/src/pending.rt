@@ -1,6 +1,7 @@
 //! Changes that a book makes ready first and takes in later, so that nothing can fail between.
 
-ghost use Rattle.std.specs.Prelude.{◌≡◌, ℕ, true, Some, None as none_of, OnErr, OnOk, IfOk, IfErr};
+ghost use Rattle.std.specs.Prelude.{◌≡◌, ℕ, true, Some, OnErr, OnOk, IfOk, IfErr};
+ghost use Rattle.mh_cert.specs.Plans.{Matches};
 ghost use Rattle.mh_core.specs.Books.{MayTake, Rejects, Takes, reply_to};
 ghost use Rattle.mh_core.specs.Pending.{HasEffect, IsNoFlush, IsReady, SameBook, control_of};
 ghost use Rattle.mh_core.specs.Problems.{IsTaken, problem_at};
@@ -16,18 +17,15 @@ use crate::refusal::Refusal;
 use crate::reply::Reply;
 use crate::snapshot::Snapshot;
 use mh_base::NoMemory;
-use mh_network::Problem;
 use mh_site::{Control, Listing, Retargeting};
 use mh_tree::Declared;
 use std::marker::Model;
 
-/// A change that passed its tests, with all the memory that its book takes to commit it, and the
-/// owners that a further world takes.
+/// A change that passed its tests, with all the memory that its book takes to commit it.
 #[derive(Debug, Drop)]
 pub struct PendingChange {
     entry: Record,
     effect: Effect,
-    published: Option<Control>,
     reply: Reply,
     calls: usize,
 }
@@ -42,7 +40,6 @@ impl Model for PendingChange {
     ghost view = { λ p. record {
       entry = p.entry;
       effect = p.effect;
-      published = p.published;
       reply = p.reply;
       calls = p.calls;
     } };
@@ -59,12 +56,13 @@ pub(crate) enum Effect {
     Plan(PublishedPlan),
 }
 
-impl Effect {
-    // What it changes in a world, for a further world: another owner of each tree.
-    fn control(&self) -> Result<Option<Control>, NoMemory>
-        ensures value { IfOk result (λ c. c ≡ control_of self.now) }
+impl PendingChange {
+    /// What it changes in a world, for a further world: on trees with owners of their own. None where
+    /// it changes no world. Fails only if an allocation or a reference count is refused.
+    pub fn control(&self) -> Result<Option<Control>, NoMemory>
+        ensures value { IfOk result (λ c. c ≡ control_of self.now.effect) }
     {
-        match self {
+        match &self.effect {
             Effect::World(control) => share_control(control),
             Effect::Snapshot(_) => Ok(None),
             Effect::Plan(_) => Ok(None),
@@ -72,21 +70,9 @@ impl Effect {
     }
 }
 
-impl PendingChange {
-    /// Takes out what it changes in a further world, on trees with owners of their own. None where
-    /// it changes no world, or where it was taken out before.
-    pub fn take_control(&mut self) -> Option<Control>
-        ensures value { result ≡ self.old.published }
-        ensures rest { self.new ≡ record self.old { published = none_of } }
-    {
-        self.published.take()
-    }
-}
-
 impl Book {
     /// Makes a change ready: all its tests, where so many calls were accepted beside the records,
-    /// and then all its growths, and another owner of each tree for a further world. A flush is no
-    /// such change, since it moves the hits of a ledger.
+    /// and then all its growths. A flush is no such change, since it moves the hits of a ledger.
     ///
     /// Refused as the change is (`target`, `invalidate`, `snapshot`, `publish`, `install`), and
     /// then nothing changes.
@@ -94,7 +80,6 @@ impl Book {
         requires other { IsNoFlush entry }
         ensures ready { IfOk result (λ p. (p.entry ≡ entry) × (p.calls ≡ calls)
             × IsReady self.new p) }
-        ensures published { IfOk result (λ p. p.published ≡ control_of p.effect) }
         ensures same { SameBook self.old self.new }
         ensures refused { IfErr result (λ told. Rejects self.old calls entry told self.new) }
     {
@@ -113,7 +98,6 @@ impl Book {
         let PendingChange {
             entry,
             effect,
-            published: _,
             reply,
             calls: _,
         } = change;
@@ -141,20 +125,20 @@ impl Book {
         Ok(self.commit(change))
     }
 
-    /// Publishes a plan for a snapshot whose problem the caller has: `accept` of it, which does not
-    /// make the problem anew. O(rows of the plan).
+    /// Publishes a plan that is known to match the problem of a snapshot: `accept` of it, which does
+    /// not check the plan anew. O(1).
     ///
-    /// Refused as `publish` is, but for `NoSnapshot`, and then nothing changes.
+    /// Refused with `HistoryFull`, also where there are 1,024 plans, and then with `NoMemory`;
+    /// nothing changes.
     pub fn publish_for(
         &mut self,
         calls: usize,
         snapshot: usize,
-        problem: &Problem,
         plan: SharedPlan,
     ) -> Result<Reply, Refusal>
         requires taken { IsTaken self.old.records snapshot }
-        requires problem { problem.now
-            ≡ problem_at self.old.definition self.old.records snapshot }
+        requires matching { Matches (problem_at self.old.definition self.old.records snapshot)
+            plan }
         ensures taken { OnOk result (Takes self.old calls (Published snapshot plan) self.new) }
         ensures reply { IfOk result (λ reply. reply
             ≡ reply_to self.old.definition self.old.records (Published snapshot plan)) }
@@ -162,7 +146,9 @@ impl Book {
         ensures refused { IfErr result
             (λ told. Rejects self.old calls (Published snapshot plan) told self.new) }
     {
-        self.test_offer(calls, snapshot, problem, &plan)?;
+        if self.plans_are_full(calls) {
+            return Err(Refusal::HistoryFull);
+        }
         let entry = Record::Published { snapshot, plan };
         let change = self.ready(calls, entry).map_err(|_| Refusal::NoMemory)?;
         Ok(self.commit(change))
@@ -174,17 +160,14 @@ impl Book {
         requires passes { MayTake self.old calls entry }
         ensures ready { IfOk result (λ p. (p.entry ≡ entry) × (p.calls ≡ calls)
             × IsReady self.new p) }
-        ensures published { IfOk result (λ p. p.published ≡ control_of p.effect) }
         ensures same { SameBook self.old self.new }
         ensures refused { OnErr result (self.new ≡ self.old) }
     {
         let (effect, reply) = self.effect(&entry)?;
-        let published = effect.control()?;
         self.reserve()?;
         Ok(PendingChange {
             entry,
             effect,
-            published,
             reply,
             calls,
         })

@@ -3,6 +3,7 @@
 ghost use Rattle.std.specs.Prelude.{◌≡◌};
 ghost use Rattle.mh_core.specs.Refusals.{refusal_number};
 
+use crate::caller::CalleeFault;
 use mh_cert::CheckFault;
 use std::error::Error;
 use std::fmt;
@@ -93,3 +94,17 @@ impl fmt::Display for Refusal {
 }
 
 impl Error for Refusal {}
+
+impl From<CalleeFault> for Refusal {
+    ghost use Rattle.std.specs.Prelude.{◌≡◌};
+    ghost use Rattle.mh_core.specs.Callers.{refusal_of_callee};
+
+    ghost from_gives = { λ cause e. e ≡ refusal_of_callee cause };
+
+    fn from(cause: CalleeFault) -> Refusal {
+        match cause {
+            CalleeFault::NoSite => Refusal::NoSite,
+            CalleeFault::WrongType => Refusal::WrongType,
+        }
+    }
+}

@@ -1,23 +1,28 @@
 //! Runtimes: a book with the ledgers of its workers, for one thread, whose calls are in no history.
 
 ghost use Rattle.std.specs.Prelude.{◌≡◌, ◌<◌, ◌+◌, length, slice_set, IfErr, IfOk, IfSome, IfNone, OnErr, OnOk};
-ghost use Rattle.mh_base.specs.Tests.{Passes, Refuses};
+ghost use Rattle.mh_base.specs.Tests.{Passes, Refuses, no_more, nothing};
+ghost use Rattle.mh_cert.specs.Plans.{Matches};
 ghost use Rattle.mh_ledger.specs.Ledgers.{ledger_at, settled};
-ghost use Rattle.mh_core.specs.Books.{Rejects, Takes};
+ghost use Rattle.mh_core.specs.Books.{Rejects, Takes, reply_to};
+ghost use Rattle.mh_core.specs.Callers.{IsCallable};
 ghost use Rattle.mh_core.specs.Hits.{IsHitLink};
 ghost use Rattle.mh_core.specs.Installations.{report};
-ghost use Rattle.mh_core.specs.Legal.{answer_of_call};
-ghost use Rattle.mh_core.specs.Runtimes.{CountsHit, IsRuntime, RefusesFlush, TakesNoMemory, call_tests, flush_of, opened_runtime};
+ghost use Rattle.mh_core.specs.Legal.{answer_of_call, callee_tests};
+ghost use Rattle.mh_core.specs.Pending.{IsNoFlush};
+ghost use Rattle.mh_core.specs.Problems.{IsTaken, problem_at};
+ghost use Rattle.mh_core.specs.Runtimes.{CountsHit, HasRoom, IsRuntime, RefusesFlush, TakesNoMemory, call_tests, flush_of, opened_runtime, room_tests};
 ghost use Rattle.mh_core.specs.declared.record.Record.TheVariants.{Targeted, Invalidated, Snapped, Published, Installed};
 ghost use Rattle.mh_core.specs.declared.reply.Reply.TheVariants.{Called};
 
 use crate::book::Book;
-use crate::hits::hit_link;
+use crate::caller::{count, evaluate, has_room, test_callee};
 use crate::install_report::InstallReport;
 use crate::limits::Limits;
-use crate::machine::{count_hit, evaluate_call, test_callee};
 use crate::plan::SharedPlan;
+use crate::record::Record;
 use crate::refusal::Refusal;
+use crate::reply::Reply;
 use mh_base::NoMemory;
 use mh_eval::Stack;
 use mh_ledger::Ledger;
@@ -36,11 +41,13 @@ use std::marker::Model;
 #[derive(Drop)]
 pub struct Runtime {
     book: Book,
+    workers: u32,
     ledgers: Vec<Ledger>,
     stack: Stack,
 }
 
 impl Model for Runtime {
+    ghost use Rattle.std.specs.Prelude.{◌≡◌, length};
     ghost use Rattle.mh_core.specs.Runtimes.{IsRuntime, RuntimeState};
     ghost use Rattle.mh_core.specs.RuntimeCodes.{coded_runtime};
 
@@ -52,7 +59,7 @@ impl Model for Runtime {
 
     ghost view = { runtime_state };
 
-    ghost invariant = { λ r. IsRuntime r.book r.ledgers.items };
+    ghost invariant = { λ r. IsRuntime r.book r.ledgers.items × (length r.ledgers.items ≡ r.workers) };
 }
 
 /// Its number of workers, and its book.
@@ -78,6 +85,7 @@ impl Runtime {
         let (book, ledgers) = Book::open(alloc, definition, workers, limits)?;
         Ok(Runtime {
             book,
+            workers,
             ledgers,
             stack,
         })
@@ -92,10 +100,10 @@ impl Runtime {
     }
 
     /// The number of workers.
-    pub fn workers(&self) -> usize
+    pub fn workers(&self) -> u32
         ensures count { result ≡ length self.now.ledgers }
     {
-        self.ledgers.len()
+        self.workers
     }
 
     /// The ledger of each worker, in order.
@@ -131,38 +139,120 @@ impl Runtime {
         ensures memory { TakesNoMemory self.old.book site arguments.now
             → IfErr result (λ told. told ≡ Refusal.NoMemory → ⊥) }
     {
-        let link = self.test_call(worker, site, arguments)?;
-        let Ok((outcome, steps)) = evaluate_call(&mut self.stack, &self.book, site, arguments)
-        else {
-            return Err(Refusal::NoMemory);
-        };
-        count_hit(&mut self.ledgers, worker, link);
-        Ok((outcome, steps))
+        let link = self.test_callee(worker, site, arguments)?;
+        self.answer(worker, site, link, arguments)
     }
 
-    // The tests of a call, of which the first that fails is reported, and the link that it hits.
-    fn test_call(
+    // The tests of a call that no hits decide, of which the first that fails is reported, and the
+    // link that it hits.
+    #[inline(always)]
+    pub(crate) fn test_callee(
         &self,
         worker: u32,
         site: usize,
         arguments: &[Value],
     ) -> Result<Option<usize>, Refusal>
-        ensures passes { OnOk result (Passes (call_tests self.now worker site arguments.now)) }
+        ensures worker { OnOk result (worker < length self.now.ledgers) }
+        ensures callable { OnOk result (IsCallable self.now.book.definition site arguments.now) }
         ensures link { IfOk result (IsHitLink self.now.book.definition site arguments.now) }
-        ensures refused { IfErr result (λ told. Refuses
-            (call_tests self.now worker site arguments.now) told) }
-        ensures memory { IfErr result (λ told. told ≡ Refusal.NoMemory → ⊥) }
+        ensures refuses { IfErr result (λ told. Refuses (callee_tests self.now.book.definition
+            (length self.now.ledgers) worker site arguments.now (no_more nothing)) told) }
     {
-        let definition = self.book.definition();
-        test_callee(definition, self.ledgers.len(), worker, site, arguments)?;
-        let Some(link) = hit_link(definition, site, arguments) else {
-            return Ok(None);
-        };
-        let ledger = &self.ledgers[worker as usize];
-        if ledger.unflushed(link) >= ledger.limit() {
+        if worker >= self.workers {
+            return Err(Refusal::NoWorker);
+        }
+        let link = test_callee(self.book.definition(), site, arguments)?;
+        Ok(link)
+    }
+
+    // Answers a call that passed those tests, and counts its hit.
+    #[inline(always)]
+    pub(crate) fn answer(
+        &mut self,
+        worker: u32,
+        site: usize,
+        link: Option<usize>,
+        arguments: &[Value],
+    ) -> Result<(Outcome, u128), Refusal>
+        requires worker { worker < length self.old.ledgers }
+        requires callable { IsCallable self.old.book.definition site arguments.now }
+        requires link { IsHitLink self.old.book.definition site arguments.now link }
+        ensures room { OnOk result (HasRoom self.old worker site arguments.now) }
+        ensures answer { IfOk result (λ p. Called p.0 p.1
+            ≡ answer_of_call self.old.book.definition self.old.book.records site arguments.now) }
+        ensures counted { OnOk result (CountsHit self.old.book.definition worker site arguments.now
+            self.old.ledgers self.new.ledgers) }
+        ensures book { self.new.book ≡ self.old.book }
+        ensures refused { IfErr result (λ told. Refuses (room_tests self.old worker site
+            arguments.now) told) }
+        ensures kept { OnErr result (self.new ≡ self.old) }
+        ensures memory { TakesNoMemory self.old.book site arguments.now
+            → IfErr result (λ told. told ≡ Refusal.NoMemory → ⊥) }
+    {
+        let ledger = &mut self.ledgers[worker as usize];
+        if !has_room(ledger, link) {
             return Err(Refusal::LedgerFull);
         }
-        Ok(Some(link))
+        let Ok((outcome, steps)) = evaluate(&mut self.stack, self.book.world(), site, arguments)
+        else {
+            return Err(Refusal::NoMemory);
+        };
+        count(ledger, link);
+        Ok((outcome, steps))
+    }
+
+    // Has the book take a record, where so many calls were accepted beside its records.
+    pub(crate) fn accept(&mut self, calls: usize, entry: Record) -> Result<Reply, Refusal>
+        requires other { IsNoFlush entry }
+        ensures taken { OnOk result (Takes self.old.book calls entry self.new.book) }
+        ensures reply { IfOk result (λ reply. reply
+            ≡ reply_to self.old.book.definition self.old.book.records entry) }
+        ensures ledgers { self.new.ledgers ≡ self.old.ledgers }
+        ensures refused { IfErr result (λ told. Rejects self.old.book calls entry told
+            self.new.book) }
+    {
+        self.book.accept(calls, entry)
+    }
+
+    // Publishes a plan that matches the problem of a snapshot, where so many calls were accepted
+    // beside the records.
+    pub(crate) fn publish_behind(
+        &mut self,
+        calls: usize,
+        snapshot: usize,
+        plan: SharedPlan,
+    ) -> Result<Reply, Refusal>
+        requires taken { IsTaken self.old.book.records snapshot }
+        requires matching { Matches (problem_at self.old.book.definition self.old.book.records
+            snapshot) plan }
+        ensures taken { OnOk result (Takes self.old.book calls (Published snapshot plan)
+            self.new.book) }
+        ensures reply { IfOk result (λ reply. reply ≡ reply_to self.old.book.definition
+            self.old.book.records (Published snapshot plan)) }
+        ensures ledgers { self.new.ledgers ≡ self.old.ledgers }
+        ensures refused { IfErr result (λ told. Rejects self.old.book calls
+            (Published snapshot plan) told self.new.book) }
+    {
+        self.book.publish_for(calls, snapshot, plan)
+    }
+
+    // Adds the hits of a worker since its last flush to the totals, where so many calls were
+    // accepted beside the records.
+    pub(crate) fn flush_behind(&mut self, calls: usize, worker: u32) -> Result<(), Refusal>
+        ensures known { OnOk result (worker < length self.old.ledgers) }
+        ensures taken { OnOk result (Takes self.old.book calls (flush_of self.old worker)
+            self.new.book) }
+        ensures ledgers { OnOk result (self.new.ledgers ≡ slice_set self.old.ledgers worker
+            (settled (ledger_at self.old.ledgers worker))) }
+        ensures refused { IfErr result (λ told. RefusesFlush self.old calls worker told) }
+        ensures kept { OnErr result (self.new ≡ self.old) }
+    {
+        if worker >= self.workers {
+            return Err(Refusal::NoWorker);
+        }
+        let ledger = &mut self.ledgers[worker as usize];
+        self.book.flush_after(calls, ledger)?;
+        Ok(())
     }
 
     /// Adds the hits of a worker since its last flush to the totals. O(links).
@@ -174,15 +264,10 @@ impl Runtime {
             self.new.book) }
         ensures ledgers { OnOk result (self.new.ledgers ≡ slice_set self.old.ledgers worker
             (settled (ledger_at self.old.ledgers worker))) }
-        ensures refused { IfErr result (λ told. RefusesFlush self.old worker told) }
+        ensures refused { IfErr result (λ told. RefusesFlush self.old 0 worker told) }
         ensures kept { OnErr result (self.new ≡ self.old) }
     {
-        if worker as usize >= self.ledgers.len() {
-            return Err(Refusal::NoWorker);
-        }
-        let ledger = &mut self.ledgers[worker as usize];
-        self.book.flush(ledger)?;
-        Ok(())
+        self.flush_behind(0, worker)
     }
 
     /// Gives a site another tree (`MutableCallSite.setTarget`). The ledgers stay as they are.

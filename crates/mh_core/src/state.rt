@@ -93,7 +93,7 @@ impl Machine {
         ensures within { result ≤ 2 ^ 96 }
     {
         let mut sum: u128 = 0;
-        for worker in 0..self.workers {
+        for worker in 0..self.workers() {
             sum += u128::from(self.unflushed_by(worker, link));
         }
         sum
@@ -107,7 +107,7 @@ impl Machine {
             ≡ unflushed self.now.setting.definition self.now.history worker link }
         ensures within { result < 2 ^ 64 }
     {
-        let ledger = &self.ledgers[worker as usize];
+        let ledger = &self.runtime.ledgers()[worker as usize];
         ledger.unflushed(link)
     }
 }

@@ -6,10 +6,10 @@ ghost use Rattle.mh_ledger.specs.Ledgers.{Holds};
 ghost use Rattle.mh_cert.specs.Plans.{Matches, plan_tests};
 ghost use Rattle.mh_core.specs.declared.record.Record.TheVariants.{Flushed, Targeted, Invalidated, Snapped, Published, Installed};
 ghost use Rattle.mh_core.specs.declared.refusal.Refusal.{Refusal};
-ghost use Rattle.mh_core.specs.Records.{hits_in};
 ghost use Rattle.mh_core.specs.Books.{MayRefuse, MayTake};
 ghost use Rattle.mh_core.specs.Pending.{IsNoFlush};
-ghost use Rattle.mh_core.specs.Problems.{IsTaken, problem_at};
+ghost use Rattle.mh_core.specs.Limits.{most_plans};
+ghost use Rattle.mh_core.specs.Records.{hits_in, plans};
 ghost use Rattle.mh_base.specs.Tests.{Refuses};
 
 use crate::book::Book;
@@ -133,30 +133,19 @@ impl Book {
             told) }
     {
         let problem = self.problem(snapshot)?;
-        self.test_offer(calls, snapshot, &problem, plan)
-    }
-
-    // The tests of a plan that is offered for the problem of a snapshot that was taken.
-    pub(crate) fn test_offer(
-        &self,
-        calls: usize,
-        snapshot: usize,
-        problem: &Problem,
-        plan: &SharedPlan,
-    ) -> Result<(), Refusal>
-        requires taken { IsTaken self.now.records snapshot }
-        requires problem { problem.now
-            ≡ problem_at self.now.definition self.now.records snapshot }
-        ensures passes { OnOk result (MayTake self.now calls (Published snapshot plan.now)) }
-        ensures refuses { IfErr result
-            (λ told. MayRefuse self.now calls (Published snapshot plan.now)
-            told) }
-    {
-        test_plan(self.alloc, problem, plan.plan())?;
-        if self.is_full(calls) || self.plans.len() >= MOST_PLANS {
+        test_plan(self.alloc, &problem, plan.plan())?;
+        if self.plans_are_full(calls) {
             return Err(Refusal::HistoryFull);
         }
         Ok(())
+    }
+
+    // Whether as many events were accepted, or plans published, as may be.
+    pub(crate) fn plans_are_full(&self, calls: usize) -> bool
+        ensures decides { IsTrue result ↔ ((self.now.limits.history
+            ≤ length self.now.records + calls) ⊎ (most_plans ≤ plans self.now.records)) }
+    {
+        self.is_full(calls) || self.plans.len() >= MOST_PLANS
     }
 
     // The tests of an installation, of which the first that fails is reported.

@@ -1,6 +1,8 @@
 -- The numbers of faults.
 use Rattle.std.specs.Prelude.{ℕ}
 use Rattle.mh_core.specs.Refusals.{refusal_number}
+use Rattle.mh_core.specs.declared.caller.CalleeFault.{CalleeFault}
+use Rattle.mh_core.specs.declared.caller.CalleeFault.TheVariants as callee
 use Rattle.mh_live.specs.declared.call_fault.CallFault.{CallFault}
 use Rattle.mh_live.specs.declared.call_fault.CallFault.TheVariants as call
 use Rattle.mh_live.specs.declared.flush_fault.FlushFault.{FlushFault}
@@ -16,6 +18,11 @@ call_fault_number call.NoSite = 3
 call_fault_number call.WrongType = 5
 call_fault_number call.LedgerFull = 11
 call_fault_number call.NotEntered = 15
+
+-- why a call cannot be made of its site
+abbrev pub fault_of_callee : CalleeFault → CallFault
+fault_of_callee callee.NoSite = call.NoSite
+fault_of_callee callee.WrongType = call.WrongType
 
 abbrev pub open_fault_number : OpenFault → ℕ
 open_fault_number opening.NoMemory = 1

@@ -57,8 +57,8 @@ ChangesWorld Snapped = ⊥
 ChangesWorld (Published n plan) = ⊥
 ChangesWorld (Installed m) = Unit {0}
 
--- A record that passed its tests, and for which there was all memory that the book and the change take, is not published: left_right
--- refused it, or the office was closed. What was closed stays so
+-- A record that passed its tests, and for which there was all memory that the book takes, is not published: its trees got no further
+-- owners, left_right refused it, or the office was closed. What was closed stays so
 pub record HasHalted (o : OfficeState) (e : Record) (told : Refusal) (new : OfficeState) : Type 0 where
   pub want : told ≡ NoMemory
   pub passes : Passes (tests o.book.definition o.book.limits (length o.book.records) o.book.records e)

@@ -3,6 +3,7 @@
 ghost use Rattle.std.specs.Prelude.{◌≡◌};
 ghost use Rattle.mh_live.specs.Faults.{call_fault_number};
 
+use mh_core::CalleeFault;
 use thiserror::Error;
 
 /// Why a call was refused: the first test that failed, in the order of their numbers, of which
@@ -37,6 +38,20 @@ impl CallFault {
             CallFault::WrongType => 5,
             CallFault::LedgerFull => 11,
             CallFault::NotEntered => 15,
+        }
+    }
+}
+
+impl From<CalleeFault> for CallFault {
+    ghost use Rattle.std.specs.Prelude.{◌≡◌};
+    ghost use Rattle.mh_live.specs.Faults.{fault_of_callee};
+
+    ghost from_gives = { λ cause e. e ≡ fault_of_callee cause };
+
+    fn from(cause: CalleeFault) -> CallFault {
+        match cause {
+            CalleeFault::NoSite => CallFault::NoSite,
+            CalleeFault::WrongType => CallFault::WrongType,
         }
     }
 }

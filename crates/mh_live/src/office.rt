@@ -2,7 +2,7 @@
 
 ghost use Rattle.std.specs.Prelude.{◌≡◌, ◌⊎◌, ◌+◌, ◌<◌, ◌++◌, ◌∷◌, ◌^◌, [], ℕ, List, false, true, drop, fold, length, slice_set, IfErr, IfOk, MatchBool, MatchResult, OnErr, OnOk};
 ghost use Rattle.mh_ledger.specs.Ledgers.{AreHeld, Holds, IsTotals, LedgerState, settled};
-ghost use Rattle.mh_core.specs.Pending.{IsReady, control_of};
+ghost use Rattle.mh_core.specs.Pending.{IsReady};
 ghost use Rattle.mh_core.specs.Records.{hits_in};
 ghost use Rattle.mh_core.specs.declared.record.Record.TheVariants.{Flushed, Installed, Invalidated, Published, Snapped, Targeted};
 ghost use Rattle.mh_live.specs.Offices.{list_of};
@@ -266,11 +266,10 @@ impl<N: Name> Office<N> {
 
     // Publishes what a prepared change of the world changes, and then commits it. Where left_right
     // refuses the publication of a control that it has taken, the office closes.
-    fn accept<R: Wait>(&mut self, rt: &R, mut change: PendingChange) -> Result<Receipt<N>, Refusal>
+    fn accept<R: Wait>(&mut self, rt: &R, change: PendingChange) -> Result<Receipt<N>, Refusal>
         requires ready { IsReady self.old.book change }
         requires calls { change.calls ≡ 0 }
         requires world { ChangesWorld change.entry }
-        requires published { change.published ≡ control_of change.effect }
         ensures accepted { IfOk result (λ r. Accepts self.old change.entry r self.new) }
         ensures open { OnOk result (self.old.closed ≡ false) }
         ensures totals { self.new.book.totals ≡ self.old.book.totals }
@@ -282,7 +281,10 @@ impl<N: Name> Office<N> {
         if self.closed {
             return Err(Refusal::NoMemory);
         }
-        let Some(control) = change.take_control() else {
+        let Ok(shared) = change.control() else {
+            return Err(Refusal::NoMemory);
+        };
+        let Some(control) = shared else {
             unreachable!()
         };
         match show(rt, &mut self.writer, &self.head, &self.front, control) {

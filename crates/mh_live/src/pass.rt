@@ -9,7 +9,7 @@ ghost use Rattle.mh_ledger.specs.Ledgers.{at, made, with_hit};
 ghost use Rattle.mh_site.specs.Defined.{site_at};
 ghost use Rattle.mh_site.specs.Links.{links};
 ghost use Rattle.mh_site.specs.Worlds.{environment_of_bases, environment_of_links, state_at};
-ghost use Rattle.mh_core.specs.Hits.{hits};
+ghost use Rattle.mh_core.specs.Callers.{IsCallable};
 ghost use Rattle.mh_live.specs.Calls.{MayCall, AnswersBy, Counts, RefusesCall, IsKeptOut, IsUntried, TakesNoMemory};
 ghost use Rattle.mh_live.specs.Rules.{Stands, newcomer, world_after};
 
@@ -19,8 +19,8 @@ use crate::published::Published;
 use crate::receipt::Receipt;
 use crate::rule::{Sees, WorldReader};
 use core::mem::replace_with;
-use mh_core::hit_link;
-use mh_eval::{Here, NoMemory, Stack, fits, run};
+use mh_core::{count, evaluate, has_room, test_callee};
+use mh_eval::{NoMemory, Stack};
 use mh_ledger::Ledger;
 use mh_site::Definition;
 use mh_type::{Outcome, Value};
@@ -94,41 +94,13 @@ struct Visited<N: Name> {
     given: Result<(Outcome, u128), NoMemory>,
 }
 
-// What a site gives by a published world, of which its linked tree runs.
-fn evaluate<N: Name>(request: Request<'_>, entered: &Published) -> Result<(Outcome, u128), NoMemory>
-    requires stands { Stands N.book N.definition entered.now }
-    requires inside { request.site < length N.definition.sites }
-    requires fits { Fits (site_at N.definition request.site).method_type request.arguments.now }
-    ensures outcome { IfOk result (λ r. let w = world_after N.definition entered.now.past.log in
-        r.0 ≡ mean (environment_of_bases w) (state_at w request.entry.site).base.tree
-        request.entry.arguments.now) }
-    ensures steps { IfOk result (λ r. let w = world_after N.definition entered.now.past.log in
-        r.1 ≡ steps (environment_of_links w) (state_at w request.entry.site).linked.tree
-        request.entry.arguments.now) }
-    ensures memory { TakesNoMemory N.definition entered.now.past.log request.entry.site
-        request.entry.arguments.now → IsOk result }
-{
-    let Request {
-        stack,
-        site,
-        arguments,
-    } = request;
-    let world = &entered.world;
-    let here = Here {
-        valid: world.valid(),
-        targets: world.prepared_all(),
-    };
-    run(stack, &here, world.prepared(site), arguments)
-}
-
 // Enters once, evaluates by the one world that is found there, and leaves. None where the world
 // could not be entered.
 fn visit<N: Name>(
     reader: WorldReader<N>,
     request: Request<'_>,
 ) -> (WorldReader<N>, Option<Visited<N>>)
-    requires inside { request.site < length N.definition.sites }
-    requires fits { Fits (site_at N.definition request.site).method_type request.arguments.now }
+    requires callable { IsCallable N.definition request.site request.arguments.now }
     ensures outcome { IfSome result.1
         (λ v. IfOk v.given (λ r. let w = world_after N.definition v.front in
         r.0 ≡ mean (environment_of_bases w) (state_at w request.entry.site).base.tree
@@ -148,57 +120,15 @@ fn visit<N: Name>(
         Ok(reading) => {
             let entered = reading.get();
             let front = Front::of(&entered.past, entered.world.front());
-            let given = evaluate::<N>(request, entered);
+            let Request {
+                stack,
+                site,
+                arguments,
+            } = request;
+            let given = evaluate(stack, &entered.world, site, arguments);
             (reading.leave(), Some(Visited { front, given }))
         }
         Err(reader) => (reader, None),
-    }
-}
-
-// Tests a call, and gives the link that it hits.
-fn test_call(
-    definition: &Definition,
-    ledger: &Ledger,
-    site: usize,
-    arguments: &[Value],
-) -> Result<Option<usize>, CallFault>
-    requires links { length ledger.now.unflushed ≡ length (links definition.now) }
-    ensures passes { OnOk result (MayCall definition.now ledger.now site arguments.now) }
-    ensures hit { IfOk result (λ found. IfSome found (λ j. (hits definition.now site arguments.now j
-        ≡ true) × (j < length ledger.now.unflushed)
-        × ((i : ℕ) → hits definition.now site arguments.now i ≡ true → i ≡ j))) }
-    ensures none { IfOk result (λ found. IfNone found ((j : ℕ)
-        → hits definition.now site arguments.now j ≡ false)) }
-    ensures refused { IfErr result
-        (λ told. RefusesCall definition.now ledger.now site arguments.now told × IsUntried told) }
-{
-    if site >= definition.sites().len() {
-        return Err(CallFault::NoSite);
-    }
-    if !fits(definition.method_type(site), arguments) {
-        return Err(CallFault::WrongType);
-    }
-    let hit = hit_link(definition, site, arguments);
-    if let Some(link) = hit {
-        // Read for what a ledger keeps.
-        let _limit = ledger.limit();
-        if ledger.is_full(link) {
-            return Err(CallFault::LedgerFull);
-        }
-    }
-    Ok(hit)
-}
-
-// Counts the hit of a call that passed its tests.
-fn count_hit(ledger: &mut Ledger, hit: Option<usize>)
-    requires room { IfSome hit (λ j. (j < length ledger.old.unflushed)
-        × (at ledger.old.unflushed j < ledger.old.limit)) }
-    ensures hit { IfSome hit (λ j. ledger.new ≡ with_hit ledger.old j) }
-    ensures none { IfNone hit (ledger.new ≡ ledger.old) }
-{
-    if let Some(link) = hit {
-        // The ledger has room, so this is not refused.
-        let _counted = ledger.hit(link);
     }
 }
 
@@ -302,9 +232,14 @@ impl<N: Name> Pass<N> {
         ensures memory { IfErr result (λ told. told ≡ CallFault.NoMemory
             → TakesNoMemory N.definition self.new.seen site arguments.now → ⊥) }
     {
-        let hit = test_call(&self.definition, &self.ledger, site, arguments)?;
+        let link = test_callee(&self.definition, site, arguments)?;
+        // Read for what a ledger keeps.
+        let _limit = self.ledger.limit();
+        if !has_room(&self.ledger, link) {
+            return Err(CallFault::LedgerFull);
+        }
         let (outcome, steps) = self.enter(site, arguments)?;
-        count_hit(&mut self.ledger, hit);
+        count(&mut self.ledger, link);
         Ok(Answer {
             outcome,
             steps,
@@ -314,8 +249,7 @@ impl<N: Name> Pass<N> {
 
     // What the site gives by one world that is not behind what was seen.
     fn enter(&mut self, site: usize, arguments: &[Value]) -> Result<(Outcome, u128), CallFault>
-        requires inside { site < length N.definition.sites }
-        requires fits { Fits (site_at N.definition site).method_type arguments.now }
+        requires callable { IsCallable N.definition site arguments.now }
         ensures outcome { IfOk result (λ r. let w = world_after N.definition self.new.seen in
             r.0 ≡ mean (environment_of_bases w) (state_at w site).base.tree arguments.now) }
         ensures steps { IfOk result (λ r. let w = world_after N.definition self.new.seen in

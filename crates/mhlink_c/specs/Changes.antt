@@ -46,7 +46,7 @@ pub record Flushes (h : HostState) (w : ℕ) (new : HostState) : Type 0 where
   pub kept : IsKept h new
 
 abbrev pub RefusesToFlush : HostState → ℕ → Fault → Type 0
-RefusesToFlush h w e = (told : Refusal) × ((e ≡ Refused told) × RefusesFlush h.runtime w told)
+RefusesToFlush h w e = (told : Refusal) × ((e ≡ Refused told) × RefusesFlush h.runtime 0 w told)
 
 -- a site gets the tree that the text reads as
 abbrev pub Retargets : HostState → ℕ → List ℕ → HostState → Type 0

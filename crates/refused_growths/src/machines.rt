@@ -106,7 +106,7 @@ fn publish<R: Threads + Sync>(
     let Ok(plan) = SharedPlan::new(alloc, plan) else {
         return Err(Refusal::NoMemory);
     };
-    machine.publish_for(snapshot, &problem, plan)
+    Ok(machine.step(Event::Publish { snapshot, plan }))
 }
 
 /// What a machine answers to a step.

@@ -105,7 +105,11 @@ fn call(machine: &mut Machine) -> Option<(i32, u128)> {
 fn calls_around(alloc: Global, machine: &mut Machine) -> Result<[Option<(i32, u128)>; 2], Fail> {
     let before = call(machine);
     let identity = Declared::new(&Handle::identity(alloc, Kind::Int)?)?;
-    machine.target(0, identity)?;
+    let retargeting = Event::Target {
+        site: 0,
+        tree: identity,
+    };
+    let _done = machine.step(retargeting);
     Ok([before, call(machine)])
 }
 
@@ -129,7 +133,10 @@ fn refusal(
     invoked: u32,
 ) -> Result<Option<Refusal>, Fail> {
     let tree = Declared::new(&invocation(alloc, invoked)?)?;
-    Ok(machine.target(site, tree).err())
+    match machine.step(Event::Target { site, tree }) {
+        Reply::Refused(refusal) => Ok(Some(refusal)),
+        _ => Ok(None),
+    }
 }
 
 fn refusals(alloc: Global) -> Result<[Option<Refusal>; 4], Fail> {

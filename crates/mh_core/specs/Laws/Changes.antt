@@ -1,5 +1,5 @@
 -- What a change that a book made ready changes in a world.
-use Rattle.std.proofs.Common.{◌≡◌, ℕ, List, ◌∷◌, Some, ap, refl, sym, subst}
+use Rattle.std.proofs.Common.{◌≡◌, ℕ, ◌∷◌, Some, ap, refl, sym, subst}
 use Rattle.mh_site.specs.declared.control.Control.{Control}
 use Rattle.mh_site.specs.declared.control.Control.TheVariants as control
 use Rattle.mh_core.specs.declared.pending.Effect.{Effect}

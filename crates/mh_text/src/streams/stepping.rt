@@ -46,39 +46,36 @@ fn publish<T: Threads + Sync>(
     ensures setting { machine.new.setting ≡ machine.old.setting }
 {
     match make_plan(rt, alloc, machine, snapshot) {
-        Ok((problem, plan)) => offer(machine, snapshot, &problem, plan),
+        Ok(plan) => offer(machine, snapshot, plan),
         Err(refusal) => Reply::Refused(refusal),
     }
 }
 
-/// Publishes a plan for the problem of a snapshot.
-fn offer(machine: &mut Machine, snapshot: usize, problem: &Problem, plan: SharedPlan) -> Reply
+/// Publishes a plan that matches the problem of a snapshot.
+fn offer(machine: &mut Machine, snapshot: usize, plan: SharedPlan) -> Reply
     requires taken { IsTaken (records machine.old.setting.definition machine.old.history) snapshot }
-    requires problem { problem.now ≡ problem_at machine.old.setting.definition
-        (records machine.old.setting.definition machine.old.history) snapshot }
+    requires matching { Matches (problem_at machine.old.setting.definition
+        (records machine.old.setting.definition machine.old.history) snapshot) plan }
     ensures step { legal_step machine.old.setting machine.old.history (Publish snapshot plan) result
         machine.new.history }
     ensures setting { machine.new.setting ≡ machine.old.setting }
 {
-    match machine.publish_for(snapshot, problem, plan) {
+    match machine.publish_for(snapshot, plan) {
         Ok(reply) => reply,
         Err(refusal) => Reply::Refused(refusal),
     }
 }
 
-/// The problem of a snapshot, and its best plan, with the fewest links.
+/// The best plan for the problem of a snapshot, with the fewest links.
 fn make_plan<T: Threads + Sync>(
     rt: &T,
     alloc: Global,
     machine: &Machine,
     snapshot: usize,
-) -> Result<(Problem, SharedPlan), Refusal>
+) -> Result<SharedPlan, Refusal>
     ensures taken { OnOk result
         (IsTaken (records machine.now.setting.definition machine.now.history) snapshot) }
-    ensures problem { IfOk result (λ made. made.0 ≡ problem_at machine.now.setting.definition
-        (records machine.now.setting.definition machine.now.history) snapshot) }
-    ensures best { IfOk result (λ made. IsBestFor machine.now.setting machine.now.history snapshot
-        made.1) }
+    ensures best { IfOk result (IsBestFor machine.now.setting machine.now.history snapshot) }
     ensures refused { IfErr result
         (λ told. IsUnplanned machine.now.setting machine.now.history snapshot
         (Reply.Refused told)) }
@@ -86,7 +83,7 @@ fn make_plan<T: Threads + Sync>(
     let problem = machine.book().problem(snapshot)?;
     let workers = (machine.workers() as usize).clamp(1, MOST_WORKERS);
     let plan = best_plan(rt, alloc, &problem, workers)?;
-    Ok((problem, plan))
+    Ok(plan)
 }
 
 /// The best plan of a problem, with the fewest links, made by so many workers, from 1 to 64.

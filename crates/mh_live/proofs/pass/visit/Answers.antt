@@ -1,6 +1,7 @@
-use Rattle.std.proofs.Common.{ap, length, ◌∙◌, sym}
+use Rattle.std.proofs.Common.{ap, length, ◌∙◌, subst, sym}
+use Rattle.mh_core.specs.Standing.{IsWorldOf}
 use Rattle.mh_live.specs.declared.published.Published.{Published}
-use Rattle.mh_live.proofs.Entered.{front_is}
+use Rattle.mh_live.proofs.Entered.{front_is, world_of}
 use Rattle.mh_live.proofs.Ruling.{enters}
 use Rattle.mh_live.proofs.pass.visit.Goals as goal
 
@@ -18,3 +19,9 @@ of-front-requires g c =
         ap (λ (x : Published). x.past.names) entered ∙ stands.names_are,
       );
     }
+
+pub evaluate-given-requires : goal.evaluate-given-requires
+evaluate-given-requires g c =
+    let d = g.N.Name.definition in
+    let there = world_of g.N.Name.book d c.in-Ok.reading.part.value c.in-Ok.ensures.1.0 in
+    record { callable = (d, (subst (λ (x : Published). IsWorldOf d x.world) (sym c.get-entered.ensures) there, c.requires.callable)) }

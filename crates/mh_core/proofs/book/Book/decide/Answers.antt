@@ -1,6 +1,6 @@
-use Rattle.std.proofs.Common.{◌≡◌, ◌∙◌, ◌+◌, ◌&&◌, ℕ, Bool, ap, length, map, refl, sym, arith}
+use Rattle.std.proofs.Common.{◌≡◌, ◌∙◌, ◌+◌, ◌&&◌, ◌||◌, ℕ, Bool, List, nat_lt, ap, length, map, refl, sym, arith}
 use Rattle.mh_core.specs.Books.{BookState}
-use Rattle.mh_core.specs.Installations.{is_concerned, is_current, site_linkage}
+use Rattle.mh_core.specs.Installations.{is_concerned, is_current, kept, site_linkage}
 use Rattle.mh_core.specs.Records.{numbers}
 use Rattle.mh_core.specs.Replayed.{relinked}
 use Rattle.mh_core.proofs.InstalledLinks.{filter_both, gather_both, gather_pass, gather_skip, gathered}
@@ -13,7 +13,8 @@ loop-site-preserved c =
     let r = c.args.self.now.records in
     let m = c.args.plan in
     let site = c.loop-site.site in
-    let concerns = c.is_concerned.ensures.value in
+    let kept_too : List ℕ → Bool = λ js. nat_lt 0 (length js) || nat_lt 0 (length (kept d r site)) in
+    let concerns : c.is_concerned.result ≡ is_concerned d r m site = c.is_concerned.ensures.value ∙ ap kept_too (c.as_slice.ensures.value ∙ c.chosen-chosen.ensures.value) in
     record {
       sites = elim c.if-is_concerned.branch [
         | then-is_concerned+in_ok-linkage+in_ok-push w ↦

@@ -1,17 +1,10 @@
-use Rattle.std.proofs.Common.{◌≡◌, ◌∙◌, ◌+◌, ◌<◌, ◌++◌, ◌∷◌, ◌&&◌, [], ℕ, Bool, List, true, false, ap, cond, filter, length, not, slice_index_or, sym, take, append-nil, arith}
-use Rattle.std.proofs.lemmas.List.Elements.{filter_more}
+use Rattle.std.proofs.Common.{◌≡◌, ◌∙◌, ◌<◌, ◌++◌, ◌∷◌, ◌&&◌, [], ℕ, Bool, List, true, false, ap, filter, length, not, slice_index_or, sym, take, append-nil, arith}
 use Rattle.mh_site.specs.Links.{site_of}
 use Rattle.mh_core.specs.Installations.{is_current, plan_at}
 use Rattle.mh_core.specs.Problems.{is_eligible}
+use Rattle.mh_core.proofs.InstalledLinks.{more_passes}
 use Rattle.mh_core.proofs.book.Book.left_out.Goals.{then-is_left_out+in_ok-push, else-is_left_out}
 use Rattle.mh_core.proofs.book.Book.left_out.Goals as goal
-
--- one element more, by whether it passes
-more_passes : (P : ℕ → Bool) (now links : List ℕ) (i : ℕ) (b : Bool) → now ≡ links → i < length links → P (slice_index_or now i 0) ≡ b
-    → filter P (take i links) ++ cond b (slice_index_or now i 0 ∷ []) [] ≡ filter P (take (i + 1) links)
-more_passes P now links i b read inside passes =
-    ap (λ (l : List ℕ). filter P (take i links) ++ cond b (slice_index_or l i 0 ∷ []) []) read
-    ∙ (ap (λ (t : Bool). filter P (take i links) ++ cond t (slice_index_or links i 0 ∷ []) []) (sym passes ∙ ap (λ (l : List ℕ). P (slice_index_or l i 0)) read) ∙ sym (filter_more P links i 0 inside))
 
 pub loop-link-preserved : goal.loop-link-preserved
 loop-link-preserved c =

@@ -1,5 +1,4 @@
 use Rattle.std.proofs.Common.{◌≡◌, ◌+◌, ap, refl, ◌∙◌, arith}
-use Rattle.mh_cert.specs.declared.plan.Plan.{Plan}
 use Rattle.mh_core.specs.declared.reply.Reply.TheVariants as reply
 use Rattle.mh_core.specs.BookViews.{book_state}
 use Rattle.mh_core.specs.Records.{plans}

@@ -1,5 +1,4 @@
-use Rattle.std.proofs.Common.{◌≡◌, ◌+◌, List, ℕ, length, map, refl, ap, sym, ◌∙◌, arith}
-use Rattle.std.specs.Prelude.{reverse}
+use Rattle.std.proofs.Common.{◌≡◌, ℕ, length, map, refl, ap, ◌∙◌, arith}
 use Rattle.mh_site.specs.Worlds.{WorldState, state_at}
 use Rattle.mh_core.specs.declared.pending.Effect.TheVariants as effect
 use Rattle.mh_core.specs.declared.reply.Reply.TheVariants as reply

@@ -1,31 +1,22 @@
-use Rattle.std.proofs.Common.{◌≡◌, ◌<◌, ap, ◌∙◌, arith, length}
-use Rattle.mh_ledger.specs.Ledgers.{at}
+use Rattle.std.proofs.Common.{◌≡◌, ◌<◌, ◌∙◌, List, ap, arith, length, slice_index_or}
+use Rattle.std.proofs.lemmas.List.{get_or_default}
+use Rattle.mh_ledger.specs.Ledgers.{LedgerState, at, ledger_at, no_ledger}
 use Rattle.mh_site.specs.Links.{links}
-use Rattle.mh_core.specs.Histories.{joined}
 use Rattle.mh_core.specs.Hits.{unflushed}
 use Rattle.mh_core.specs.Legal.{MachineState}
-use Rattle.mh_core.proofs.Ledgered.{unflushed_at, unflushed_length}
-use Rattle.mh_core.proofs.Machines.{own_ledger}
+use Rattle.mh_core.proofs.Machines.{hits_had}
 use Rattle.mh_core.proofs.machine.Machine.unflushed_by.Goals as goal
-
-pub unflushed-requires : goal.unflushed-requires
-unflushed-requires c =
-    let m = c.self.inside in
-    let known : c.args.worker < m.workers = omega (arith, c.requires.worker, ap (λ (x : MachineState). x.setting.workers) c.self.view_is) in
-    let own = own_ledger m.book m.calls m.workers m.ledgers.items c.self.invariant c.args.worker c.index-ledger.result.now known c.index-ledger.ensures in
-    record {
-      inside = omega (arith, c.requires.inside, ap (λ (x : MachineState). length (links x.setting.definition)) c.self.view_is, ap length own.0, unflushed_length m.book.definition (joined m.calls m.book.records) c.args.worker);
-    }
 
 pub returns-clause-value : goal.returns-clause-value
 returns-clause-value c =
     let m = c.self.inside in
     let w = c.args.worker in
     let k = c.args.link in
-    let l = c.index-ledger.result.now in
-    let h = joined m.calls m.book.records in
-    let known : w < m.workers = omega (arith, c.requires.worker, ap (λ (x : MachineState). x.setting.workers) c.self.view_is) in
-    let inside : k < length (links m.book.definition) = omega (arith, c.requires.inside, ap (λ (x : MachineState). length (links x.setting.definition)) c.self.view_is) in
-    let own = own_ledger m.book m.calls m.workers m.ledgers.items c.self.invariant w l known c.index-ledger.ensures in
-    let count : at l.unflushed k ≡ unflushed m.book.definition h w k = ap (λ ns. at ns k) own.0 ∙ unflushed_at m.book.definition h w k inside in
-    c.unflushed.ensures.value ∙ (count ∙ ap (λ (x : MachineState). unflushed x.setting.definition x.history w k) c.self.view_is)
+    let l = c.index-ledgers-worker.result in
+    let known : w < length m.runtime.ledgers = omega (arith, c.requires.worker, ap (λ (y : MachineState). y.setting.workers) c.self.view_is) in
+    let inside : k < length (links m.runtime.book.definition) = omega (arith, c.requires.inside, ap (λ (y : MachineState). length (links y.setting.definition)) c.self.view_is) in
+    let own : l ≡ ledger_at m.runtime.ledgers w =
+    c.index-ledgers-worker.is ∙ (ap (λ (ls : List LedgerState). slice_index_or ls w l) c.ledgers.ensures.value ∙ get_or_default m.runtime.ledgers w l no_ledger known) in
+    c.unflushed.ensures.value
+    ∙ (ap (λ (x : LedgerState). at x.unflushed k) own
+    ∙ (hits_had m.runtime m.history c.self.invariant w k known inside ∙ ap (λ (y : MachineState). unflushed y.setting.definition y.history w k) c.self.view_is))

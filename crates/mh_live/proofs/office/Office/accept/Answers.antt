@@ -16,7 +16,7 @@ show-requires-clause-standing g c =
     let shown = c.self.inside.writer.desk.shown.value in
     let is = c.self.invariant in
     let ready = subst (λ (o : OfficeState). IsReady o.book c.args.change) (sym c.self.view_is) c.requires.ready in
-    let own : control_of c.args.change.effect ≡ Some c.in-Some.control = sym c.requires.published ∙ (sym c.take_control.ensures.value ∙ c.in-Some.is) in
+    let own : control_of c.args.change.effect ≡ Some c.in-Some.control = sym c.in-Ok.ensures.value ∙ c.in-Some.is in
     stands_after g.N.Name.definition shown.world shown.past.log c.self.inside.book c.args.change c.in-Some.control c.kept.ensures.book is.definition ready is.stands.replays is.published
     own
 
@@ -26,34 +26,34 @@ invariant_of-self g c =
     let b = c.self.inside.book in
     let ready = subst (λ (o : OfficeState). IsReady o.book c.args.change) (sym c.self.view_is) c.requires.ready in
     let new = c.commit-reply.new.self in
-    let taken = subst (λ (p : PendingState). Takes b p.calls p.entry new) c.take_control.ensures.rest c.commit-reply.ensures.taken in
-    let both = list_of_change b new c.args.change c.in-Some.control c.self.inside.front c.in-Ok.front ready c.requires.calls taken
-    (sym c.requires.published ∙ (sym c.take_control.ensures.value ∙ c.in-Some.is)) is.known c.in-Ok.ensures.list.0 in
+    let taken = c.commit-reply.ensures.taken in
+    let both = list_of_change b new c.args.change c.in-Some.control c.self.inside.front c.in-Ok-show.front ready c.requires.calls taken
+    (sym c.in-Ok.ensures.value ∙ c.in-Some.is) is.known c.in-Ok-show.ensures.list.0 in
     record {
       stands = c.show.ensures.stands;
-      published = c.in-Ok.ensures.list.1 ∙ both.1;
+      published = c.in-Ok-show.ensures.list.1 ∙ both.1;
       known = both.1;
-      still = λ _. c.in-Ok.ensures.still;
+      still = λ _. c.in-Ok-show.ensures.still;
       halted = λ h. absurd (cc (h, c.if-self.false));
       definition = both.0.definition ∙ is.definition;
       limits = both.0.limits ∙ is.limits;
       shares = ap (λ (t : TotalsState). length t.shares) c.commit-reply.ensures.totals ∙ is.shares;
     }
 
-pub returns-in-Ok-clause-accepted : goal.returns-in-Ok-clause-accepted
-returns-in-Ok-clause-accepted g c =
+pub returns-in-Ok-show-clause-accepted : goal.returns-in-Ok-show-clause-accepted
+returns-in-Ok-show-clause-accepted g c =
     let b = c.self.inside.book in
     let ready = subst (λ (o : OfficeState). IsReady o.book c.args.change) (sym c.self.view_is) c.requires.ready in
     let new = c.commit-reply.new.self in
-    let taken = subst (λ (p : PendingState). Takes b p.calls p.entry new) c.take_control.ensures.rest c.commit-reply.ensures.taken in
-    let both = list_of_change b new c.args.change c.in-Some.control c.self.inside.front c.in-Ok.front ready c.requires.calls taken
-    (sym c.requires.published ∙ (sym c.take_control.ensures.value ∙ c.in-Some.is)) c.self.invariant.known c.in-Ok.ensures.list.0 in
-    let told = c.commit-reply.ensures.reply ∙ ap (λ (p : PendingState). reply_to b.definition b.records p.entry) c.take_control.ensures.rest in
+    let taken = c.commit-reply.ensures.taken in
+    let both = list_of_change b new c.args.change c.in-Some.control c.self.inside.front c.in-Ok-show.front ready c.requires.calls taken
+    (sym c.in-Ok.ensures.value ∙ c.in-Some.is) c.self.invariant.known c.in-Ok-show.ensures.list.0 in
+    let told = c.commit-reply.ensures.reply in
     let office : OfficeState = record { book = new; published = c.show.new.writer.desk.shown.value.past.log; closed = c.self.inside.closed } in
     subst (λ (o : OfficeState). Accepts o c.args.change.entry c.new.result office) c.self.view_is record {
       takes = both.0;
       answers = ap (λ (r : ReceiptState). r.reply) c.new.ensures.value ∙ told;
       told_list = ap (λ (r : ReceiptState). r.front) c.new.ensures.value ∙ (c.copy.ensures.value ∙ both.1);
-      shows = c.in-Ok.ensures.list.1 ∙ both.1;
+      shows = c.in-Ok-show.ensures.list.1 ∙ both.1;
       stays = refl;
     }

@@ -1,0 +1,23 @@
+-- Calls of a site over a definition: what stands before the answer.
+use Rattle.std.specs.Prelude.{ℕ, ◌<◌, ◌≤◌, List, length}
+use Rattle.mh_type.specs.Fits.{Fits}
+use Rattle.mh_type.specs.declared.value.Value.{Value}
+use Rattle.mh_site.specs.Defined.{DefinitionData, site_at}
+use Rattle.mh_core.specs.declared.caller.CalleeFault.{CalleeFault}
+use Rattle.mh_core.specs.declared.caller.CalleeFault.TheVariants.{NoSite, WrongType}
+use Rattle.mh_core.specs.declared.refusal.Refusal.{Refusal}
+use Rattle.mh_core.specs.declared.refusal.Refusal.TheVariants as refusal
+
+-- the site is there, and the arguments fit its type
+pub record IsCallable (d : DefinitionData) (s : ℕ) (a : List Value) : Type 0 where
+  pub inside : s < length d.sites
+  pub fits : Fits (site_at d s).method_type a
+
+-- the first of the two that fails is told
+abbrev pub RefusesCallee : DefinitionData → ℕ → List Value → CalleeFault → Type 0
+RefusesCallee d s a NoSite = length d.sites ≤ s
+RefusesCallee d s a WrongType = (s < length d.sites) × (Fits (site_at d s).method_type a → ⊥)
+
+abbrev pub refusal_of_callee : CalleeFault → Refusal
+refusal_of_callee NoSite = refusal.NoSite
+refusal_of_callee WrongType = refusal.WrongType
