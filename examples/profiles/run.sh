@@ -1,7 +1,8 @@
 #!/bin/sh
 # Turns the small logs here into profiles, and compares these with the lines beside them, which were worked out by hand from
 # what the tools say of themselves (tools/from_hotspot --help, tools/from_v8 --help). Plans shop.jsonl, whose lines were worked
-# out by hand too, and the three profiles of VMs, whose greatest worth the solver of LEMON found. The last line is the sum.
+# out by hand too, and the three profiles of VMs, whose greatest worth the solver of LEMON found, and checks each plan that comes
+# and that of shop-with-plan.jsonl. The last line is the sum.
 cd "$(dirname "$0")" || exit 1
 passed=0
 failed=0
@@ -36,9 +37,23 @@ worth_of() {
     fi
 }
 
+# checked FILE WORD..: the plan of a profile, which the words print from the file, is accepted behind it.
+checked() {
+    file=$1
+    shift
+    export plan
+    plan=$("$@" "$file" | ../../mhlink profile --certificate --workers 2 | tail -1)
+    case_of accepted.lines sh -c '{ "$@"; echo "$plan"; } | ../../mhlink check --profile' sh "$@" "$file"
+}
+
 case_of shop.lines sh -c '../../mhlink profile <shop.jsonl'
+case_of accepted.lines sh -c '../../mhlink check --profile <shop-with-plan.jsonl'
+checked shop.jsonl cat
 worth_of javadoc17.nmethod 1524257322
 worth_of javadoc17.site 2184823691
 worth_of tsc.function 120286223
+checked javadoc17.nmethod.jsonl.xz xz -dc
+checked javadoc17.site.jsonl.xz xz -dc
+checked tsc.function.jsonl.xz xz -dc
 echo "$passed passed, $failed failed"
 [ "$failed" -eq 0 ]

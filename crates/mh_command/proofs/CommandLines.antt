@@ -15,7 +15,7 @@ use Rattle.mh_command.specs.CommandLine.{program, run_words, check_words, AreWor
 use Rattle.mh_command.specs.declared.reading.Reading.{Reading}
 use Rattle.mh_command.specs.declared.request.Asked.{Asked}
 use Rattle.mh_command.specs.declared.request.Request.{Request}
-use Rattle.mh_command.specs.declared.request.Request.TheVariants.{Run, Check, Plan, Stress, Profile}
+use Rattle.mh_command.specs.declared.request.Request.TheVariants.{Run, Check, CheckProfile, Plan, Stress, Profile}
 
 is_plain : is_simple program ≡ true
 unfolding clap_on_literals
@@ -46,6 +46,7 @@ taken_check false false = refl
 taken_words : (request : Request) (reading : Reading) (after : List (List ℕ)) → AreWords request reading after → Takes after
 taken_words (Run options) reading after is = subst Takes (sym is) (taken_run options.report reading.explain reading.strict)
 taken_words Check reading after is = subst Takes (sym is) (taken_check reading.explain reading.strict)
+taken_words CheckProfile reading after is = absurd is
 taken_words (Plan options) reading after is = absurd is
 taken_words (Stress options) reading after is = absurd is
 taken_words (Profile options) reading after is = absurd is
@@ -74,14 +75,15 @@ named_run false false false = ((refl, refl), record { explain = refl; strict = r
 
 named_check : (explain strict : Bool) → IsEntered Check (record { explain = explain; strict = strict }) (check_words (record { explain = explain; strict = strict }))
 unfolding clap_on_literals
-named_check true true = (refl, record { explain = refl; strict = refl })
-named_check true false = (refl, record { explain = refl; strict = refl })
-named_check false true = (refl, record { explain = refl; strict = refl })
-named_check false false = (refl, record { explain = refl; strict = refl })
+named_check true true = ((refl, refl), record { explain = refl; strict = refl })
+named_check true false = ((refl, refl), record { explain = refl; strict = refl })
+named_check false true = ((refl, refl), record { explain = refl; strict = refl })
+named_check false false = ((refl, refl), record { explain = refl; strict = refl })
 
 named_words : (request : Request) (reading : Reading) (after : List (List ℕ)) → AreWords request reading after → IsEntered request reading after
 named_words (Run options) reading after is = subst (IsEntered (Run options) reading) (sym is) (named_run options.report reading.explain reading.strict)
 named_words Check reading after is = subst (IsEntered Check reading) (sym is) (named_check reading.explain reading.strict)
+named_words CheckProfile reading after is = absurd is
 named_words (Plan options) reading after is = absurd is
 named_words (Stress options) reading after is = absurd is
 named_words (Profile options) reading after is = absurd is

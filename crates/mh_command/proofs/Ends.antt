@@ -1,11 +1,11 @@
 -- How what is asked ends: its work, the last flush, and what is told.
-use Rattle.std.proofs.Common.{◌≡◌, ◌≢◌, ◌⊎◌, ◌<◌, ◌≤◌, inl, inr, refl, sym, ap, ◌∙◌, subst, ℕ, Bool, true, false, List, [], ◌∷◌, ◌++◌, append-nil, Option, Some, None, Result, Ok, Err, IfOk, IfErr, IfSome, arith}
+use Rattle.std.proofs.Common.{◌≡◌, ◌≢◌, ◌⊎◌, ◌<◌, ◌≤◌, inl, inr, refl, sym, ap, ◌∙◌, subst, ℕ, Bool, true, false, List, [], ◌++◌, append-nil, Option, Some, None, Result, Ok, Err, IfOk, IfErr, IfSome, arith}
 use Rattle.std.proofs.KnownBytes.{Appends-kept, Keeps-refl, Keeps-trans}
 use Rattle.std.specs.Io.KnownBytes.{Appends, Keeps}
 use Rattle.mh_core.specs.Legal.{MachineState}
 use Rattle.mh_text.specs.declared.json.step.Step.{Step}
 use Rattle.mh_text.specs.Bytes.{HasFailed, one_more}
-use Rattle.mh_text.specs.Faults.{fault_line, fault_text}
+use Rattle.mh_text.specs.Faults.{fault_line}
 use Rattle.mh_text.specs.Gives.{IsEndOf, IsHonest, no_memory}
 use Rattle.mh_text.specs.Lines.{lines_of}
 use Rattle.mh_text.specs.Output as output
@@ -21,7 +21,7 @@ use Rattle.mh_command.specs.Statuses.{status_told}
 use Rattle.mh_command.specs.Streams.{IsDone, IsTold, IsToldFor}
 use Rattle.mh_command.specs.declared.request.Asked.{Asked}
 use Rattle.mh_command.specs.declared.request.Request.{Request}
-use Rattle.mh_command.specs.declared.request.Request.TheVariants.{Run, Check, Plan, Stress, Profile}
+use Rattle.mh_command.specs.declared.request.Request.TheVariants.{Run, Check, CheckProfile, Plan, Stress, Profile}
 
 pub one_more_fails : (n : ℕ) → HasFailed n (one_more n)
 one_more_fails n = omega arith
@@ -42,9 +42,8 @@ appended_nothing None new written = tt
 appended_nothing (Some xs) None written = absurd written
 appended_nothing (Some xs) (Some ys) written = written ∙ append-nil xs
 
-not_nil : (xs : List ℕ) (x : ℕ) → xs ++ x ∷ [] ≡ [] → ⊥
-not_nil [] x is = cc
-not_nil (y ∷ ys) x is = cc
+some_is_no_none : (e : Fault) → Some e ≡ None → ⊥
+some_is_no_none e is = cc
 
 -- memory kept what is asked from its work
 pub nothing_done : (asked : Asked) (input old : Option (List ℕ)) (A B : Type 0) → FailsIn asked input old old A B (outside no_memory)
@@ -114,12 +113,15 @@ module _ (old mid new : Option (List ℕ)) (kept : Keeps mid new) where
   on_kept Check input A B e (inl (same, unread)) = inl (Keeps-trans old mid new same kept, unread)
   on_kept Check input A B e (inr (verdict, found, (is, failed, (front, rest, left, split, begun)))) =
       inr (verdict, found, (is, failed, (front, rest, left, split, Appends-kept old mid new front begun kept)))
+  on_kept CheckProfile input A B e (inl (same, unread)) = inl (Keeps-trans old mid new same kept, unread)
+  on_kept CheckProfile input A B e (inr (verdict, found, (is, failed, (front, rest, left, split, begun)))) =
+      inr (verdict, found, (is, failed, (front, rest, left, split, Appends-kept old mid new front begun kept)))
   on_kept (Plan options) input A B e (inl (same, unread)) = inl (Keeps-trans old mid new same kept, unread)
   on_kept (Plan options) input A B e (inr (text, planned, (is, failed, (front, rest, left, split, begun)))) =
       inr (text, planned, (is, failed, (front, rest, left, split, Appends-kept old mid new front begun kept)))
-  on_kept (Stress options) input A B e (inl (same, unread)) = inl (Keeps-trans old mid new same kept, unread)
-  on_kept (Stress options) input A B e (inr (text, stressed, (is, failed, (front, rest, left, split, begun)))) =
-      inr (text, stressed, (is, failed, (front, rest, left, split, Appends-kept old mid new front begun kept)))
+  on_kept (Stress options) input A B e (inl (same, unread), script) = (inl (Keeps-trans old mid new same kept, unread), script)
+  on_kept (Stress options) input A B e (inr (text, stressed, (is, failed, (front, rest, left, split, begun))), script) =
+      (inr (text, stressed, (is, failed, (front, rest, left, split, Appends-kept old mid new front begun kept))), script)
   on_kept (Profile options) input A B e (inl (same, unread)) = inl (Keeps-trans old mid new same kept, unread)
   on_kept (Profile options) input A B e (inr (text, planned, (is, failed, (front, rest, left, split, begun)))) =
       inr (text, planned, (is, failed, (front, rest, left, split, Appends-kept old mid new front begun kept)))
@@ -160,16 +162,20 @@ module _ (old new : Option (List ℕ)) (A B : Type 0) (e : Fault) (small : statu
   refuses_on Check bytes (inl (kept, inr (inl (read, failed)))) = absurd (not_outside ReadFailed (omega arith) read)
   refuses_on Check bytes (inl (kept, inr (inr fault))) = (inr (e, fault, refl), kept)
   refuses_on Check bytes (inr (verdict, found, (is, failed, begun))) = absurd (not_outside WriteFailed (omega arith) is)
+  refuses_on CheckProfile bytes (inl (kept, inl memory)) = absurd (not_outside no_memory (omega arith) memory)
+  refuses_on CheckProfile bytes (inl (kept, inr (inl (read, failed)))) = absurd (not_outside ReadFailed (omega arith) read)
+  refuses_on CheckProfile bytes (inl (kept, inr (inr fault))) = (inr (e, fault, refl), kept)
+  refuses_on CheckProfile bytes (inr (verdict, found, (is, failed, begun))) = absurd (not_outside WriteFailed (omega arith) is)
   refuses_on (Plan options) bytes (inl (kept, inl memory)) = absurd (not_outside no_memory (omega arith) memory)
   refuses_on (Plan options) bytes (inl (kept, inr (inl (read, failed)))) = absurd (not_outside ReadFailed (omega arith) read)
   refuses_on (Plan options) bytes (inl (kept, inr (inr fault))) = (inr (e, fault, refl), kept)
   refuses_on (Plan options) bytes (inr (text, planned, (is, failed, begun))) = absurd (not_outside WriteFailed (omega arith) is)
-  refuses_on (Stress options) bytes (inl (kept, inl (inl memory))) = absurd (not_outside no_memory (omega arith) memory)
-  refuses_on (Stress options) bytes (inl (kept, inl (inr (inl (read, failed))))) = absurd (not_outside ReadFailed (omega arith) read)
-  refuses_on (Stress options) bytes (inl (kept, inl (inr (inr (inl fault))))) = (inr (e, fault, refl), kept)
-  refuses_on (Stress options) bytes (inl (kept, inl (inr (inr (inr (memory, reached)))))) = absurd (not_of no_memory (omega arith) memory)
-  refuses_on (Stress options) bytes (inl (kept, inr reader)) = absurd (not_outside NoReader (omega arith) reader)
-  refuses_on (Stress options) bytes (inr (text, stressed, (is, failed, begun))) = absurd (not_outside WriteFailed (omega arith) is)
+  refuses_on (Stress options) bytes (inl (kept, inl (inl memory)), script) = absurd (not_outside no_memory (omega arith) memory)
+  refuses_on (Stress options) bytes (inl (kept, inl (inr (inl (read, failed)))), script) = absurd (not_outside ReadFailed (omega arith) read)
+  refuses_on (Stress options) bytes (inl (kept, inl (inr (inr (inl fault)))), script) = (inr (e, fault, refl), kept)
+  refuses_on (Stress options) bytes (inl (kept, inl (inr (inr (inr (memory, reached))))), script) = absurd (not_of no_memory (omega arith) memory)
+  refuses_on (Stress options) bytes (inl (kept, inr reader), script) = absurd (not_outside NoReader (omega arith) reader)
+  refuses_on (Stress options) bytes (inr (text, stressed, (is, failed, begun)), script) = absurd (not_outside WriteFailed (omega arith) is)
   refuses_on (Profile options) bytes (inl (kept, inl memory)) = absurd (not_outside no_memory (omega arith) memory)
   refuses_on (Profile options) bytes (inl (kept, inr (inl (read, failed)))) = absurd (not_outside ReadFailed (omega arith) read)
   refuses_on (Profile options) bytes (inl (kept, inr (inr fault))) = (inr (e, fault, refl), kept)
@@ -228,7 +234,7 @@ module _ (asked : Asked) (input o m n e f : Option (List ℕ)) (in_old in_new ou
     output_alone status text,
     help,
     answer,
-    record { unexplained = helped.unexplained; silent = λ none read. helped.silent read },
+    record { unexplained = helped.unexplained; silent = λ none read. helped.silent read; explained = helped.explained },
     sym is,
     Appends-kept o m n text written kept,
     told,
@@ -243,7 +249,7 @@ module _ (asked : Asked) (input o m n e f : Option (List ℕ)) (in_old in_new ou
         turned_down fault,
         help,
         answer,
-        record { unexplained = helped.unexplained; silent = λ none read. absurd (not_nil (fault_text fault) 10 none) },
+        record { unexplained = helped.unexplained; silent = λ none read. absurd (some_is_no_none fault none); explained = helped.explained },
         omega (arith, is, small, above),
         nothing_appended o n (Keeps-trans o m n same kept),
         line,

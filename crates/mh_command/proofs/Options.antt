@@ -9,7 +9,7 @@ use Rattle.mh_stress.specs.declared.stress.StressOptions.{StressOptions}
 use Rattle.mh_command.specs.CommandLine.{AreStressed, AreWorkers, IsNumber, IsRead, IsReadFor, IsRequest, plain, IsReported, IsUnexplained, MayBeNumber, truth_text}
 use Rattle.mh_command.specs.declared.reading.Reading.{Reading}
 use Rattle.mh_command.specs.declared.request.Request.{Request}
-use Rattle.mh_command.specs.declared.request.Request.TheVariants.{Run, Check, Plan, Stress, Profile}
+use Rattle.mh_command.specs.declared.request.Request.TheVariants.{Run, Check, CheckProfile, Plan, Stress, Profile}
 
 -- a number that has so many bits is read as what it is
 number_read : {E : Type 0} (bits : ℕ) (G : List ℕ → Result ℕ E → Type 0) → ((t : List ℕ) (x : Result ℕ E) → G t x → ParsesUnsigned bits 10 t x)
@@ -86,7 +86,8 @@ module _ (f : Found) (options : StressOptions) (are : AreStressed options (rows_
 -- words after `profile` ask for a profile alone, which is read as it is
 pub reading_plain : (request : Request) (reading : Reading) (name : List ℕ) (rows : List Row) → name ≡ codes "profile" → IsRequest request name rows → IsReadFor request reading rows → plain ≡ reading
 reading_plain (Run options) reading name rows is asks reads = absurd (omega (arith, ap length (sym is ∙ asks.0)))
-reading_plain Check reading name rows is asks reads = absurd (omega (arith, ap length (sym is ∙ asks)))
+reading_plain Check reading name rows is asks reads = absurd (omega (arith, ap length (sym is ∙ asks.0)))
+reading_plain CheckProfile reading name rows is asks reads = absurd (omega (arith, ap length (sym is ∙ asks.0)))
 reading_plain (Plan options) reading name rows is asks reads = absurd (omega (arith, ap length (sym is ∙ asks.0)))
 reading_plain (Stress options) reading name rows is asks reads = absurd (omega (arith, ap length (sym is ∙ asks.0)))
 reading_plain (Profile options) reading name rows is asks reads = sym reads
@@ -95,6 +96,7 @@ reading_plain (Profile options) reading name rows is asks reads = sym reads
 pub reading_said : (request : Request) (reading : Reading) (name : List ℕ) (rows : List Row) → (name ≡ codes "profile" → ⊥) → IsRequest request name rows → IsReadFor request reading rows → IsRead reading rows
 reading_said (Run options) reading name rows other asks reads = reads
 reading_said Check reading name rows other asks reads = reads
+reading_said CheckProfile reading name rows other asks reads = reads
 reading_said (Plan options) reading name rows other asks reads = reads
 reading_said (Stress options) reading name rows other asks reads = reads
 reading_said (Profile options) reading name rows other asks reads = absurd (other asks.0)

@@ -1,5 +1,5 @@
 -- Work over an input that was read, and the same of what is left in a reader.
-use Rattle.std.proofs.Common.{◌≡◌, ◌≢◌, ◌⊎◌, ◌<◌, inl, inr, refl, sym, ap, ◌∙◌, subst, ℕ, Bool, true, false, List, length, Option, Some, None, Result, Ok, Err, IfErr, IfSome, codes}
+use Rattle.std.proofs.Common.{◌≡◌, ◌≢◌, ◌⊎◌, ◌<◌, inl, inr, refl, sym, ap, ◌∙◌, subst, ℕ, Bool, true, false, List, [], length, Option, Some, None, Result, Ok, Err, IfErr, IfSome, codes}
 use Rattle.std.proofs.lemmas.Bool.{lt-leb}
 use Rattle.std.specs.Prelude.{if◌then◌else◌}
 use Rattle.std.proofs.KnownBytes.{Keeps-refl}
@@ -10,26 +10,33 @@ use Rattle.mh_text.specs.Inputs.{json_of_input}
 use Rattle.mh_text.specs.Checks.{IsClaimFault}
 use Rattle.mh_text.specs.Output.{outside, EndsReading, IsUnread}
 use Rattle.mh_text.specs.Planning.{IsProblemFault}
+use Rattle.mh_profile.specs.Claims.{IsReadClaimFault}
 use Rattle.mh_profile.specs.Inputs.{IsProfileFault}
 use Rattle.mh_text.specs.Problems.{rows_at}
 use Rattle.mh_text.specs.Script.{script_of}
 use Rattle.mh_text.specs.declared.fault.Fault.{Fault}
+use Rattle.mh_text.specs.declared.fault.InputFault.{InputFault}
+use Rattle.mh_text.specs.declared.fault.InputFault.TheVariants.{NoMemory}
 use Rattle.mh_text.specs.declared.fault.TextFault.{TextFault}
 use Rattle.mh_text.specs.declared.fault.TextFault.TheVariants.{Input, ReadFailed, WriteFailed, NoReader}
 use Rattle.mh_explain.specs.Unread.{first_unread, first_of_read}
 use Rattle.mh_explain.specs.declared.input.InputForm.{InputForm}
-use Rattle.mh_command.specs.Answers.{FailsIn, FailsOn, IsAnswerUnless, IsHelp, Works, WorksOn, output_alone}
-use Rattle.mh_command.specs.Readings.{form_of, refused_at, unread_in, IsRefusal}
+use Rattle.mh_command.specs.Answers.{FailsIn, FailsOn, IsAnswerUnless, IsHelp, Works, WorksOn, fault_at, output_alone}
+use Rattle.mh_command.specs.Readings.{fault_explained, fault_told, form_of, refused_at, unread_in, ExplainsFault, IsExplained, IsRefusal}
 use Rattle.mh_command.specs.declared.request.Asked.{Asked}
 use Rattle.mh_command.specs.declared.request.Request.{Request}
-use Rattle.mh_command.specs.declared.request.Request.TheVariants.{Run, Check, Plan, Stress, Profile}
+use Rattle.mh_command.specs.declared.request.Request.TheVariants.{Run, Check, CheckProfile, Plan, Stress, Profile}
+
+memory_is_no_reader : no_memory ≢ NoReader
+memory_is_no_reader is = cc
 
 -- memory kept a request from its work
 nothing_worked : (request : Request) (input old new : Option (List ℕ)) (A B : Type 0) → Keeps old new → FailsOn request input old new A B (outside no_memory)
 nothing_worked (Run options) input old new A B kept = inl (kept, inl refl)
 nothing_worked Check input old new A B kept = inl (kept, inl refl)
+nothing_worked CheckProfile input old new A B kept = inl (kept, inl refl)
 nothing_worked (Plan options) input old new A B kept = inl (kept, inl refl)
-nothing_worked (Stress options) input old new A B kept = inl (kept, inl (inl refl))
+nothing_worked (Stress options) input old new A B kept = (inl (kept, inl (inl refl)), λ is. absurd (memory_is_no_reader (ap (λ f. f.kind) is)))
 nothing_worked (Profile options) input old new A B kept = inl (kept, inl refl)
 
 memory_is_no_read : no_memory ≢ ReadFailed
@@ -58,10 +65,12 @@ module _ (input old new : Option (List ℕ)) (A B : Type 0) (e : Fault) (read : 
   keeps_unread (Run options) bytes (inr (script, is, inr (inr (last, between, runs, (asked, inr (write, failed, begun)))))) = absurd (not_outside WriteFailed write_is_no_read write)
   keeps_unread Check bytes (inl (kept, unread)) = kept
   keeps_unread Check bytes (inr (verdict, found, (is, failed, begun))) = absurd (not_outside WriteFailed write_is_no_read is)
+  keeps_unread CheckProfile bytes (inl (kept, unread)) = kept
+  keeps_unread CheckProfile bytes (inr (verdict, found, (is, failed, begun))) = absurd (not_outside WriteFailed write_is_no_read is)
   keeps_unread (Plan options) bytes (inl (kept, unread)) = kept
   keeps_unread (Plan options) bytes (inr (text, planned, (is, failed, begun))) = absurd (not_outside WriteFailed write_is_no_read is)
-  keeps_unread (Stress options) bytes (inl (kept, unread)) = kept
-  keeps_unread (Stress options) bytes (inr (text, stressed, (is, failed, begun))) = absurd (not_outside WriteFailed write_is_no_read is)
+  keeps_unread (Stress options) bytes (inl (kept, unread), script) = kept
+  keeps_unread (Stress options) bytes (inr (text, stressed, (is, failed, begun)), script) = absurd (not_outside WriteFailed write_is_no_read is)
   keeps_unread (Profile options) bytes (inl (kept, unread)) = kept
   keeps_unread (Profile options) bytes (inr (text, planned, (is, failed, begun))) = absurd (not_outside WriteFailed write_is_no_read is)
 
@@ -77,11 +86,13 @@ module _ (old new : Option (List ℕ)) (A C B : Type 0) (e : Fault) (bytes : Lis
   fails_by (Run options) (inr early) = inr early
   fails_by Check (inl (kept, unread)) = inl (kept, unread_by IsClaimFault unread)
   fails_by Check (inr cut) = inr cut
+  fails_by CheckProfile (inl (kept, unread)) = inl (kept, unread_by IsReadClaimFault unread)
+  fails_by CheckProfile (inr cut) = inr cut
   fails_by (Plan options) (inl (kept, unread)) = inl (kept, unread_by IsProblemFault unread)
   fails_by (Plan options) (inr cut) = inr cut
-  fails_by (Stress options) (inl (kept, inl unread)) = inl (kept, inl (unread_by EndsReading unread))
-  fails_by (Stress options) (inl (kept, inr reader)) = inl (kept, inr reader)
-  fails_by (Stress options) (inr cut) = inr cut
+  fails_by (Stress options) (inl (kept, inl unread), script) = (inl (kept, inl (unread_by EndsReading unread)), script)
+  fails_by (Stress options) (inl (kept, inr reader), script) = (inl (kept, inr reader), script)
+  fails_by (Stress options) (inr cut, script) = (inr cut, script)
   fails_by (Profile options) (inl (kept, unread)) = inl (kept, unread_by IsProfileFault unread)
   fails_by (Profile options) (inr cut) = inr cut
 
@@ -150,11 +161,13 @@ module _ (asked : Asked) (bytes : List ℕ) where
   unknown (Run options) old new A B e fails = inr tt
   unknown Check old new A B e (inl (kept, unread)) = inl (kept, inr (inr tt))
   unknown Check old new A B e (inr (verdict, found, cut)) = inr (verdict, tt, cut)
+  unknown CheckProfile old new A B e (inl (kept, unread)) = inl (kept, inr (inr tt))
+  unknown CheckProfile old new A B e (inr (verdict, found, cut)) = inr (verdict, tt, cut)
   unknown (Plan options) old new A B e (inl (kept, unread)) = inl (kept, inr (inr tt))
   unknown (Plan options) old new A B e (inr (text, planned, cut)) = inr (text, tt, cut)
-  unknown (Stress options) old new A B e (inl (kept, inl unread)) = inl (kept, inl (inr (inr tt)))
-  unknown (Stress options) old new A B e (inl (kept, inr reader)) = inl (kept, inr reader)
-  unknown (Stress options) old new A B e (inr (text, stressed, cut)) = inr (text, tt, cut)
+  unknown (Stress options) old new A B e (inl (kept, inl unread), script) = (inl (kept, inl (inr (inr tt))), λ is. tt)
+  unknown (Stress options) old new A B e (inl (kept, inr reader), script) = (inl (kept, inr reader), λ is. tt)
+  unknown (Stress options) old new A B e (inr (text, stressed, cut), script) = (inr (text, tt, cut), λ is. tt)
   unknown (Profile options) old new A B e (inl (kept, unread)) = inl (kept, inr (inr tt))
   unknown (Profile options) old new A B e (inr (text, planned, cut)) = inr (text, tt, cut)
 
@@ -175,8 +188,53 @@ module _ (asked : Asked) (bytes : List ℕ) where
 
   pub help_whole : (input : Option (List ℕ)) (end : Result ℕ Fault) (help : List ℕ) → IfSome input (λ all. bytes ≡ all) → IsHelp asked (Some bytes) end help → IsHelp asked input end help
   help_whole (Some all) end help same helped = subst (λ bs. IsHelp asked (Some bs) end help) same helped
-  help_whole None (Ok status) help same helped = record { unexplained = helped.unexplained; silent = tt }
-  help_whole None (Err e) help same helped = record { unexplained = helped.unexplained; silent = tt }
+  help_whole None (Ok status) help same helped = record { unexplained = helped.unexplained; silent = tt; explained = tt }
+  help_whole None (Err e) help same helped = record { unexplained = helped.unexplained; silent = tt; explained = tt }
+
+-- where nothing is told, nothing is to be explained
+pub none_helped : (asked : Asked) (input : Option (List ℕ)) (end : Result ℕ Fault) (help : List ℕ) → help ≡ [] → IsHelp asked input end help
+none_helped asked None (Ok status) help none = record { unexplained = λ plain. none; silent = tt; explained = tt }
+none_helped asked None (Err e) help none = record { unexplained = λ plain. none; silent = tt; explained = tt }
+none_helped asked (Some bytes) (Ok status) help none = record { unexplained = λ plain. none; silent = λ read. none; explained = inl none }
+none_helped asked (Some bytes) (Err e) help none = record { unexplained = λ plain. none; silent = tt; explained = inl none }
+
+-- want of memory is explained by nothing
+lines_of_memory : (form : Option InputForm) (input lines : List ℕ) → ExplainsFault form input None lines → ExplainsFault form input (Some NoMemory) lines
+lines_of_memory None input lines none = none
+lines_of_memory (Some form) input lines none = λ is. cc
+
+memory_explained : (form : Option InputForm) (input help : List ℕ) → IsExplained form input None help → IsExplained form input (Some NoMemory) help
+memory_explained form input help (inl none) = inl none
+memory_explained form input help (inr (lines, notes, both, explains, read)) = inr (lines, notes, both, lines_of_memory form input lines explains, read)
+
+memory_at : (found : Option ℕ) (form : Option InputForm) (input help : List ℕ) → IsExplained form input None help
+    → IsExplained form input (fault_explained found (Some (outside no_memory))) help
+memory_at (Some at) form input help explained = explained
+memory_at None form input help explained = memory_explained form input help explained
+
+-- the help for an input that is refused for a key, or whose keys could not be looked at
+module _ (asked : Asked) (bytes : List ℕ) (e : Fault) (help : List ℕ) (explained : IsExplained (form_of asked.request) bytes None help) where
+  refused_explained : (e ≡ outside no_memory) ⊎ IsRefusal asked bytes e → IsExplained (form_of asked.request) bytes (fault_explained (refused_at asked bytes) (Some e)) help
+  refused_explained (inl memory) =
+      subst (λ f. IsExplained (form_of asked.request) bytes (fault_explained (refused_at asked bytes) (Some f)) help) (sym memory)
+      (memory_at (refused_at asked bytes) (form_of asked.request) bytes help explained)
+  refused_explained (inr (at, is, same)) =
+      subst (λ o. IsExplained (form_of asked.request) bytes (fault_explained o (Some e)) help) (sym is) explained
+
+  pub refused_helped : (e ≡ outside no_memory) ⊎ IsRefusal asked bytes e → (asked.reading.explain ≡ false → help ≡ []) → IsHelp asked (Some bytes) (Err e) help
+  refused_helped refused plain = record { unexplained = plain; silent = tt; explained = refused_explained refused }
+
+-- the help for the end of the work, over an input that is not refused
+module _ (asked : Asked) (bytes : List ℕ) (fault : Option InputFault) (help : List ℕ) (unrefused : refused_at asked bytes ≡ None) (explained : IsExplained (form_of asked.request) bytes fault help) where
+  explained_as : (o : Option Fault) → fault ≡ fault_told o → IsExplained (form_of asked.request) bytes (fault_explained (refused_at asked bytes) o) help
+  explained_as o is =
+      subst (λ r. IsExplained (form_of asked.request) bytes (fault_explained r o) help) (sym unrefused)
+      (subst (λ (f : Option InputFault). IsExplained (form_of asked.request) bytes f help) is explained)
+
+  pub worked_helped : (end : Result ℕ Fault) → fault ≡ fault_told (fault_at end) → (asked.reading.explain ≡ false → help ≡ [])
+      → (fault ≡ None → unread_in (form_of asked.request) bytes ≡ None → help ≡ []) → IsHelp asked (Some bytes) end help
+  worked_helped (Ok status) is plain silent = record { unexplained = plain; silent = λ read. silent is read; explained = explained_as None is }
+  worked_helped (Err e) is plain silent = record { unexplained = plain; silent = tt; explained = explained_as (Some e) is }
 
 ends_at : (A B : Type 0) (k : TextFault) → IsEndOf (HasFailed 0 0) B k → IsEndOf A B k
 ends_at A B (Input cause) end = end
@@ -190,6 +248,9 @@ pub honest_whole : (worked : Result ℕ Fault) (reads_old reads_new writes_old w
 honest_whole (Ok status) reads_old reads_new writes_old writes_new same honest = (same, honest.1)
 honest_whole (Err e) reads_old reads_new writes_old writes_new same honest =
     ends_at (HasFailed reads_old reads_new) (HasFailed writes_old writes_new) e.kind honest
+
+long_is_no_reader : too_long ≢ NoReader
+long_is_no_reader is = cc
 
 -- an input that is too long has that fault in any form, and no key that is refused
 module _ (bytes : List ℕ) (long : most_bytes < length bytes) where
@@ -208,8 +269,10 @@ module _ (bytes : List ℕ) (long : most_bytes < length bytes) where
   long_fails : (request : Request) (old : Option (List ℕ)) (A B : Type 0) → form_of request ≢ None → FailsOn request (Some bytes) old old A B (outside too_long)
   long_fails (Run options) old A B formed = inl (Keeps-refl old, inr (inr (inl (ap (λ d. d >>= script_of) is_long))))
   long_fails Check old A B formed = inl (Keeps-refl old, inr (inr (inl (ap (λ d. d >>= (λ value. at_place 0 (rows_at (Some (codes "problem")) value))) is_long))))
+  long_fails CheckProfile old A B formed = absurd (formed refl)
   long_fails (Plan options) old A B formed = inl (Keeps-refl old, inr (inr (inl (ap (λ d. d >>= (λ value. at_place 0 (rows_at None value))) is_long))))
-  long_fails (Stress options) old A B formed = inl (Keeps-refl old, inl (inr (inr (inl (ap (λ d. d >>= script_of) is_long)))))
+  long_fails (Stress options) old A B formed =
+      (inl (Keeps-refl old, inl (inr (inr (inl (ap (λ d. d >>= script_of) is_long))))), λ is. absurd (long_is_no_reader (ap (λ f. f.kind) is)))
   long_fails (Profile options) old A B formed = absurd (formed refl)
 
 -- an input that could not be read to its end

@@ -1,5 +1,5 @@
 -- What a request is answered with.
-use Rattle.std.specs.Prelude.{◌≡◌, ◌⊎◌, ℕ, true, false, List, [], ◌++◌, Option, Some, None, Result, Ok, IfOk, IfSome}
+use Rattle.std.specs.Prelude.{◌≡◌, ◌⊎◌, ℕ, true, false, List, [], ◌++◌, Option, Some, None, Result, Ok, Err, IfOk, IfSome}
 use Rattle.std.specs.Io.KnownBytes.{Appends, Keeps}
 use Rattle.mh_core.specs.declared.event.Event.{Event}
 use Rattle.mh_text.specs.Checks.{IsClaimFault, IsVerdict, FailsCheck, verdict_line}
@@ -12,30 +12,36 @@ use Rattle.mh_text.specs.declared.streams.run.RunOptions.{RunOptions}
 use Rattle.mh_text.specs.declared.json.script.Script.{Script}
 use Rattle.mh_text.specs.Steps.{Told, Run}
 use Rattle.mh_text.specs.declared.lines.verdict.Verdict.{Verdict}
-use Rattle.mh_text.specs.declared.fault.TextFault.TheVariants.{WriteFailed}
-use Rattle.mh_stress.specs.Stress.{FailsStress, IsStressed}
+use Rattle.mh_text.specs.declared.fault.TextFault.TheVariants.{NoReader, WriteFailed}
+use Rattle.mh_stress.specs.Stress.{FailsStress, IsScript, IsStressed}
 use Rattle.mh_stress.specs.declared.stress.StressOptions.{StressOptions}
 use Rattle.mh_profile.specs.Inputs.{IsProfileFault}
+use Rattle.mh_profile.specs.Claims as claim
 use Rattle.mh_profile.specs.Planning as profile
 use Rattle.mh_profile.specs.declared.planning.ProfileOptions.{ProfileOptions}
-use Rattle.mh_command.specs.Readings.{form_of, refused_at, unread_fault, unread_in, IsRefusal}
+use Rattle.mh_command.specs.Readings.{fault_explained, form_of, refused_at, unread_fault, unread_in, IsExplained, IsRefusal}
 use Rattle.mh_command.specs.Statuses.{status_found}
 use Rattle.mh_command.specs.declared.request.Asked.{Asked}
 use Rattle.mh_command.specs.declared.request.Request.{Request}
 use Rattle.mh_command.specs.declared.request.Request.TheVariants as request
 
--- the status, what is written to the output, and what to the stream of errors
+-- the status, what is written to the output, and the fault whose line is written to the stream of errors
 pub record Answer : Type 0 where
   pub status : ℕ
   pub output : List ℕ
-  pub errors : List ℕ
+  pub fault : Option Fault
 
 abbrev pub output_alone : ℕ → List ℕ → Answer
-output_alone status text = record { status = status; output = text; errors = [] }
+output_alone status text = record { status = status; output = text; fault = None }
 
 -- the line of a fault of the input
 abbrev pub turned_down : Fault → Answer
-turned_down e = record { status = 1; output = []; errors = fault_line e }
+turned_down e = record { status = 1; output = []; fault = Some e }
+
+-- the line of a fault, where there is one
+abbrev pub errors_of : Option Fault → List ℕ
+errors_of None = []
+errors_of (Some e) = fault_line e
 
 -- a script: the lines of a legal run of it, and its report, where it is asked for; else its first fault
 abbrev pub IsRunAnswer : RunOptions → List ℕ → Answer → Type 0
@@ -49,6 +55,12 @@ abbrev pub IsCheckAnswer : List ℕ → Answer → Type 0
 IsCheckAnswer input answer =
     ((verdict : Verdict) × IsVerdict input verdict × (answer ≡ output_alone (status_found verdict) (verdict_line verdict)))
     ⊎ ((e : Fault) × IsClaimFault input e × (answer ≡ turned_down e))
+
+-- a profile with a plan: the same
+abbrev pub IsProfileCheckAnswer : List ℕ → Answer → Type 0
+IsProfileCheckAnswer input answer =
+    ((verdict : Verdict) × claim.IsVerdict input verdict × (answer ≡ output_alone (status_found verdict) (verdict_line verdict)))
+    ⊎ ((e : Fault) × claim.IsReadClaimFault input e × (answer ≡ turned_down e))
 
 -- a problem: the lines of a best plan; else the first fault
 abbrev pub IsPlanAnswer : PlanOptions → List ℕ → Answer → Type 0
@@ -72,6 +84,7 @@ IsProfileAnswer options input answer =
 abbrev pub IsAnswerOf : Request → List ℕ → Answer → Type 0
 IsAnswerOf (request.Run options) = IsRunAnswer options
 IsAnswerOf request.Check = IsCheckAnswer
+IsAnswerOf request.CheckProfile = IsProfileCheckAnswer
 IsAnswerOf (request.Plan options) = IsPlanAnswer options
 IsAnswerOf (request.Stress options) = IsStressAnswer options
 IsAnswerOf (request.Profile options) = IsProfileAnswer options
@@ -85,17 +98,18 @@ IsAnswerUnless None request input answer = IsAnswerOf request input answer
 abbrev pub IsAnswerTo : Asked → List ℕ → Answer → Type 0
 IsAnswerTo asked input answer = IsAnswerUnless (refused_at asked input) asked.request input answer
 
--- What `--explain` writes behind the errors of an answer: nothing where it is not asked for, nor where the input is accepted and
--- each of its keys is read.
-pub record IsBeside (asked : Asked) (input errors help : List ℕ) : Type 0 where
+-- What `--explain` writes behind the fault of an answer: nothing where it is not asked for, nor where the input is accepted and
+-- each of its keys is read; and else what explains that fault, with the notes of keys, unless memory ran out.
+pub record IsBeside (asked : Asked) (input : List ℕ) (fault : Option Fault) (help : List ℕ) : Type 0 where
   pub unexplained : asked.reading.explain ≡ false → help ≡ []
-  pub silent : errors ≡ [] → unread_in (form_of asked.request) input ≡ None → help ≡ []
+  pub silent : fault ≡ None → unread_in (form_of asked.request) input ≡ None → help ≡ []
+  pub explained : IsExplained (form_of asked.request) input (fault_explained (refused_at asked input) fault) help
 
 -- The status is that of such an answer to the input, and its texts were appended to both streams.
 abbrev pub Answers : Asked → Option (List ℕ) → ℕ → Option (List ℕ) → Option (List ℕ) → Option (List ℕ) → Option (List ℕ) → Type 0
 Answers asked input status output_old output_new errors_old errors_new =
-    IfSome input (λ bytes. (answer : Answer) × (help : List ℕ) × IsAnswerTo asked bytes answer × IsBeside asked bytes answer.errors help
-    × (answer.status ≡ status) × Appends output_old output_new answer.output × Appends errors_old errors_new (answer.errors ++ help))
+    IfSome input (λ bytes. (answer : Answer) × (help : List ℕ) × IsAnswerTo asked bytes answer × IsBeside asked bytes answer.fault help
+    × (answer.status ≡ status) × Appends output_old output_new answer.output × Appends errors_old errors_new (errors_of answer.fault ++ help))
 
 -- the input is turned down for something that is asked
 abbrev pub IsTurnedDown : List ℕ → Type 0
@@ -111,12 +125,18 @@ abbrev pub Works : Asked → Option (List ℕ) → Option (List ℕ) → Option 
 Works asked input old new status =
     IfSome input (λ bytes. (text : List ℕ) × IsAnswerTo asked bytes (output_alone status text) × Appends old new text)
 
+-- What the output is left with where a stress ends in a fault; that no reader could be made is told of a script alone.
+abbrev pub FailsAsStress : StressOptions → Option (List ℕ) → Option (List ℕ) → Option (List ℕ) → Type 0 → Type 0 → Fault → Type 0
+FailsAsStress options input old new ReadHasFailed WriteHasFailed e =
+    FailsStress options input old new ReadHasFailed WriteHasFailed e × (e ≡ outside NoReader → IfSome input IsScript)
+
 -- What the output is left with where the work of a request ends in a fault.
 abbrev pub FailsOn : Request → Option (List ℕ) → Option (List ℕ) → Option (List ℕ) → Type 0 → Type 0 → Fault → Type 0
 FailsOn (request.Run options) = Failed options
 FailsOn request.Check = FailsCheck
+FailsOn request.CheckProfile = claim.FailsCheck
 FailsOn (request.Plan options) = FailsPlan options
-FailsOn (request.Stress options) = FailsStress options
+FailsOn (request.Stress options) = FailsAsStress options
 FailsOn (request.Profile options) = profile.FailsPlan options
 
 -- The same of what is asked: before the work, with nothing written; or in the work, for which the input is then not refused.
@@ -132,8 +152,14 @@ EndsIn asked input old new ReadHasFailed WriteHasFailed e =
     FailsIn asked input old new ReadHasFailed WriteHasFailed e
     ⊎ ((e ≡ outside WriteFailed) × (WriteHasFailed ⊎ (asked.reading.explain ≡ true)) × ((status : ℕ) × Works asked input old new status))
 
+-- the fault of an end
+abbrev pub fault_at : Result ℕ Fault → Option Fault
+fault_at (Ok status) = None
+fault_at (Err e) = Some e
+
 -- What is told beside an end over an input: nothing where nothing is explained, nor where the input is accepted and each of its
--- keys is read.
+-- keys is read; and else what explains its fault.
 pub record IsHelp (asked : Asked) (input : Option (List ℕ)) (end : Result ℕ Fault) (help : List ℕ) : Type 0 where
   pub unexplained : asked.reading.explain ≡ false → help ≡ []
   pub silent : IfOk end (λ status. IfSome input (λ bytes. unread_in (form_of asked.request) bytes ≡ None → help ≡ []))
+  pub explained : IfSome input (λ bytes. IsExplained (form_of asked.request) bytes (fault_explained (refused_at asked bytes) (fault_at end)) help)

@@ -16,7 +16,7 @@ use Rattle.mh_command.specs.Statuses.{status_answered}
 use Rattle.mh_command.specs.declared.reading.Reading.{Reading}
 use Rattle.mh_command.specs.declared.request.Asked.{Asked}
 use Rattle.mh_command.specs.declared.request.Request.{Request}
-use Rattle.mh_command.specs.declared.request.Request.TheVariants.{Run, Check, Plan, Stress, Profile}
+use Rattle.mh_command.specs.declared.request.Request.TheVariants.{Run, Check, CheckProfile, Plan, Stress, Profile}
 
 -- the program before its subcommands: it has a version, and one of its subcommands is required
 abbrev pub root_app : App
@@ -56,7 +56,7 @@ abbrev pub run_app : App
 run_app = with_rule (with_reading (new_app (codes "run"))) (flag_rule (codes "report"))
 
 abbrev pub check_app : App
-check_app = with_reading (new_app (codes "check"))
+check_app = with_rule (with_reading (new_app (codes "check"))) (flag_rule (codes "profile"))
 
 abbrev pub plan_app : App
 plan_app =
@@ -145,6 +145,7 @@ abbrev pub IsReadFor : Request → Reading → List Row → Type 0
 IsReadFor (Profile options) reading rows = reading ≡ plain
 IsReadFor (Run options) reading rows = IsRead reading rows
 IsReadFor Check reading rows = IsRead reading rows
+IsReadFor CheckProfile reading rows = IsRead reading rows
 IsReadFor (Plan options) reading rows = IsRead reading rows
 IsReadFor (Stress options) reading rows = IsRead reading rows
 
@@ -152,10 +153,15 @@ IsReadFor (Stress options) reading rows = IsRead reading rows
 abbrev pub IsUnexplained : List Row → Type 0
 IsUnexplained rows = one_of (codes "explain") rows ≡ Some false_text
 
+-- what was found after `check` says whether a profile is checked
+abbrev pub IsOfProfile : Bool → List Row → Type 0
+IsOfProfile profile rows = one_of (codes "profile") rows ≡ Some (truth_text profile)
+
 -- the name of a request's subcommand, and what was found after it
 abbrev pub IsRequest : Request → List ℕ → List Row → Type 0
 IsRequest (Run options) name rows = (name ≡ codes "run") × IsReported options rows
-IsRequest Check name rows = name ≡ codes "check"
+IsRequest Check name rows = (name ≡ codes "check") × IsOfProfile false rows
+IsRequest CheckProfile name rows = (name ≡ codes "check") × IsOfProfile true rows
 IsRequest (Plan options) name rows = (name ≡ codes "plan") × AreOptions options rows
 IsRequest (Stress options) name rows = (name ≡ codes "stress") × AreStressed options rows
 IsRequest (Profile options) name rows = (name ≡ codes "profile") × AreProfiled options rows
@@ -190,6 +196,7 @@ check_words reading = codes "check" ∷ reading_words reading
 abbrev pub AreWords : Request → Reading → List (List ℕ) → Type 0
 AreWords (Run options) reading after = after ≡ run_words options reading
 AreWords Check reading after = after ≡ check_words reading
+AreWords CheckProfile reading after = ⊥
 AreWords (Plan options) reading after = ⊥
 AreWords (Stress options) reading after = ⊥
 AreWords (Profile options) reading after = ⊥

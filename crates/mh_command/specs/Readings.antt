@@ -1,19 +1,23 @@
 -- What the options of reading ask.
-use Rattle.std.specs.Prelude.{◌≡◌, ℕ, List, Option, Some, None, if◌then◌else◌}
+use Rattle.std.specs.Prelude.{◌≡◌, ◌⊎◌, ◌++◌, ℕ, List, [], Option, Some, None, if◌then◌else◌}
 use Rattle.mh_text.specs.declared.fault.Fault.{Fault}
+use Rattle.mh_text.specs.declared.fault.InputFault.{InputFault}
 use Rattle.mh_text.specs.declared.fault.InputFault.TheVariants.{BadShape}
-use Rattle.mh_text.specs.declared.fault.TextFault.TheVariants.{Input}
+use Rattle.mh_text.specs.declared.fault.TextFault.{TextFault}
+use Rattle.mh_text.specs.declared.fault.TextFault.TheVariants.{Input, ReadFailed, WriteFailed, NoReader}
+use Rattle.mh_explain.specs.Explanations.{Explains}
 use Rattle.mh_explain.specs.Unread.{first_unread}
 use Rattle.mh_explain.specs.declared.input.InputForm.{InputForm}
 use Rattle.mh_explain.specs.declared.input.InputForm.TheVariants.{Script, Problem, Claim}
 use Rattle.mh_command.specs.declared.request.Asked.{Asked}
 use Rattle.mh_command.specs.declared.request.Request.{Request}
-use Rattle.mh_command.specs.declared.request.Request.TheVariants.{Run, Check, Plan, Stress, Profile}
+use Rattle.mh_command.specs.declared.request.Request.TheVariants.{Run, Check, CheckProfile, Plan, Stress, Profile}
 
--- what the input of a request is read as; none of these, where it is the lines of a profile
+-- what the input of a request is read as; none of these, where it has the lines of a profile
 abbrev pub form_of : Request → Option InputForm
 form_of (Run options) = Some Script
 form_of Check = Some Claim
+form_of CheckProfile = None
 form_of (Plan options) = Some Problem
 form_of (Stress options) = Some Script
 form_of (Profile options) = None
@@ -34,3 +38,31 @@ unread_fault at = record { kind = Input BadShape; at = at }
 -- an input is refused with this fault for a key that nothing reads
 abbrev pub IsRefusal : Asked → List ℕ → Fault → Type 0
 IsRefusal asked input e = (at : ℕ) × (refused_at asked input ≡ Some at) × (e ≡ unread_fault at)
+
+-- the fault of an input that a fault is, if it is one
+abbrev pub input_fault : TextFault → Option InputFault
+input_fault (Input cause) = Some cause
+input_fault ReadFailed = None
+input_fault WriteFailed = None
+input_fault NoReader = None
+
+abbrev pub fault_told : Option Fault → Option InputFault
+fault_told None = None
+fault_told (Some e) = input_fault e.kind
+
+-- the fault of an input that is explained: none where the input is refused for a key that nothing reads, which has its note
+abbrev pub fault_explained : Option ℕ → Option Fault → Option InputFault
+fault_explained (Some at) fault = None
+fault_explained None fault = fault_told fault
+
+-- lines that explain a fault of an input; there are none where there is no fault, and where the input has no form
+abbrev pub ExplainsFault : Option InputForm → List ℕ → Option InputFault → List ℕ → Type 0
+ExplainsFault (Some form) input (Some e) lines = Explains form input e lines
+ExplainsFault (Some form) input None lines = lines ≡ []
+ExplainsFault None input fault lines = lines ≡ []
+
+-- Such lines, and behind them those of the keys that nothing reads, none where each is read; or nothing, where memory ran out for them.
+abbrev pub IsExplained : Option InputForm → List ℕ → Option InputFault → List ℕ → Type 0
+IsExplained form input fault help =
+    (help ≡ [])
+    ⊎ ((lines notes : List ℕ) × (help ≡ lines ++ notes) × ExplainsFault form input fault lines × (unread_in form input ≡ None → notes ≡ []))

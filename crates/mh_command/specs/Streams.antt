@@ -25,9 +25,10 @@ module _ (old new : Option (List ℕ)) (failures_old failures_new : ℕ) where
   abbrev pub IsToldFor : Bool → ℕ → Fault → Type 0
   IsToldFor explain status e = (help : List ℕ) × (explain ≡ false → help ≡ []) × IsTold help status e
 
-  -- some text stands written, with this status; or it was kept back
+  -- some text that is not empty stands written, with this status; or it was kept back
   abbrev pub IsShown : ℕ → ℕ → Type 0
-  IsShown status wanted = ((status ≡ wanted) × (failures_new ≡ failures_old)) ⊎ IsKeptBack status
+  IsShown status wanted =
+      ((status ≡ wanted) × ((text : List ℕ) × (text ≢ []) × Appends old new text) × (failures_new ≡ failures_old)) ⊎ IsKeptBack status
 
   -- there was no fault to tell, and the rest stands written; or a part of it was kept back
   abbrev pub IsDone : List ℕ → ℕ → ℕ → Type 0

@@ -7,6 +7,7 @@ ghost use Rattle.mh_text.specs.Bytes.{HasFailed, one_more};
 ghost use Rattle.mh_text.specs.Output.{outside};
 ghost use Rattle.mh_text.specs.declared.fault.TextFault.TheVariants.{WriteFailed};
 ghost use Rattle.mh_command.specs.CommandLine.{IsReply};
+ghost use Rattle.mh_command.specs.Statuses.{status_answered};
 ghost use Rattle.mh_command.specs.Streams.{IsTold, IsShown, IsDone};
 
 use crate::status::{COMMAND_LINE, DONE, IO_FAILED, NO_MEMORY, status_of_fault};
@@ -101,6 +102,10 @@ fn show<W: Write>(alloc: Global, error: &Error, stream: &mut Watched<W>, status:
     let Ok(text) = error.to_string(alloc) else {
         return NO_MEMORY;
     };
+    // clap has a text for each answer, and memory alone keeps it back.
+    if text.is_empty() {
+        return NO_MEMORY;
+    }
     match write_text(stream, text.as_str(), "") {
         Ok(()) => status,
         Err(_) => IO_FAILED,
@@ -117,6 +122,12 @@ pub(crate) fn reply<W: Write, E: Write>(
     ensures value { IsReply result (kind_of error.now) }
     ensures memory { kind_of error.now ≡ ErrorKind.OutOfMemory
         → (result ≡ 4) × (out.new ≡ out.old) × (err.new ≡ err.old) }
+    ensures shown { status_answered (kind_of error.now) ≡ 0
+        → IsShown (W.contents out.old.inner) (W.contents out.new.inner) out.old.failures
+        out.new.failures result 0 }
+    ensures told { status_answered (kind_of error.now) ≡ 2
+        → IsShown (E.contents err.old.inner) (E.contents err.new.inner) err.old.failures
+        err.new.failures result 2 }
     ensures unread { result ≢ 1 }
     ensures help { result ≡ 0 → Keeps (E.contents err.old.inner) (E.contents err.new.inner)
         × (out.new.failures ≡ out.old.failures) × (err.new.failures ≡ err.old.failures) }

@@ -7,7 +7,8 @@ ghost use Rattle.mh_text.specs.Bytes.{HasFailed};
 ghost use Rattle.mh_text.specs.declared.fault.Fault.{Fault};
 ghost use Rattle.mh_command.specs.Answers.{Answers, EndsIn, IsTurnedDown};
 ghost use Rattle.mh_command.specs.CommandLine.{program, AsksFor, AsksNoExplanation, AsksHelp, AsksVersion, HasWorkers, IsReply};
-ghost use Rattle.mh_command.specs.Streams.{IsToldFor};
+ghost use Rattle.mh_command.specs.Statuses.{status_answered};
+ghost use Rattle.mh_command.specs.Streams.{IsShown, IsToldFor};
 ghost use Rattle.mh_command.specs.declared.request.Asked.{Asked};
 
 use crate::answering::{end, reply};
@@ -58,13 +59,14 @@ fn perform<T: Threads + Wait + Sync, R: Read, W: Write, E: Write>(
 ///
 /// `mhlink run` reads a script from `reader`, and writes the line of each reply to `out`; it takes
 /// `--report`. `mhlink check` reads a problem and a plan, and writes to `out` whether the plan is
-/// accepted. `mhlink plan` reads a problem, and writes its best plan to `out`; it takes `--workers
+/// accepted; with `--profile` it reads a profile, and behind it a plan. `mhlink plan` reads a problem, and writes its best plan to `out`; it takes `--workers
 /// N`, N from 1 to 64, `--certificate` and `--phases`, and starts threads by `rt`. `mhlink stress`
 /// reads a script, runs its calls in threads, and writes the sums of their hits to `out`; it takes
-/// `--workers N`, N from 1 to 64, `--rounds N`, N from 1 to 1,000,000, and `--report`. A fault is
-/// one line on `err`.
+/// `--workers N`, N from 1 to 64, `--rounds N`, N from 1 to 1,000,000, and `--report`. `mhlink
+/// profile` reads a profile, and writes to `out` what becomes of each of its names in a best plan;
+/// it takes `--workers N`, N from 1 to 64, and `--certificate`. A fault is one line on `err`.
 ///
-/// Each takes `--explain` and `--strict`. With `--explain` the line of a fault is followed on `err`
+/// Each but `profile` takes `--explain` and `--strict`, which look at no line of a profile. With `--explain` the line of a fault is followed on `err`
 /// by lines that say where it is and why (see `mh_explain::explanation`), and then by those of the
 /// keys that nothing reads (see `mh_explain::unread_keys`), which are also written where the input
 /// is accepted. With `--strict` an input with such a key is refused before anything runs, by the
@@ -104,10 +106,15 @@ pub fn command<T: Threads + Wait + Sync, S: AsStr, R: Read, W: Write, E: Write>(
         × (reader.new ≡ reader.old) }
     ensures replied { (kind : ErrorKind) → fault_of program (map S.text words.now) ≡ kind ∷ []
         → IsReply result kind × (reader.new ≡ reader.old) }
-    ensures help { AsksHelp (map S.text words.now)
-        → IsReply result ErrorKind.DisplayHelp × (reader.new ≡ reader.old) }
-    ensures version { AsksVersion (map S.text words.now)
-        → IsReply result ErrorKind.DisplayVersion × (reader.new ≡ reader.old) }
+    ensures told { (kind : ErrorKind) → fault_of program (map S.text words.now) ≡ kind ∷ []
+        → status_answered kind ≡ 2 → IsShown (E.contents err.old.inner) (E.contents err.new.inner)
+        err.old.failures err.new.failures result 2 }
+    ensures help { AsksHelp (map S.text words.now) → IsShown (W.contents out.old.inner)
+        (W.contents out.new.inner) out.old.failures out.new.failures result 0
+        × (reader.new ≡ reader.old) }
+    ensures version { AsksVersion (map S.text words.now) → IsShown (W.contents out.old.inner)
+        (W.contents out.new.inner) out.old.failures out.new.failures result 0
+        × (reader.new ≡ reader.old) }
 {
     match parse(alloc, words) {
         Ok(Some(asked)) => perform(rt, alloc, asked, reader, out, err),

@@ -1,5 +1,5 @@
 //! What a command line asks for.
-ghost use Rattle.std.specs.Prelude.{◌≡◌, ◌≢◌, ◌<◌, ◌≤◌, ◌⊎◌, [], ◌∷◌, List, ℕ, None, Some, false, OnOk, IfOk, IfErr, IfSome, IsTrue, codes, map};
+ghost use Rattle.std.specs.Prelude.{◌≡◌, ◌≢◌, ◌<◌, ◌≤◌, ◌⊎◌, [], ◌∷◌, List, ℕ, None, Some, false, OnOk, IfOk, IfErr, IfSome, IsTrue, codes, map, true};
 ghost use Rattle.clap.specs.Words.{app_of, fault_of, found_of, kind_of, new_app, rows_of, rule_of, subcommand_rows_of, with_rule};
 ghost use Rattle.clap.specs.declared.builder.command.Command.TheViews.{out-Command};
 ghost use Rattle.clap.specs.declared.error.kind.ErrorKind.{ErrorKind};
@@ -7,7 +7,7 @@ ghost use Rattle.mh_text.specs.Script.{most_workers};
 ghost use Rattle.mh_text.specs.declared.streams.run.RunOptions.{RunOptions};
 ghost use Rattle.mh_stress.specs.Stress.{AreLawful};
 ghost use Rattle.mh_stress.specs.declared.stress.StressOptions.{StressOptions};
-ghost use Rattle.mh_command.specs.CommandLine.{root_app, plain_app, further_app, run_app, check_app, plan_app, stress_app, profile_app, program, workers_rule, callers_rule, rounds_rule, AreOptions, AreProfiled, AreStressed, AreWorkers, AsksFor, AsksNoExplanation, IsReadFor, IsReported, IsRequest, IsNamed, HasWorkers, SaysNoExplanation};
+ghost use Rattle.mh_command.specs.CommandLine.{root_app, plain_app, further_app, run_app, check_app, plan_app, stress_app, profile_app, program, workers_rule, callers_rule, rounds_rule, AreOptions, AreProfiled, AreStressed, AreWorkers, AsksFor, AsksNoExplanation, IsOfProfile, IsReadFor, IsReported, IsRequest, IsNamed, HasWorkers, SaysNoExplanation};
 ghost use Rattle.mh_command.specs.Readings.{form_of, refused_at};
 ghost use Rattle.mh_profile.specs.declared.planning.ProfileOptions.{ProfileOptions};
 ghost use Rattle.mh_command.specs.declared.reading.Reading.{Reading};
@@ -30,6 +30,8 @@ pub enum Request {
     Run(RunOptions),
     /// `mhlink check`: whether a plan is best for its problem.
     Check,
+    /// `mhlink check --profile`: the same of the problem of a profile.
+    CheckProfile,
     /// `mhlink plan`: the best plan of a problem.
     Plan(PlanOptions),
     /// `mhlink stress`: the sums of a script on running threads.
@@ -39,7 +41,7 @@ pub enum Request {
 }
 
 impl Request {
-    /// What its input is read as; none of these, where it is the lines of a profile.
+    /// What its input is read as; none of these, where it has the lines of a profile.
     pub(crate) fn form(self) -> Option<InputForm>
         ensures value { result ≡ form_of self }
     {
@@ -47,7 +49,7 @@ impl Request {
             Request::Run(_) | Request::Stress(_) => Some(InputForm::Script),
             Request::Check => Some(InputForm::Claim),
             Request::Plan(_) => Some(InputForm::Problem),
-            Request::Profile(_) => None,
+            Request::CheckProfile | Request::Profile(_) => None,
         }
     }
 }
@@ -67,7 +69,7 @@ impl Asked {
         ensures unrefused { result ≡ false → (input : List ℕ) → refused_at self input ≡ None }
     {
         match self.request {
-            Request::Profile(_) => false,
+            Request::CheckProfile | Request::Profile(_) => false,
             _ => !self.reading.is_plain(),
         }
     }
@@ -76,7 +78,8 @@ impl Asked {
 /// What `mhlink --help` ends with.
 const AFTER_HELP: &str = "\
 With --explain a command says where a fault of its input is and why it is one, and names
-the keys that nothing reads; with --strict it refuses an input that has such a key.
+the keys that nothing reads; with --strict it refuses an input that has such a key. The
+lines of a profile are looked at by neither, and `mhlink profile` takes neither.
 
 Examples:
   mhlink run --explain < examples/first-calls.json
@@ -103,9 +106,13 @@ Example:
 const AFTER_CHECK: &str = "\
 Reads a JSON object with a problem and a plan from standard input, and writes
 `accepted`, or `refused` with the number and the name of the first part that is wrong.
+With --profile it reads a profile, as `mhlink profile` does, and behind it, as its last
+line, a plan, as `mhlink profile --certificate` writes it; --explain and --strict then
+say nothing.
 
-Example:
-  mhlink check < examples/check-shared-point.json";
+Examples:
+  mhlink check < examples/check-shared-point.json
+  mhlink check --profile < examples/profiles/shop-with-plan.jsonl";
 
 /// What `mhlink plan --help` ends with.
 const AFTER_PLAN: &str = "\
@@ -141,7 +148,13 @@ fn check_command<'a>(alloc: Global) -> Result<Command<'a>, AllocError>
     let command = Command::new(alloc, "check")
         .about("Checks the plan on standard input beside its problem")
         .after_help(AFTER_CHECK);
-    with_reading(alloc, command)
+    let profile = flag(
+        alloc,
+        "profile",
+        "Checks the plan on the last line beside the profile before it",
+    );
+    let command = with_reading(alloc, command)?;
+    with_option(command, profile)
 }
 
 /// How many workers plan.
@@ -388,6 +401,20 @@ fn stress_options_of(matches: &ArgMatches) -> Option<StressOptions>
     })
 }
 
+/// The request of the words after `check`.
+fn check_of(matches: &ArgMatches) -> Request
+    ensures plan { IsOfProfile false (rows_of (found_of matches.now)) → result ≡ Request.Check }
+    ensures profile { IsOfProfile true (rows_of (found_of matches.now))
+        → result ≡ Request.CheckProfile }
+    ensures bounded { HasWorkers result }
+{
+    if matches.get_flag("profile") {
+        Request::CheckProfile
+    } else {
+        Request::Check
+    }
+}
+
 /// The request of the subcommand of this name, with the words after it; none of another name.
 fn request_of(name: &str, matches: &ArgMatches) -> Option<Request>
     ensures value { (request : Request)
@@ -396,7 +423,7 @@ fn request_of(name: &str, matches: &ArgMatches) -> Option<Request>
 {
     match name {
         "run" => Some(Request::Run(run_options_of(matches))),
-        "check" => Some(Request::Check),
+        "check" => Some(check_of(matches)),
         "plan" => Some(Request::Plan(options_of(matches)?)),
         "stress" => Some(Request::Stress(stress_options_of(matches)?)),
         "profile" => Some(Request::Profile(profile_options_of(matches)?)),

@@ -5,15 +5,15 @@ ghost use Rattle.mh_text.specs.Bytes.{HasFailed};
 ghost use Rattle.mh_text.specs.Gives.{no_memory, IsHonest};
 ghost use Rattle.mh_text.specs.Output.{outside};
 ghost use Rattle.mh_text.specs.declared.fault.TextFault.TheVariants.{ReadFailed};
-ghost use Rattle.mh_command.specs.Answers.{Works, WorksOn, FailsIn, FailsOn, IsHelp};
+ghost use Rattle.mh_command.specs.Answers.{fault_at, Works, WorksOn, FailsIn, FailsOn, IsHelp};
 ghost use Rattle.mh_command.specs.CommandLine.{HasWorkers};
-ghost use Rattle.mh_command.specs.Readings.{form_of, refused_at, unread_in, IsRefusal};
+ghost use Rattle.mh_command.specs.Readings.{fault_told, form_of, refused_at, unread_in, ExplainsFault, IsExplained, IsRefusal};
 
 use crate::request::{Asked, Request};
 use crate::status::{DONE, status_of_verdict};
 use mh_core::NoMemory;
 use mh_explain::{UnreadKeys, explanation, unread_keys};
-use mh_profile::plan_profile;
+use mh_profile::{check_profile, plan_profile};
 use mh_stress::stress_bytes;
 use mh_text::{
     Fault, InputFault, TextFault, Watched, check_bytes, plan_bytes, read_input, run_bytes,
@@ -71,6 +71,10 @@ fn work<T: Threads + Wait + Sync, R: Read, W: Write>(
         }
         Request::Check => {
             let verdict = check_bytes(alloc, reader, out)?;
+            Ok(status_of_verdict(verdict))
+        }
+        Request::CheckProfile => {
+            let verdict = check_profile(alloc, reader, out)?;
             Ok(status_of_verdict(verdict))
         }
         Request::Plan(options) => {
@@ -160,9 +164,41 @@ fn reasons(
     request: Request,
     input: &[u8],
     fault: InputFault,
-) -> Result<String, NoMemory> {
+) -> Result<String, NoMemory>
+    ensures explained { IfOk result (λ lines. ExplainsFault (form_of request) input.now (Some fault)
+        (string_bytes lines)) }
+{
     match request.form() {
         Some(form) => explanation(alloc, form, input, fault),
+        None => Ok(String::new(alloc)),
+    }
+}
+
+/// The same where there may be no fault, which nothing explains.
+fn reasons_where(
+    alloc: Global,
+    request: Request,
+    input: &[u8],
+    fault: Option<InputFault>,
+) -> Result<String, NoMemory>
+    ensures explained { IfOk result (λ lines. ExplainsFault (form_of request) input.now fault
+        (string_bytes lines)) }
+    ensures silent { IfOk result (λ lines. fault ≡ None → string_bytes lines ≡ []) }
+{
+    match fault {
+        Some(fault) => reasons(alloc, request, input, fault),
+        None => Ok(String::new(alloc)),
+    }
+}
+
+/// The lines of the keys of an input that nothing reads.
+fn notes(alloc: Global, request: Request, input: &[u8]) -> Result<String, NoMemory>
+    ensures silent { IfOk result (λ notes. unread_in (form_of request) input.now ≡ None
+        → string_bytes notes ≡ []) }
+{
+    let unread = unread(alloc, request, input)?;
+    match unread.first {
+        Some(_) => Ok(unread.notes),
         None => Ok(String::new(alloc)),
     }
 }
@@ -176,15 +212,12 @@ fn explain(
 ) -> Result<String, NoMemory>
     ensures silent { IfOk result (λ help. fault ≡ None
         → unread_in (form_of asked.request) input.now ≡ None → string_bytes help ≡ []) }
+    ensures explained { IfOk result (λ help. IsExplained (form_of asked.request) input.now fault
+        (string_bytes help)) }
 {
-    let mut help = match fault {
-        Some(fault) => reasons(alloc, asked.request, input, fault)?,
-        None => String::new(alloc),
-    };
-    let unread = unread(alloc, asked.request, input)?;
-    if unread.first.is_some() {
-        help.push_str(unread.notes.as_str())?;
-    }
+    let mut help = reasons_where(alloc, asked.request, input, fault)?;
+    let notes = notes(alloc, asked.request, input)?;
+    help.push_str(notes.as_str())?;
     Ok(help)
 }
 
@@ -193,6 +226,7 @@ fn help_for(alloc: Global, asked: Asked, input: &[u8], fault: Option<InputFault>
     ensures unexplained { asked.reading.explain ≡ false → string_bytes result ≡ [] }
     ensures silent { fault ≡ None → unread_in (form_of asked.request) input.now ≡ None
         → string_bytes result ≡ [] }
+    ensures explained { IsExplained (form_of asked.request) input.now fault (string_bytes result) }
 {
     if asked.reading.explain {
         if let Ok(help) = explain(alloc, asked, input, fault) {
@@ -205,6 +239,7 @@ fn help_for(alloc: Global, asked: Asked, input: &[u8], fault: Option<InputFault>
 /// The fault of the input that ended the work, where one did.
 fn fault_of(end: Result<u8, Fault>) -> Option<InputFault>
     ensures ok { OnOk end (result ≡ None) }
+    ensures value { result ≡ fault_told (fault_at end) }
 {
     match end {
         Err(

@@ -1,5 +1,5 @@
 //! Where a fault of an input is, what stands there, and why it is one.
-ghost use Rattle.std.specs.Prelude.{◌≡◌, ◌≢◌, Some, string_bytes, IfOk};
+ghost use Rattle.std.specs.Prelude.{◌≡◌, ◌≢◌, ◌⊎◌, [], Some, string_bytes, IfOk};
 ghost use Rattle.serde_json.specs.View.{view};
 ghost use Rattle.mh_text.specs.Gives.{no_memory};
 ghost use Rattle.mh_explain.specs.Explanations.{place_text, reading_of, Explains, NamesPlace};
@@ -172,6 +172,8 @@ pub fn explanation(
     fault: InputFault,
 ) -> Result<String, NoMemory>
     ensures place { IfOk result (λ lines. Explains form input.now fault (string_bytes lines)) }
+    ensures none { (fault ≡ InputFault.NoMemory) ⊎ (fault ≡ InputFault.TooLong)
+        → IfOk result (λ lines. string_bytes lines ≡ []) }
 {
     match fault {
         InputFault::NoMemory | InputFault::TooLong => Ok(String::new(alloc)),

@@ -1,4 +1,5 @@
 mod Amounts
+mod Claims
 mod KeyRuns
 mod Lines
 mod NameTexts

@@ -1,4 +1,5 @@
 pub mod Accounts
+pub mod Claims
 pub mod Inputs
 pub mod Limits
 pub mod Lines

@@ -20,6 +20,8 @@
 #![tactic(auto)]
 
 mod accounts;
+mod check;
+mod claim;
 mod keyed;
 mod laws;
 mod line;
@@ -31,6 +33,7 @@ mod profile;
 mod reader;
 mod streams;
 
+pub use check::check_profile;
 pub use laws::links_stay_best_within_slack;
 pub use mh_text::{Fault, InputFault, TextFault};
 pub use named::NamedProblem;

@@ -56,7 +56,7 @@ fn split_line(bytes: &[u8]) -> Option<(&[u8], &[u8])>
 }
 
 /// A fault of line `at`; want of memory is that of no line.
-fn placed(fault: InputFault, at: u64) -> Fault
+pub(crate) fn placed(fault: InputFault, at: u64) -> Fault
     ensures memory { fault ≡ InputFault.NoMemory → result ≡ outside no_memory }
     ensures other { (fault ≡ InputFault.NoMemory → ⊥)
         → result ≡ record { kind = text.Input fault; at = at } }

@@ -1,6 +1,6 @@
 //! Profiles, from lines to problems.
-use mh_profile::{NamedProblem, ProfileOptions, plan_profile, read_profile};
-use mh_text::{Fault, InputFault, TextFault, Watched};
+use mh_profile::{NamedProblem, ProfileOptions, check_profile, plan_profile, read_profile};
+use mh_text::{Fault, InputFault, TextFault, Verdict, Watched};
 use std::alloc::Global;
 use std::test::Fail;
 use std::thread::Threads;
@@ -155,4 +155,18 @@ fn a_profile_with_a_fault_has_no_lines(rt: HostRuntime) {
     let fault = planned(&rt, rt.alloc(), "{\"point\":\"a\"}", true).err();
     let kind = InputFault::BadShape;
     assert_eq!(rt; fault, at(kind, 1));
+}
+
+/// What is found of a plan behind the lines of its profile.
+fn found(alloc: Global, plan: &str) -> Result<Verdict, Fault> {
+    let lines = format!(in alloc; "{PLANNED}{plan}")?;
+    let mut reader = Watched::new(lines.as_bytes());
+    let mut writer = Watched::new(Vec::new(alloc));
+    check_profile(alloc, &mut reader, &mut writer)
+}
+
+#[test]
+fn a_certificate_is_accepted_behind_its_profile(rt: HostRuntime) {
+    let verdict = found(rt.alloc(), CERTIFICATE);
+    assert_eq!(rt; verdict, Ok(Verdict::Accepted));
 }

@@ -15,6 +15,7 @@ complete -c mhlink -n '__fish_seen_subcommand_from run; and not __fish_seen_subc
 complete -c mhlink -n '__fish_seen_subcommand_from run; and not __fish_seen_subcommand_from help' -s h -l help -d 'Print help'
 complete -c mhlink -n '__fish_seen_subcommand_from check; and not __fish_seen_subcommand_from help' -l explain -d 'Tells of a fault where it is and why, and of keys that nothing reads'
 complete -c mhlink -n '__fish_seen_subcommand_from check; and not __fish_seen_subcommand_from help' -l strict -d 'Refuses an input that has a key that nothing reads'
+complete -c mhlink -n '__fish_seen_subcommand_from check; and not __fish_seen_subcommand_from help' -l profile -d 'Checks the plan on the last line beside the profile before it'
 complete -c mhlink -n '__fish_seen_subcommand_from check; and not __fish_seen_subcommand_from help' -s h -l help -d 'Print help'
 complete -c mhlink -n '__fish_seen_subcommand_from plan; and not __fish_seen_subcommand_from help' -l explain -d 'Tells of a fault where it is and why, and of keys that nothing reads'
 complete -c mhlink -n '__fish_seen_subcommand_from plan; and not __fish_seen_subcommand_from help' -l strict -d 'Refuses an input that has a key that nothing reads'

@@ -1,5 +1,5 @@
 //! The names that a tree may use.
-ghost use Rattle.std.specs.Prelude.{◌≡◌, OnOk, IfErr};
+ghost use Rattle.std.specs.Prelude.{◌≡◌, OnOk, OnErr, IfErr};
 ghost use Rattle.mh_text.specs.Gives.{Gives};
 ghost use Rattle.mh_text.specs.Shared.{without_shared, with_shared};
 ghost use Rattle.mh_text.specs.Script.{with_site};
@@ -47,26 +47,36 @@ impl Scope {
         }
     }
 
-    /// Puts a shared tree last.
+    /// Puts a shared tree last. Where memory is refused, all is as it was.
     pub fn add(&mut self, shared: Shared) -> Result<(), InputFault>
         ensures value { OnOk result (self.new ≡ with_shared self.old shared) }
         ensures refused { IfErr result (λ e. e ≡ InputFault.NoMemory) }
+        ensures kept { OnErr result (self.new ≡ self.old) }
     {
-        self.names.add(shared.name.as_str())?;
-        self.trees.push(shared.tree)?;
+        let Shared { name, tree } = shared;
+        self.trees.push(tree)?;
+        if self.names.add(name.as_str()).is_err() {
+            self.trees.items.pop();
+            return Err(InputFault::NoMemory);
+        }
         Ok(())
     }
 
-    /// Puts a site last, so that later trees may invoke it. Of one name, the first site stays.
+    /// Puts a site last, so that later trees may invoke it. Of one name, the first site stays. Where
+    /// memory is refused, all is as it was.
     pub fn add_site(&mut self, site: &Site) -> Result<(), InputFault>
         ensures value { OnOk result (self.new ≡ with_site self.old site.now) }
         ensures refused { IfErr result (λ e. e ≡ InputFault.NoMemory) }
+        ensures kept { OnErr result (self.new ≡ self.old) }
     {
         if self.sites.contains(site.name.as_str()) {
             return Ok(());
         }
-        self.sites.add(site.name.as_str())?;
         self.types.push(site.method_type.copy())?;
+        if self.sites.add(site.name.as_str()).is_err() {
+            self.types.items.pop();
+            return Err(InputFault::NoMemory);
+        }
         Ok(())
     }
 

@@ -1,5 +1,5 @@
 //! The sites of a script, and their names.
-ghost use Rattle.std.specs.Prelude.{◌≡◌, IfErr, OnOk};
+ghost use Rattle.std.specs.Prelude.{◌≡◌, IfErr, OnErr, OnOk};
 ghost use Rattle.serde_json.specs.View.{view};
 ghost use Rattle.mh_text.specs.Gives.{Gives};
 ghost use Rattle.mh_text.specs.Script.{level_of, place_or_none, key_of, key_kind as kind_of_key, none_sited, one_sited, site_of, sites_of};
@@ -95,13 +95,18 @@ impl Sited {
         }
     }
 
-    /// Puts a site last.
+    /// Puts a site last. Where memory is refused, all is as it was.
     pub fn add(&mut self, site: Site) -> Result<(), InputFault>
         ensures value { OnOk result (self.new ≡ one_sited self.old site) }
         ensures refused { IfErr result (λ e. e ≡ InputFault.NoMemory) }
+        ensures kept { OnErr result (self.new ≡ self.old) }
     {
-        self.scope.add_site(&site)?;
+        let at = self.sites.len();
         self.sites.push(site)?;
+        if self.scope.add_site(&self.sites.as_slice()[at]).is_err() {
+            self.sites.items.pop();
+            return Err(InputFault::NoMemory);
+        }
         Ok(())
     }
 }

@@ -1,10 +1,11 @@
-use Rattle.std.proofs.Common.{◌≡◌, inl, inr, refl, subst, map, []}
+use Rattle.std.proofs.Common.{◌≡◌, ◌∙◌, ap, inl, inr, refl, subst, map, []}
 use Rattle.std.proofs.KnownBytes.{Keeps-refl}
 use Rattle.clap.specs.declared.error.kind.ErrorKind.TheVariants.{DisplayHelp, DisplayVersion}
 use Rattle.mh_text.specs.Bytes.{HasFailed}
 use Rattle.mh_text.specs.Output.{outside}
 use Rattle.mh_text.specs.declared.fault.Fault.{Fault}
 use Rattle.mh_command.specs.Answers.{Answers, EndsIn}
+use Rattle.mh_command.specs.Statuses.{status_answered}
 use Rattle.mh_command.specs.Streams.{IsToldFor}
 use Rattle.mh_text.specs.Gives.{no_memory}
 use Rattle.mh_command.specs.CommandLine.{IsReply}
@@ -66,8 +67,33 @@ returns-in-Err-clause-replied g c = λ kind faulty. (
   refl,
 )
 
+pub returns-in-Ok-Some-clause-told : goal.returns-in-Ok-Some-clause-told
+returns-in-Ok-Some-clause-told g c = λ kind faulty two. absurd (c.in-Ok-Some.ensures.refused kind faulty)
+
+pub returns-in-Ok-None-clause-told : goal.returns-in-Ok-None-clause-told
+returns-in-Ok-None-clause-told g c = λ kind faulty two. absurd (c.in-Ok-None.ensures.refused kind faulty)
+
+pub returns-in-Err-clause-told : goal.returns-in-Err-clause-told
+returns-in-Err-clause-told g c = λ kind faulty two.
+    elim (c.in-Err.ensures.kinds kind faulty) [
+      | inl memory ↦ let idle = c.reply.ensures.memory memory in rw idle.2 (inr (inr (idle.0, (Keeps-refl _, refl))))
+      | inr same ↦ c.reply.ensures.told (ap status_answered same ∙ two)
+    ]
+
 pub returns-in-Err-clause-help : goal.returns-in-Err-clause-help
-returns-in-Err-clause-help g c = λ is. returns-in-Err-clause-replied g c DisplayHelp (asks_help (map g.S.AsStr.text c.args.words.now) is)
+returns-in-Err-clause-help g c = λ is. (
+  elim (c.in-Err.ensures.kinds DisplayHelp (asks_help (map g.S.AsStr.text c.args.words.now) is)) [
+    | inl memory ↦ let idle = c.reply.ensures.memory memory in rw idle.1 (inr (inr (idle.0, (Keeps-refl _, refl))))
+    | inr same ↦ c.reply.ensures.shown (ap status_answered same)
+  ],
+  refl,
+)
 
 pub returns-in-Err-clause-version : goal.returns-in-Err-clause-version
-returns-in-Err-clause-version g c = λ is. returns-in-Err-clause-replied g c DisplayVersion (asks_version (map g.S.AsStr.text c.args.words.now) is)
+returns-in-Err-clause-version g c = λ is. (
+  elim (c.in-Err.ensures.kinds DisplayVersion (asks_version (map g.S.AsStr.text c.args.words.now) is)) [
+    | inl memory ↦ let idle = c.reply.ensures.memory memory in rw idle.1 (inr (inr (idle.0, (Keeps-refl _, refl))))
+    | inr same ↦ c.reply.ensures.shown (ap status_answered same)
+  ],
+  refl,
+)

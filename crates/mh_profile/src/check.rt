@@ -1,0 +1,44 @@
+//! Checks of plans of profiles: bytes in, a line out.
+ghost use Rattle.std.specs.Prelude.{IfOk, IfErr, IfSome};
+ghost use Rattle.std.specs.Io.KnownBytes.{Appends};
+ghost use Rattle.mh_text.specs.Bytes.{HasFailed};
+ghost use Rattle.mh_text.specs.Checks.{verdict_line};
+ghost use Rattle.mh_text.specs.Gives.{IsHonest};
+ghost use Rattle.mh_profile.specs.Claims.{FailsCheck, IsVerdict};
+
+use crate::claim::read_claim;
+use mh_text::{Fault, Verdict, Watched, judge, write_verdict};
+use std::alloc::Global;
+use std::io::{Read, Write};
+
+/// Checks the plan that the reader gives behind the lines of its profile, writes a line of what is
+/// found, and returns it: `accepted`, or `refused`, the number and the name of the first part that
+/// is wrong.
+///
+/// The plan is the last line that is not white space, as `plan_profile` writes it where its
+/// certificate is asked for, or an object that has it at the key `plan`. Whatever stands before
+/// that line is the profile, which is read and made before the plan is looked at. The input is read
+/// to its end, or to the first byte past 134,217,728. A fault of the input, or of memory, writes
+/// nothing; that of the plan has the number of its line. A failing write leaves a beginning of the
+/// line, and is told of no line.
+pub fn check_profile<R: Read, W: Write>(
+    alloc: Global,
+    reader: &mut Watched<R>,
+    writer: &mut Watched<W>,
+) -> Result<Verdict, Fault>
+    ensures ok { IfOk result (λ verdict. IfSome (R.remaining reader.old.inner)
+        (λ input. IsVerdict input verdict)
+        × Appends (W.contents writer.old.inner) (W.contents writer.new.inner)
+        (verdict_line verdict)) }
+    ensures failed { IfErr result (FailsCheck (R.remaining reader.old.inner)
+        (W.contents writer.old.inner) (W.contents writer.new.inner)
+        (HasFailed reader.old.failures reader.new.failures)
+        (HasFailed writer.old.failures writer.new.failures)) }
+    ensures honest { IsHonest result reader.old.failures reader.new.failures
+        writer.old.failures writer.new.failures }
+{
+    let claim = read_claim(alloc, reader)?;
+    let verdict = judge(alloc, &claim.problem, &claim.plan)?;
+    write_verdict(alloc, verdict, writer)?;
+    Ok(verdict)
+}

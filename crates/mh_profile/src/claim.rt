@@ -1,0 +1,144 @@
+//! Claims: a profile, and behind it a line that is said to be a best plan of it.
+ghost use Rattle.std.specs.Prelude.{◌≡◌, ◌⊎◌, ◌==◌, ◌≤◌, IfOk, IfErr, IfSome, length};
+ghost use Rattle.std.specs.List.{IsAfterLastMatch};
+ghost use Rattle.serde_json.specs.View.{view};
+ghost use Rattle.mh_text.specs.Bytes.{HasFailed};
+ghost use Rattle.mh_text.specs.Gives.{at_place, no_memory, Gives, GivesAt, IsHonestReading, IsOfInput};
+ghost use Rattle.mh_text.specs.Output.{outside, IsUnread};
+ghost use Rattle.mh_profile.specs.Claims.{claimed_plan, plan_in_line, is_said, IsClaim, IsClaimFault, IsParted, IsReadClaim, IsReadClaimFault};
+ghost use Rattle.mh_profile.specs.Lines.{lines_of};
+ghost use Rattle.mh_profile.specs.Profiles.{profile_of};
+
+use crate::profile::Profile;
+use crate::reader::{LineReader, placed};
+use mh_cert::Plan;
+use mh_network::Problem;
+use mh_text::readers::{parse_json, read_plan_value};
+use mh_text::{Fault, InputFault, Watched, read_up_to};
+use serde_json::Value;
+use std::alloc::Global;
+use std::io::Read;
+
+/// The most bytes of a profile and the line of its plan together: twice those of a profile.
+const LIMIT: usize = 134_217_728;
+
+/// A problem, and what is said to be a best plan of it.
+#[derive(Drop)]
+pub(crate) struct Claim {
+    pub(crate) problem: Problem,
+    pub(crate) plan: Plan,
+}
+
+/// Whether a byte is neither white space nor the end of a line.
+fn says_something(byte: u8) -> bool
+    ensures value { result ≡ is_said byte }
+{
+    !matches!(byte, b' ' | b'\t' | b'\r' | b'\n')
+}
+
+/// How many bytes stand before the white space at the end.
+fn said_len(bytes: &[u8]) -> usize
+    ensures inside { result ≤ length bytes.now }
+    ensures value { IsAfterLastMatch is_said bytes.now result }
+{
+    let mut end = bytes.len();
+    while end > 0 && !says_something(bytes[end - 1]) {
+        end -= 1;
+    }
+    end
+}
+
+/// Where the last line begins.
+fn last_line_start(bytes: &[u8]) -> usize
+    ensures inside { result ≤ length bytes.now }
+    ensures value { IsAfterLastMatch (λ b. b == 10) bytes.now result }
+{
+    let mut start = bytes.len();
+    while start > 0 && bytes[start - 1] != b'\n' {
+        start -= 1;
+    }
+    start
+}
+
+/// The last line that is not white space, and what stands before it.
+fn part(input: &[u8]) -> (&[u8], &[u8])
+    ensures value { IsParted input.now result.0.now result.1.now }
+{
+    let said = &input[..said_len(input)];
+    let start = last_line_start(said);
+    (&said[..start], &said[start..])
+}
+
+/// How many lines these bytes are: the number of the one that has begun.
+fn line_count(bytes: &[u8]) -> u64
+    ensures value { result ≡ length (lines_of bytes.now) }
+{
+    let mut number = 1;
+    for byte in bytes {
+        if *byte == b'\n' {
+            number += 1;
+        }
+    }
+    number
+}
+
+/// The plan that a value has at the key `plan`, or, where it has none, is.
+fn read_claimed(alloc: Global, value: &Value) -> Result<Plan, InputFault>
+    ensures value { Gives (λ x. x) result (claimed_plan (view value.now)) }
+{
+    match value.get("plan") {
+        Some(plan) => read_plan_value(alloc, plan),
+        None => read_plan_value(alloc, value),
+    }
+}
+
+/// The plan of a line.
+fn read_plan_line(alloc: Global, line: &[u8]) -> Result<Plan, InputFault>
+    ensures value { Gives (λ x. x) result (plan_in_line line.now) }
+{
+    let value = parse_json(alloc, line)?;
+    read_claimed(alloc, &value)
+}
+
+/// The plan of line `number`.
+fn read_numbered_plan(alloc: Global, number: u64, line: &[u8]) -> Result<Plan, Fault>
+    ensures value { GivesAt (λ x. x) result (at_place number (plan_in_line line.now)) }
+    ensures kind { IfErr result (λ e. IsOfInput e.kind) }
+{
+    match read_plan_line(alloc, line) {
+        Ok(plan) => Ok(plan),
+        Err(fault) => Err(placed(fault, number)),
+    }
+}
+
+/// The profile that lines are.
+fn read_lines(alloc: Global, lines: &[u8]) -> Result<Profile, Fault>
+    ensures value { GivesAt (λ x. x) result (profile_of lines.now) }
+    ensures kind { IfErr result (λ e. IsOfInput e.kind) }
+{
+    LineReader::new(alloc).take(lines)?.finish()
+}
+
+/// The problem of lines, and the plan of the line behind them.
+fn read_parts(alloc: Global, lines: &[u8], line: &[u8]) -> Result<Claim, Fault>
+    ensures ok { IfOk result (λ claim. IsClaim lines.now line.now claim.problem claim.plan) }
+    ensures kind { IfErr result (λ e. IsOfInput e.kind) }
+    ensures failed { IfErr result (λ e. (e ≡ outside no_memory) ⊎ IsClaimFault lines.now line.now e) }
+{
+    let problem = read_lines(alloc, lines)?.into_problem()?.problem;
+    let plan = read_numbered_plan(alloc, line_count(lines), line)?;
+    Ok(Claim { problem, plan })
+}
+
+/// The problem and the plan that the reader gives.
+pub(crate) fn read_claim<R: Read>(alloc: Global, reader: &mut Watched<R>) -> Result<Claim, Fault>
+    ensures ok { IfOk result (λ claim. IfSome (R.remaining reader.old.inner)
+        (λ input. IsReadClaim input claim.problem claim.plan)) }
+    ensures failed { IfErr result (IsUnread IsReadClaimFault (R.remaining reader.old.inner)
+        (HasFailed reader.old.failures reader.new.failures)) }
+    ensures honest { IsHonestReading result reader.old.failures reader.new.failures }
+{
+    let input = read_up_to(alloc, reader, LIMIT)?;
+    let (lines, line) = part(&input);
+    read_parts(alloc, lines, line)
+}
