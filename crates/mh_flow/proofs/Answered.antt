@@ -20,7 +20,7 @@ use Rattle.mh_flow.proofs.Paying.{paid_at, paid_in_charge, paid_in_gain, paid_li
 use Rattle.mh_flow.proofs.Runs.{run_start}
 
 -- sums over the rows that carry something
-positive-sum : (f : Row → ℕ) (rows : List NeedRow) → ((r : NeedRow) → r.amount ≡ 0 → f (row_of r) ≡ 0) → sum_by f (positive_rows rows) ≡ sum_by (λ r. f (row_of r)) rows
+pub positive-sum : (f : Row → ℕ) (rows : List NeedRow) → ((r : NeedRow) → r.amount ≡ 0 → f (row_of r) ≡ 0) → sum_by f (positive_rows rows) ≡ sum_by (λ r. f (row_of r)) rows
 positive-sum f [] h = refl
 positive-sum f (r ∷ rs) h =
     elim (cases_Bool (nat_lt 0 r.amount)) [

@@ -14,3 +14,5 @@ mod Running
 mod Blocked
 mod Maximal
 mod Measuring
+mod Reached
+mod Phased

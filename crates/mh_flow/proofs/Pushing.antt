@@ -2,12 +2,12 @@ use Rattle.std.proofs.Common.{◌≡◌, ℕ, ◌+◌, ◌-◌, ◌≤◌, ◌<�
 use Rattle.std.specs.Prelude.{◌==◌, map, min, slice_set}
 use Rattle.std.proofs.lemmas.Bool.{cases_eq, eq-eqb}
 use Rattle.std.proofs.Math.Seq.{take-length}
-use Rattle.std.proofs.lemmas.List.Sums.{sum_by-set, get_or-le-sum_by}
+use Rattle.std.proofs.lemmas.List.Sums.{sum_by-cons, sum_by-set, get_or-le-sum_by}
 use Rattle.mh_network.specs.Sums.{amount_at}
 use Rattle.mh_flow.specs.declared.need_row.NeedRow.{NeedRow}
 use Rattle.mh_flow.specs.declared.path.Turn.{Turn}
 use Rattle.mh_flow.specs.Carried.{row_at, no_row, number_at}
-use Rattle.mh_flow.specs.Layers.{IsPath, IsPushed, IsMoved, IsSameRow, IsTurn, least_of, room}
+use Rattle.mh_flow.specs.Layers.{IsPath, IsPushed, IsSent, IsMoved, IsSameRow, IsTurn, least_of, room, times}
 
 -- a row with another amount
 abbrev pub with_amount : NeedRow → ℕ → NeedRow
@@ -104,3 +104,18 @@ pushed_on old mid new left0 left1 links points p forth back d turn pushed moved 
   out = λ j. omega (arith, moved.out j, pushed.out j);
   value = moved.value ∙ pushed.value;
 }
+
+times_cons : (d k x : ℕ) (xs : List ℕ) → times d k (x ∷ xs) ≡ cond (x == k) d 0 + times d k xs
+times_cons d k x xs = sum_by-cons (λ y. cond (y == k) d 0) x xs
+
+-- what went along the rest of a path goes over its first turn too
+pub sent_on : (old mid new : List NeedRow) (first d : ℕ) (turns : List Turn) (e : Turn) → 1 ≤ length turns → IsSent old mid (take (length turns - 1) (drop 1 turns)) first d →
+    IsMoved mid new (get_or turns 0 e).back (get_or turns 0 e).forth d → IsSent old new turns first d
+sent_on old mid new first d [] e l h moved = absurd (omega arith)
+sent_on old mid new first d (turn ∷ rest) e l h moved =
+    let less : length (turn ∷ rest) - 1 ≡ length rest = omega arith in
+    let whole : take (length (turn ∷ rest) - 1) rest ≡ rest = ap (λ n. take n rest) less ∙ take-length rest in
+    let before : IsSent old mid rest first d = subst (λ (r : List Turn). IsSent old mid r first d) whole h in
+    let backs : List ℕ = map (λ (t : Turn). t.back) rest in
+    let forths : List ℕ = map (λ (t : Turn). t.forth) rest in
+    λ k. omega (arith, moved.moved k, before k, times_cons d k turn.back backs, times_cons d k first forths, times_cons d k first (turn.forth ∷ forths), times_cons d k turn.forth forths)

@@ -1,6 +1,6 @@
 -- Paths up the levels, and what a push along one changes (Dinitz 1970).
 use Rattle.std.specs.Prelude.{ℕ, ◌+◌, ◌≡◌, ◌≤◌, ◌<◌, List, [], ◌∷◌, cond, ◌==◌, length, map, min}
-use Rattle.std.specs.List.{All}
+use Rattle.std.specs.List.{All, sum_by}
 use Rattle.mh_flow.specs.declared.need_row.NeedRow.{NeedRow}
 use Rattle.mh_flow.specs.declared.path.Turn.{Turn}
 use Rattle.mh_flow.specs.Carried.{row_at, out_of_link, into_point, carried, number_at}
@@ -63,6 +63,15 @@ pub record IsPushed (old new : List NeedRow) (old_left new_left : List ℕ) (lin
   pub out : (j : ℕ) → number_at new_left j + out_of_link new j ≡ number_at old_left j + out_of_link old j
   pub value : carried new ≡ carried old + d
 
+-- d for each time that k stands in a list
+abbrev pub times : ℕ → ℕ → List ℕ → ℕ
+times d k xs = sum_by (λ x. cond (x == k) d 0) xs
+
+-- d more units go forth over the rows of a path and are taken back over others; no other row carries more or less than before
+abbrev pub IsSent : List NeedRow → List NeedRow → List Turn → ℕ → ℕ → Type 0
+IsSent old new turns first d = (k : ℕ) →
+    (row_at new k).amount + times d k (map (λ t. t.back) turns) ≡ (row_at old k).amount + times d k (first ∷ map (λ t. t.forth) turns)
+
 pub record IsWithin (rows : List NeedRow) (gain_left : List ℕ) : Type 0 where
   pub links : All (λ r. r.link < length gain_left) rows
   pub gains : (j : ℕ) → number_at gain_left j + out_of_link rows j ≤ greatest_sum
@@ -74,5 +83,6 @@ pub record IsMoved (old new : List NeedRow) (back forth amount : ℕ) : Type 0 w
   pub others : (k : ℕ) → ((row_at old k).link ≡ (row_at old back).link → ⊥) → row_at new k ≡ row_at old k
   pub into : (q : ℕ) → into_point new q + cond ((row_at old back).point == q) amount 0 ≡ into_point old q + cond ((row_at old forth).point == q) amount 0
   pub grown : (k : ℕ) → (k ≡ forth → ⊥) → (row_at new k).amount ≤ (row_at old k).amount
+  pub moved : (k : ℕ) → (row_at new k).amount + cond (back == k) amount 0 ≡ (row_at old k).amount + cond (forth == k) amount 0
   pub out : (j : ℕ) → out_of_link new j ≡ out_of_link old j
   pub value : carried new ≡ carried old

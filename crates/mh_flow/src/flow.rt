@@ -1,8 +1,10 @@
 //! The greatest flow.
 
-ghost use Rattle.std.specs.Prelude.{◌≡◌, ◌≤◌, ◌<◌, ◌+◌, ◌+ℤ◌, pos, length, All, AllPairs, IfOk};
+ghost use Rattle.std.specs.Prelude.{◌≡◌, ◌≤◌, ◌<◌, ◌+◌, ◌+ℤ◌, ◌↔◌, [], pos, length, All, AllPairs, IfOk};
+ghost use Rattle.std.specs.List.Sorted.{IsStrictlyIncreasing};
 ghost use Rattle.mh_network.specs.Problems.{sum_of_gains};
 ghost use Rattle.mh_network.specs.Selection.{IsBefore, IsChargeBefore, IsFlow, IsLeast, worth, member, value_of};
+ghost use Rattle.mh_flow.specs.Phases.{IsRunOf};
 
 use crate::blocking::block;
 use crate::layer_run::{FlowRun, LayerRun};
@@ -24,6 +26,9 @@ pub fn max_flow(alloc: Global, problem: &Problem) -> Result<FlowRun, NoMemory>
     ensures equal { IfOk result (λ run. worth problem.now (member run.reached) +ℤ pos
         (value_of run.rows run.charges) ≡ pos (sum_of_gains problem.now)) }
     ensures least { IfOk result (λ run. IsLeast problem.now (member run.reached)) }
+    ensures ascending { IfOk result (λ run. IsStrictlyIncreasing run.reached) }
+    ensures taken { IfOk result (IsRunOf problem.now) }
+    ensures idle { IfOk result (λ run. (run.phases ≡ 1) ↔ (run.rows ≡ [])) }
     ensures some { IfOk result (λ run. 1 ≤ run.phases) }
     ensures phases { IfOk result (λ run. run.phases
         ≤ length problem.now.links + length problem.now.costs + 2) }

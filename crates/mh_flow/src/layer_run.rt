@@ -1,6 +1,7 @@
 //! A run of the flow.
 
 ghost use Rattle.std.specs.Prelude.{◌≡◌, ◌<◌, ◌+◌, ◌^◌, ◌↔◌, length, ℕ, IfOk, OnOk, OnErr, IsTrue, MatchBool};
+ghost use Rattle.std.specs.List.Sorted.{IsStrictlyIncreasing};
 ghost use Rattle.mh_network.specs.Problems.{gain_of};
 ghost use Rattle.mh_network.specs.Selection.{member};
 ghost use Rattle.mh_flow.specs.Carried.{carried, number_at};
@@ -9,6 +10,7 @@ ghost use Rattle.mh_flow.specs.Distances.{AreDistances};
 ghost use Rattle.mh_flow.specs.LayerData.{HasNoLevels, IsLayerRun, IsSameFlow, IsEnd, IsPathPushed, IsSinkLevel};
 ghost use Rattle.mh_flow.specs.Layers.{IsPath, room};
 ghost use Rattle.mh_flow.specs.Levels.{far, IsLower};
+ghost use Rattle.mh_flow.specs.Phases.{IsSentAlong};
 ghost use Rattle.mh_flow.specs.Run.{IsLayered, is_reached, positive_rows};
 ghost use Rattle.mh_flow.specs.Spent.{IsPhase, IsSpent};
 
@@ -97,7 +99,7 @@ impl FlowRun {
         self.charges.as_slice()
     }
 
-    /// The links that the source reaches.
+    /// The links that the source reaches, ascending.
     pub fn reached(&self) -> &[u32]
         ensures value { result.now ≡ self.now.reached }
     {
@@ -189,6 +191,8 @@ impl<'p> LayerRun<'p> {
         ensures least { carried self.new.rows ≡ carried self.old.rows + room self.old.rows
             self.old.gain_left (number_at self.old.cost_left path.now.point) path.now.turns.items
             path.now.first }
+        ensures sent { IsSentAlong self.old self.new path.now.point path.now.turns.items
+            path.now.first }
         ensures kept { IsLayerRun self.new }
     {
         needs_are_of_links();
@@ -205,12 +209,13 @@ impl<'p> LayerRun<'p> {
         self.cost_left[path.point] -= amount;
     }
 
-    /// The flow, the links that have a level, and the count of phases.
+    /// The flow, the links that have a level, ascending, and the count of phases.
     pub fn finish(self) -> Result<FlowRun, NoMemory>
         ensures rows { IfOk result (λ run. run.rows ≡ positive_rows self.entry.rows) }
         ensures charges { IfOk result (λ run. run.charges ≡ paid_charges self.entry.problem) }
         ensures reached { IfOk result (λ run. (j : ℕ)
             → member run.reached j ≡ is_reached self.entry.links j) }
+        ensures ascending { IfOk result (λ run. IsStrictlyIncreasing run.reached) }
         ensures phases { IfOk result (λ run. run.phases ≡ self.entry.phases) }
     {
         Ok(FlowRun {

@@ -1,6 +1,7 @@
 //! What a run gives at its end.
 
 ghost use Rattle.std.specs.Prelude.{◌≡◌, ◌≤◌, ◌<◌, length, ℕ, IfOk};
+ghost use Rattle.std.specs.List.Sorted.{IsStrictlyIncreasing};
 ghost use Rattle.mh_network.specs.Selection.{member};
 ghost use Rattle.mh_flow.specs.Charged.{paid_charges as charges_paid, paid_of};
 ghost use Rattle.mh_flow.specs.Run.{is_reached, positive_rows};
@@ -46,10 +47,11 @@ pub(crate) fn paid_charges(alloc: Global, problem: &Problem) -> Result<Vec<(u32,
     Ok(charges)
 }
 
-/// The links that have a level.
+/// The links that have a level, ascending.
 pub(crate) fn reached_links(alloc: Global, levels: &[u32]) -> Result<Vec<u32>, NoMemory>
     requires { length levels.now ≤ greatest_count }
-    ensures { IfOk result (λ v. (j : ℕ) → member v.items j ≡ is_reached levels.now j) }
+    ensures members { IfOk result (λ v. (j : ℕ) → member v.items j ≡ is_reached levels.now j) }
+    ensures ascending { IfOk result (λ v. IsStrictlyIncreasing v.items) }
 {
     let mut reached = Vec::new(alloc);
     for link in 0..levels.len() {
