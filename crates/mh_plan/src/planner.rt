@@ -1,11 +1,13 @@
 //! Plans of problems.
 
 ghost use Rattle.std.specs.Prelude.{◌≡◌, ◌<◌, ◌≤◌, ◌^◌, ◌-ℤ◌, IfOk, length, pos};
+ghost use Rattle.std.specs.List.Sorted.{IsPermutation};
 ghost use Rattle.mh_cert.specs.Plans.{Matches};
 ghost use Rattle.mh_network.specs.Parts.{AreParts};
 ghost use Rattle.mh_network.specs.Problems.{IsProblem, sum_of_gains};
 ghost use Rattle.mh_network.specs.Selection.{IsLeast, member, value_of};
-ghost use Rattle.mh_plan.specs.Phases.{ArePhases};
+ghost use Rattle.mh_plan.specs.Joined.{joined, rows_of};
+ghost use Rattle.mh_plan.specs.Phases.{AreCounted, ArePhases};
 ghost use Rattle.mh_plan.specs.Shares.{AreShared, run_at};
 ghost use Rattle.mh_plan.specs.Solved.{AreSolved};
 ghost use Rattle.mh_plan.specs.Limits.{most_workers};
@@ -46,7 +48,8 @@ pub fn plan<R: Threads + Sync, G: Gate>(
 }
 
 /// The plan that `plan` gives, and for each part, in the order of `Problem::parts`, how many phases
-/// its flow took: at least 1, and at most 2 more than it has links and points.
+/// its flow took: 1 where it carries nothing over needs, else more, and at most 2 more than it has
+/// links and points.
 ///
 /// Fails only if an allocation is refused.
 pub fn plan_counted<R: Threads + Sync, G: Gate>(
@@ -60,13 +63,13 @@ pub fn plan_counted<R: Threads + Sync, G: Gate>(
     requires few { workers ≤ most_workers }
     ensures matching { IfOk result (λ answer. Matches problem.now answer.0) }
     ensures least { IfOk result (λ answer. IsLeast problem.now (member answer.0.links)) }
-    ensures phases { IfOk result (λ answer. ArePhases problem.now answer.1.items) }
+    ensures phases { IfOk result (λ answer. ArePhases problem.now answer.0.flow answer.1.items) }
 {
     let parts = problem.parts(alloc)?;
     let workers = workers.min(parts.len()).max(1);
     let runs = solve_all(rt, alloc, problem, &parts, workers, gate)?;
     let plan = join_plan(alloc, problem, &parts, &runs)?;
-    let phases = phases_of(alloc, problem, &parts, &runs)?;
+    let phases = phases_of(alloc, &parts, &runs)?;
     Ok((plan, phases))
 }
 
@@ -96,6 +99,8 @@ fn join_plan(
     requires solved { AreSolved problem.now parts.now (run_at runs.now) }
     ensures matching { IfOk result (λ plan. Matches problem.now plan) }
     ensures least { IfOk result (λ plan. IsLeast problem.now (member plan.links)) }
+    ensures flow { IfOk result (λ plan. IsPermutation
+        (joined (rows_of parts.now (run_at runs.now)) (length parts.now)) plan.flow) }
 {
     parts_join(problem);
     lists_add_up();
@@ -124,16 +129,9 @@ fn left_of_gains(problem: &Problem, flow: &[Row], charges: &[Charge]) -> i64
 }
 
 /// The phases of each part.
-fn phases_of(
-    alloc: Global,
-    problem: &Problem,
-    parts: &[Part],
-    runs: &Runs,
-) -> Result<Vec<u64>, NoMemory>
-    requires parts { AreParts problem.now parts.now }
+fn phases_of(alloc: Global, parts: &[Part], runs: &Runs) -> Result<Vec<u64>, NoMemory>
     requires shared { AreShared parts.now runs.now }
-    requires solved { AreSolved problem.now parts.now (run_at runs.now) }
-    ensures value { IfOk result (λ phases. ArePhases problem.now phases.items) }
+    ensures counted { IfOk result (λ phases. AreCounted parts.now (run_at runs.now) phases.items) }
 {
     let mut phases = Vec::new(alloc);
     for part in 0..parts.len() {
