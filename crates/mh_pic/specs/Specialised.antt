@@ -5,7 +5,7 @@
 --   3. a guard by a key test of the key's kind: its specialised target where the keys are equal, else its specialised fallback;
 --   4. any other guard: its test without needed points, and its specialised branches;
 --   5. any other node: the node over its parts without needed points.
-use Rattle.std.specs.Prelude.{◌≡◌, ◌≤◌, ℕ, Bool, true, false, Option, Some, None, List, ◌==◌, if◌then◌else◌}
+use Rattle.std.specs.Prelude.{◌≡◌, ◌≤◌, ℕ, Bool, true, false, Option, Some, None, List, ◌==◌, ◌||◌, if◌then◌else◌}
 use Rattle.std.specs.List.{list_any}
 use Rattle.mh_type.specs.declared.kind.Kind.{Kind}
 use Rattle.mh_type.specs.declared.value.Value.{Value}
@@ -61,25 +61,29 @@ specialised needs kinds key (point p x y) =
 specialised needs kinds key t = stripped needs t
 
 abbrev mutual
-  -- the tree names none of the needs
-  pub NamesNone : List ℕ → Tree → Type 0
-  NamesNone needs (constant x) = Unit {0}
-  NamesNone needs (identity k) = Unit {0}
-  NamesNone needs (operation o) = Unit {0}
-  NamesNone needs (insert t p xs) = NamesNone needs t
-  NamesNone needs (discard t p ks) = NamesNone needs t
-  NamesNone needs (permute t m r) = NamesNone needs t
-  NamesNone needs (filter t p fs) = NamesNone needs t × NameNone needs fs
-  NamesNone needs (filter_return t f) = NamesNone needs t × NamesNone needs f
-  NamesNone needs (fold t c) = NamesNone needs t × NamesNone needs c
-  NamesNone needs (guard c x y) = NamesNone needs c × NamesNone needs x × NamesNone needs y
-  NamesNone needs (point p x y) = (is_needed needs p ≡ false) × NamesNone needs x × NamesNone needs y
-  NamesNone needs (invoke s n) = Unit {0}
+  -- whether the tree names one of the needs
+  pub names : List ℕ → Tree → Bool
+  names needs (constant x) = false
+  names needs (identity k) = false
+  names needs (operation o) = false
+  names needs (insert t p xs) = names needs t
+  names needs (discard t p ks) = names needs t
+  names needs (permute t m r) = names needs t
+  names needs (filter t p fs) = names needs t || any_names needs fs
+  names needs (filter_return t f) = names needs t || names needs f
+  names needs (fold t c) = names needs t || names needs c
+  names needs (guard c x y) = names needs c || (names needs x || names needs y)
+  names needs (point p x y) = is_needed needs p || (names needs x || names needs y)
+  names needs (invoke s n) = false
 
-  pub NameNone : List ℕ → Filters → Type 0
-  NameNone needs no_more = Unit {0}
-  NameNone needs (absent fs) = NameNone needs fs
-  NameNone needs (present f fs) = NamesNone needs f × NameNone needs fs
+  pub any_names : List ℕ → Filters → Bool
+  any_names needs no_more = false
+  any_names needs (absent fs) = any_names needs fs
+  any_names needs (present f fs) = names needs f || any_names needs fs
+
+-- the tree names none of the needs
+abbrev pub NamesNone : List ℕ → Tree → Type 0
+NamesNone needs t = names needs t ≡ false
 
 -- the tree serves for the base, of type m, where the needs are valid and the argument at place q is the key
 pub record Serves (needs : List ℕ) (q : ℕ) (key : Value) (tree base : Tree) (m : Signature) : Type 0 where

@@ -1,6 +1,7 @@
 //! Nodes over parts of which some were made anew: a part is made, or none where the old one stays.
 
-ghost use Rattle.std.specs.Prelude.{◌≡◌, IfOk, IfErr};
+ghost use Rattle.std.specs.Prelude.{◌≡◌, ◌||◌, true, IfOk, IfErr};
+ghost use Rattle.std.specs.Option.{is_some};
 ghost use Rattle.std.specs.Arc.{arc_value};
 ghost use Rattle.mh_tree.specs.Tree.{Tree, insert as insert_tree, discard as drop_tree, permute as permute_tree, filter as filter_tree, filters_of, filter_return as filter_return_tree, fold as fold_tree, guard as guard_tree, point as point_tree};
 ghost use Rattle.mh_tree.specs.TreeOf.{tree_of, filter_trees};
@@ -26,6 +27,7 @@ pub(crate) fn owner(made: Option<Arc<Node>>, old: &Arc<Node>) -> Result<Arc<Node
 // A node that was made.
 pub(crate) fn root(alloc: Global, node: Node) -> Result<Option<Arc<Node>>, TreeFault>
     ensures value { IfOk result (λ o. (t : _) → made_or o t ≡ tree_of node) }
+    ensures made { IfOk result (λ o. is_some o ≡ true) }
     ensures refused { IfErr result (λ e. e ≡ TreeFault.NoMemory) }
 {
     let node = Arc::new(alloc, node).map_err(|_| TreeFault::NoMemory)?;
@@ -41,6 +43,7 @@ pub(crate) fn insert(
 ) -> Result<Option<Arc<Node>>, TreeFault>
     ensures value { IfOk result (λ o. (t : Tree) → made_or o (insert_tree t position values.now)
         ≡ insert_tree (made_or target t) position values.now) }
+    ensures made { IfOk result (λ o. is_some o ≡ is_some target) }
     ensures refused { IfErr result (λ e. e ≡ TreeFault.NoMemory) }
 {
     let Some(target) = target else {
@@ -66,6 +69,7 @@ pub(crate) fn discard(
 ) -> Result<Option<Arc<Node>>, TreeFault>
     ensures value { IfOk result (λ o. (t : Tree) → made_or o (drop_tree t position kinds.now)
         ≡ drop_tree (made_or target t) position kinds.now) }
+    ensures made { IfOk result (λ o. is_some o ≡ is_some target) }
     ensures refused { IfErr result (λ e. e ≡ TreeFault.NoMemory) }
 {
     let Some(target) = target else {
@@ -92,6 +96,7 @@ pub(crate) fn permute(
     ensures value { IfOk result (λ o. (t : Tree) → made_or o
         (permute_tree t new_type.now reorder.now) ≡ permute_tree
         (made_or target t) new_type.now reorder.now) }
+    ensures made { IfOk result (λ o. is_some o ≡ is_some target) }
     ensures refused { IfErr result (λ e. e ≡ TreeFault.NoMemory) }
 {
     let Some(target) = target else {
@@ -109,26 +114,37 @@ pub(crate) fn permute(
     )
 }
 
+/// Filters that were looked at one by one, and whether one of them was made anew.
+#[derive(Drop)]
+pub(crate) struct FilterList {
+    pub(crate) filters: Vec<Option<Arc<Node>>>,
+    pub(crate) changed: bool,
+}
+
 // `MethodHandles.filterArguments` over a target and filters that were looked at one by one.
 pub(crate) fn filter(
     alloc: Global,
     made: Option<Arc<Node>>,
     target: &Arc<Node>,
     position: usize,
-    filters: Vec<Option<Arc<Node>>>,
+    list: FilterList,
 ) -> Result<Option<Arc<Node>>, TreeFault>
-    ensures value { IfOk result (λ o. (t : Tree) → made_or o t ≡ filter_tree
+    ensures value { IfOk result (λ o. is_some o ≡ true → (t : Tree) → made_or o t ≡ filter_tree
         (made_or made (tree_of (arc_value target.now))) position
-        (filters_of (filter_trees filters.items))) }
+        (filters_of (filter_trees list.filters.items))) }
+    ensures made { IfOk result (λ o. is_some o ≡ (is_some made || list.changed)) }
     ensures refused { IfErr result (λ e. e ≡ TreeFault.NoMemory) }
 {
+    if made.is_none() && !list.changed {
+        return Ok(None);
+    }
     let target = owner(made, target)?;
     root(
         alloc,
         Node::Filter {
             target,
             position,
-            filters,
+            filters: list.filters,
         },
     )
 }
@@ -145,6 +161,7 @@ pub(crate) fn filter_return(
         (tree_of (arc_value filter.now))) ≡ filter_return_tree
         (made_or made (tree_of (arc_value target.now)))
         (made_or other (tree_of (arc_value filter.now)))) }
+    ensures made { IfOk result (λ o. is_some o ≡ (is_some made || is_some other)) }
     ensures refused { IfErr result (λ e. e ≡ TreeFault.NoMemory) }
 {
     match (made, other) {
@@ -169,6 +186,7 @@ pub(crate) fn fold(
         (tree_of (arc_value combiner.now))) ≡ fold_tree
         (made_or made (tree_of (arc_value target.now)))
         (made_or other (tree_of (arc_value combiner.now)))) }
+    ensures made { IfOk result (λ o. is_some o ≡ (is_some made || is_some other)) }
     ensures refused { IfErr result (λ e. e ≡ TreeFault.NoMemory) }
 {
     match (made, other) {
@@ -194,6 +212,7 @@ pub(crate) fn point(
         (tree_of (arc_value fallback.now))) ≡ point_tree point
         (made_or made (tree_of (arc_value target.now)))
         (made_or other (tree_of (arc_value fallback.now)))) }
+    ensures made { IfOk result (λ o. is_some o ≡ (is_some made || is_some other)) }
     ensures refused { IfErr result (λ e. e ≡ TreeFault.NoMemory) }
 {
     match (made, other) {
@@ -228,6 +247,7 @@ pub(crate) fn guard(
         (made_or asked (tree_of (arc_value test.now)))
         (made_or made (tree_of (arc_value target.now)))
         (made_or other (tree_of (arc_value fallback.now)))) }
+    ensures made { IfOk result (λ o. is_some o ≡ (is_some asked || (is_some made || is_some other))) }
     ensures refused { IfErr result (λ e. e ≡ TreeFault.NoMemory) }
 {
     match (asked, made, other) {

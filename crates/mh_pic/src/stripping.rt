@@ -1,27 +1,30 @@
 //! Trees without needed points.
 
 ghost use Rattle.std.specs.Prelude.{◌≡◌, IfOk, IfErr};
+ghost use Rattle.std.specs.Option.{is_some};
 ghost use Rattle.std.specs.Arc.{arc_value};
 ghost use Rattle.mh_tree.specs.TreeOf.{tree_of, filter_trees};
 ghost use Rattle.mh_tree.specs.Tree.{filters_of, filter as filter_tree, filter_return as filter_return_tree, fold as fold_tree, guard as guard_tree, point as point_tree};
-ghost use Rattle.mh_pic.specs.Specialised.{stripped, stripped_filters};
+ghost use Rattle.mh_pic.specs.Specialised.{any_names, names, stripped, stripped_filters};
 ghost use Rattle.mh_pic.specs.Outcomes.{made_or};
 
 use crate::rebuilding::{
-    discard, filter, filter_return, fold, guard, insert, owner, permute, point,
+    FilterList, discard, filter, filter_return, fold, guard, insert, owner, permute, point,
 };
 use mh_tree::{Node, TreeFault};
 use std::alloc::Global;
 use std::sync::Arc;
 
-/// The tree without the needed points, each of which gives way to its target; none where it is the
-/// same, so that a caller keeps the old part. What is made shares the parts that stay. It takes
-/// time linear in the size, times the number of needs at each point, and no time without needs.
+/// The tree without the needed points, each of which gives way to its target; none just where it
+/// names none of them, so that a caller keeps the old part. What is made shares the parts that stay.
+/// It takes time linear in the size, times the number of needs at each point, and no time without
+/// needs.
 /// Refused with `NoMemory` alone.
 #[cycle(strips)]
 pub fn strip(alloc: Global, node: &Node, needs: &[u32]) -> Result<Option<Arc<Node>>, TreeFault>
     ensures value { IfOk result (λ o. made_or o (tree_of node.now) ≡ stripped needs.now
         (tree_of node.now)) }
+    ensures made { IfOk result (λ o. is_some o ≡ names needs.now (tree_of node.now)) }
     ensures refused { IfErr result (λ e. e ≡ TreeFault.NoMemory) }
 {
     if needs.is_empty() {
@@ -78,11 +81,14 @@ fn strip_filter(
     ensures value { let t = filter_tree (tree_of (arc_value target.now)) position
         (filters_of (filter_trees filters.now)) in
         IfOk result (λ o. made_or o t ≡ stripped needs.now t) }
+    ensures made { let t = filter_tree (tree_of (arc_value target.now)) position
+        (filters_of (filter_trees filters.now)) in
+        IfOk result (λ o. is_some o ≡ names needs.now t) }
     ensures refused { IfErr result (λ e. e ≡ TreeFault.NoMemory) }
 {
     let made = strip(alloc, target, needs)?;
-    let filters = strip_filters(alloc, filters, needs)?;
-    filter(alloc, made, target, position, filters)
+    let list = strip_filters(alloc, filters, needs)?;
+    filter(alloc, made, target, position, list)
 }
 
 // The filter of the result of these parts, likewise.
@@ -96,6 +102,9 @@ fn strip_filter_return(
     ensures value { let t = filter_return_tree
         (tree_of (arc_value target.now)) (tree_of (arc_value filter.now)) in
         IfOk result (λ o. made_or o t ≡ stripped needs.now t) }
+    ensures made { let t = filter_return_tree
+        (tree_of (arc_value target.now)) (tree_of (arc_value filter.now)) in
+        IfOk result (λ o. is_some o ≡ names needs.now t) }
     ensures refused { IfErr result (λ e. e ≡ TreeFault.NoMemory) }
 {
     let made = strip(alloc, target, needs)?;
@@ -114,6 +123,9 @@ fn strip_fold(
     ensures value { let t = fold_tree
         (tree_of (arc_value target.now)) (tree_of (arc_value combiner.now)) in
         IfOk result (λ o. made_or o t ≡ stripped needs.now t) }
+    ensures made { let t = fold_tree
+        (tree_of (arc_value target.now)) (tree_of (arc_value combiner.now)) in
+        IfOk result (λ o. is_some o ≡ names needs.now t) }
     ensures refused { IfErr result (λ e. e ≡ TreeFault.NoMemory) }
 {
     let made = strip(alloc, target, needs)?;
@@ -133,6 +145,9 @@ fn strip_guard(
     ensures value { let t = guard_tree (tree_of (arc_value test.now))
         (tree_of (arc_value target.now)) (tree_of (arc_value fallback.now)) in
         IfOk result (λ o. made_or o t ≡ stripped needs.now t) }
+    ensures made { let t = guard_tree (tree_of (arc_value test.now))
+        (tree_of (arc_value target.now)) (tree_of (arc_value fallback.now)) in
+        IfOk result (λ o. is_some o ≡ names needs.now t) }
     ensures refused { IfErr result (λ e. e ≡ TreeFault.NoMemory) }
 {
     let asked = strip(alloc, test, needs)?;
@@ -153,6 +168,9 @@ fn strip_point(
     ensures value { let t = point_tree place
         (tree_of (arc_value target.now)) (tree_of (arc_value fallback.now)) in
         IfOk result (λ o. made_or o t ≡ stripped needs.now t) }
+    ensures made { let t = point_tree place
+        (tree_of (arc_value target.now)) (tree_of (arc_value fallback.now)) in
+        IfOk result (λ o. is_some o ≡ names needs.now t) }
     ensures refused { IfErr result (λ e. e ≡ TreeFault.NoMemory) }
 {
     let made = strip(alloc, target, needs)?;
@@ -170,21 +188,28 @@ fn strip_filters(
     alloc: Global,
     filters: &[Option<Arc<Node>>],
     needs: &[u32],
-) -> Result<Vec<Option<Arc<Node>>>, TreeFault>
-    ensures value { IfOk result (λ v. filters_of (filter_trees v.items) ≡ stripped_filters needs.now
+) -> Result<FilterList, TreeFault>
+    ensures value { IfOk result (λ v. filters_of (filter_trees v.filters.items)
+        ≡ stripped_filters needs.now (filters_of (filter_trees filters.now))) }
+    ensures made { IfOk result (λ v. v.changed ≡ any_names needs.now
         (filters_of (filter_trees filters.now))) }
     ensures refused { IfErr result (λ e. e ≡ TreeFault.NoMemory) }
 {
     let mut stripped = Vec::new(alloc);
+    let mut changed = false;
     for filter in filters {
         let filter = match filter {
             None => None,
             Some(filter) => {
                 let made = strip(alloc, filter, needs)?;
+                changed = changed || made.is_some();
                 Some(owner(made, filter)?)
             }
         };
         stripped.push(filter).map_err(|_| TreeFault::NoMemory)?;
     }
-    Ok(stripped)
+    Ok(FilterList {
+        filters: stripped,
+        changed,
+    })
 }

@@ -1,12 +1,12 @@
 -- What the trees keep: their type; and that they name no need.
-use Rattle.std.proofs.Common.{◌≡◌, ℕ, refl, List, [], ◌∷◌, Bool, true, false, Option, Some, None, if◌then◌else◌}
+use Rattle.std.proofs.Common.{◌≡◌, ℕ, refl, List, [], ◌∷◌, Bool, true, false, ◌||◌, Option, Some, None, if◌then◌else◌}
 use Rattle.mh_type.specs.declared.kind.Kind.{Kind}
 use Rattle.mh_type.specs.declared.value.Value.{Value}
 use Rattle.mh_type.specs.Signature.{Signature}
 use Rattle.mh_tree.specs.Tree.{Tree, Filters, constant, identity, operation, insert, discard, permute, filter, filter_return, fold, guard, point, invoke, no_more, absent, present}
 use Rattle.mh_tree.specs.Typing.{IsTyped, AreTyped}
 use Rattle.mh_pic.specs.Keys.{key_in, decided}
-use Rattle.mh_pic.specs.Specialised.{is_needed, stripped, stripped_filters, branch, specialised, NamesNone, NameNone}
+use Rattle.mh_pic.specs.Specialised.{is_needed, stripped, stripped_filters, branch, specialised, NamesNone, any_names}
 
 point_typed : (b : Bool) (p : ℕ) (x y : Tree) (m : Signature) → IsTyped x m → IsTyped y m → IsTyped (if b then x else point p x y) m
 point_typed true p x y m hx hy = hx
@@ -63,34 +63,37 @@ specialised_typed needs kinds key (filter_return t f) m h = stripped_typed needs
 specialised_typed needs kinds key (fold t c) m h = stripped_typed needs (fold t c) m h
 specialised_typed needs kinds key (invoke s n) m h = stripped_typed needs (invoke s n) m h
 
+neither : (a b : Bool) → a ≡ false → b ≡ false → (a || b) ≡ false
+neither a b h g = λ i. h i || g i
+
 point_names : (needs : List ℕ) (b : Bool) (p : ℕ) (x y : Tree) → is_needed needs p ≡ b → NamesNone needs x → NamesNone needs y → NamesNone needs (if b then x else point p x y)
 point_names needs true p x y same hx hy = hx
-point_names needs false p x y same hx hy = (same, hx, hy)
+point_names needs false p x y same hx hy = neither _ _ same (neither _ _ hx hy)
 
 mutual
   pub stripped_names : (needs : List ℕ) (t : Tree) → NamesNone needs (stripped needs t)
-  stripped_names needs (constant x) = tt
-  stripped_names needs (identity k) = tt
-  stripped_names needs (operation o) = tt
+  stripped_names needs (constant x) = refl
+  stripped_names needs (identity k) = refl
+  stripped_names needs (operation o) = refl
   stripped_names needs (insert t p xs) = stripped_names needs t
   stripped_names needs (discard t p ks) = stripped_names needs t
   stripped_names needs (permute t m r) = stripped_names needs t
-  stripped_names needs (filter t p fs) = (stripped_names needs t, stripped_name needs fs)
-  stripped_names needs (filter_return t f) = (stripped_names needs t, stripped_names needs f)
-  stripped_names needs (fold t c) = (stripped_names needs t, stripped_names needs c)
-  stripped_names needs (guard c x y) = (stripped_names needs c, stripped_names needs x, stripped_names needs y)
+  stripped_names needs (filter t p fs) = neither _ _ (stripped_names needs t) (stripped_name needs fs)
+  stripped_names needs (filter_return t f) = neither _ _ (stripped_names needs t) (stripped_names needs f)
+  stripped_names needs (fold t c) = neither _ _ (stripped_names needs t) (stripped_names needs c)
+  stripped_names needs (guard c x y) = neither _ _ (stripped_names needs c) (neither _ _ (stripped_names needs x) (stripped_names needs y))
   stripped_names needs (point p x y) = point_names needs (is_needed needs p) p _ _ refl (stripped_names needs x) (stripped_names needs y)
-  stripped_names needs (invoke s n) = tt
+  stripped_names needs (invoke s n) = refl
 
-  pub stripped_name : (needs : List ℕ) (fs : Filters) → NameNone needs (stripped_filters needs fs)
-  stripped_name needs no_more = tt
+  pub stripped_name : (needs : List ℕ) (fs : Filters) → any_names needs (stripped_filters needs fs) ≡ false
+  stripped_name needs no_more = refl
   stripped_name needs (absent fs) = stripped_name needs fs
-  stripped_name needs (present f fs) = (stripped_names needs f, stripped_name needs fs)
+  stripped_name needs (present f fs) = neither _ _ (stripped_names needs f) (stripped_name needs fs)
 
 branch_names : (needs : List ℕ) (o : Option Bool) (c x y : Tree) → NamesNone needs c → NamesNone needs x → NamesNone needs y → NamesNone needs (branch o c x y)
 branch_names needs (Some true) c x y hc hx hy = hx
 branch_names needs (Some false) c x y hc hx hy = hy
-branch_names needs None c x y hc hx hy = (hc, hx, hy)
+branch_names needs None c x y hc hx hy = neither _ _ hc (neither _ _ hx hy)
 
 -- `specialised` names no needed point
 pub specialised_names : (needs : List ℕ) (kinds : List Kind) (key : Value) (t : Tree) → NamesNone needs (specialised needs kinds key t)

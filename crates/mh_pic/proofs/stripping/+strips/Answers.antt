@@ -1,17 +1,18 @@
-use Rattle.std.proofs.Common.{length, ◌≡◌, ◌++◌, [], ◌∷◌, refl, ap, sym, subst, ◌∙◌, arith, IfOk, List, Option, Some}
+use Rattle.std.proofs.Common.{length, ◌≡◌, ◌++◌, [], ◌∷◌, refl, ap, sym, subst, ◌∙◌, arith, IfOk, List, Option, Some, ◌||◌}
+use Rattle.std.specs.Option.{is_some}
 use Rattle.std.proofs.lemmas.Bool.Decides.{nat_tests}
-use Rattle.mh_pic.proofs.stripping.+strips.Goals.{strip_filters-in-None, strip_filters-in-Some+in_ok-made-in-Some+in_ok-owner-in-Some}
+use Rattle.mh_pic.proofs.stripping.+strips.Goals.{strip_filters-in-None, strip_filters-in-Some+in_ok-made-in-Some+in_ok-owner-in-Some, strip_filters-then-changed, strip_filters-else-changed}
 use Rattle.std.specs.declared.alloc.Global.{Global}
 use Rattle.std.specs.declared.sync.Arc.{Arc}
 use Rattle.mh_tree.specs.Laws.{tree_of_filter}
 use Rattle.mh_tree.specs.Limits.{size, total_size}
-use Rattle.mh_tree.specs.Tree.{filter, filters_of}
+use Rattle.mh_tree.specs.Tree.{Tree, filter, filters_of}
 use Rattle.mh_tree.specs.TreeOf.{tree_of, filter_trees}
 use Rattle.mh_tree.specs.declared.node.Node.{Node}
 use Rattle.mh_pic.specs.Outcomes.{made_or}
-use Rattle.mh_pic.specs.Specialised.{stripped, stripped_filters}
-use Rattle.mh_pic.proofs.StrippedFilters.{member_size, pushed_at}
-use Rattle.mh_pic.proofs.Unnamed.{stripped_empty}
+use Rattle.mh_pic.specs.Specialised.{any_names, names, stripped, stripped_filters}
+use Rattle.mh_pic.proofs.StrippedFilters.{filter_stripped, if_both, member_size, named_at, or_false, pushed_at}
+use Rattle.mh_pic.proofs.Unnamed.{names_empty, stripped_empty}
 use Rattle.mh_pic.proofs.stripping.+strips.Goals as goal
 
 pub strip-strip_filter-requires : goal.strip-strip_filter-requires
@@ -49,9 +50,48 @@ strip_filters-loop-filter-preserved t c =
           w.in_ok-owner-in-Some.ensures.value ∙ (rw n at w.in_ok-made-in-Some.ensures.value) in
           rw (w.filter-is, w.in-Some.is) (λ i. filters_of (Some (first i) ∷ []))
     ] in
-    rw items (pushed_at c.args.needs.now c.loop-filter.stripped.items c.args.filters.now c.loop-filter.filter-index c.match-filter.filter c.filter-item.result c.loop-filter-test.true c.filter-item.is c.loop-filter.invariant step)
+    let changed : c.match-filter.changed ≡ (c.loop-filter.changed || any_names c.args.needs.now (filters_of (filter_trees (c.filter-item.result ∷ [])))) =
+    elim c.match-filter.branch [
+      | strip_filters-in-None w ↦ rw (w.changed-is, w.in-None.is) (sym (or_false c.loop-filter.changed))
+      | strip_filters-in-Some+in_ok-made-in-Some+in_ok-owner-in-Some w ↦
+          let n : tree_of w.deref.result.now ≡ tree_of w.in-Some.filter.value = ap tree_of w.deref.ensures in
+          let named : is_some w.in_ok-made-in-Some.made ≡ names c.args.needs.now (tree_of w.in-Some.filter.value) = rw n at w.in_ok-made-in-Some.ensures.made in
+          rw (w.changed-is, w.in-Some.is) (elim w.if-changed.branch [
+            | strip_filters-then-changed v ↦ rw (v.changed-is, v.if-changed.true) refl
+            | strip_filters-else-changed v ↦ rw (v.changed-is, v.if-changed.false) (v.is_some-changed.ensures ∙ named ∙ sym (or_false (names c.args.needs.now (tree_of w.in-Some.filter.value))))
+          ])
+    ] in
+    record {
+      value = rw items (pushed_at c.args.needs.now c.loop-filter.stripped.items c.args.filters.now c.loop-filter.filter-index c.match-filter.filter c.filter-item.result c.loop-filter-test.true c.filter-item.is c.loop-filter.invariant.value step);
+      made = named_at c.args.needs.now c.args.filters.now c.loop-filter.filter-index c.filter-item.result c.loop-filter.changed c.match-filter.changed c.loop-filter-test.true c.filter-item.is c.loop-filter.invariant.made changed;
+    }
 
 pub strip-returns-then-is_empty-clause-value : goal.strip-returns-then-is_empty-clause-value
 strip-returns-then-is_empty-clause-value t c =
     let nothing : length c.args.needs.now ≡ 0 = grind (arith, nat_tests, c.is_empty.ensures, c.if-is_empty.true) in
     sym (stripped_empty c.args.needs.now (tree_of c.args.node.now) nothing)
+
+pub strip-returns-then-is_empty-clause-made : goal.strip-returns-then-is_empty-clause-made
+strip-returns-then-is_empty-clause-made t c =
+    let nothing : length c.args.needs.now ≡ 0 = grind (arith, nat_tests, c.is_empty.ensures, c.if-is_empty.true) in
+    sym (names_empty c.args.needs.now (tree_of c.args.node.now) nothing)
+
+pub strip-returns-in-Filter-clause-made : goal.strip-returns-in-Filter-clause-made
+strip-returns-in-Filter-clause-made t c =
+    let e = ap tree_of c.in-Filter.is ∙ tree_of_filter c.in-Filter.target c.in-Filter.position c.in-Filter.filters in
+    let f : filters_of (filter_trees c.deref-in-Filter.result.now) ≡ filters_of (filter_trees c.in-Filter.filters.items) =
+    ap (λ (fs : List (Option (Arc Node Global))). filters_of (filter_trees fs)) c.deref-in-Filter.ensures.value in
+    let whole : filter (tree_of c.in-Filter.target.value) c.in-Filter.position (filters_of (filter_trees c.deref-in-Filter.result.now)) ≡ tree_of c.args.node.now =
+    ap (filter (tree_of c.in-Filter.target.value) c.in-Filter.position) f ∙ sym e in
+    subst (λ u. IfOk c.strip_filter.result (λ o. is_some o ≡ names c.args.needs.now u)) whole c.strip_filter.ensures.made
+
+pub strip_filter-returns-clause-value : goal.strip_filter-returns-clause-value
+strip_filter-returns-clause-value t c =
+    let u : Tree = tree_of c.args.target.now.value in
+    let n : tree_of c.deref.result.now ≡ u = ap tree_of c.deref.ensures in
+    let first : made_or c.in_ok-made.made u ≡ stripped c.args.needs.now u = rw n at c.in_ok-made.ensures.value in
+    let named : is_some c.in_ok-made.made ≡ names c.args.needs.now u = rw n at c.in_ok-made.ensures.made in
+    if_both _ _ _ c.filter.result
+    (λ o. filter_stripped c.args.needs.now u c.args.position (filters_of (filter_trees c.args.filters.now)) (filters_of (filter_trees c.in_ok-list.list.filters.items)) c.in_ok-made.made o c.in_ok-list.list.changed
+    first named c.in_ok-list.ensures.value c.in_ok-list.ensures.made)
+    c.filter.ensures.value c.filter.ensures.made

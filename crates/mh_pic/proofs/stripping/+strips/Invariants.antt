@@ -3,7 +3,7 @@ use Rattle.std.specs.Arc.{arc_value}
 use Rattle.mh_tree.specs.Limits.{size, total_size}
 use Rattle.mh_tree.specs.Tree.{filters_of}
 use Rattle.mh_tree.specs.TreeOf.{tree_of, filter_trees}
-use Rattle.mh_pic.specs.Specialised.{stripped_filters}
+use Rattle.mh_pic.specs.Specialised.{any_names, stripped_filters}
 use Rattle.mh_pic.proofs.stripping.+strips.Given as goal
 
 -- what is left to do: three for each node, and one or two for the call that has its parts
@@ -30,5 +30,7 @@ abbrev pub decreases-strip_point : goal.decreases-strip_point
 decreases-strip_point l = 3 * (size (tree_of (arc_value l.target.now)) + size (tree_of (arc_value l.fallback.now))) + 1
 
 abbrev pub invariant-strip_filters-loop-filter : goal.invariant-strip_filters-loop-filter
-invariant-strip_filters-loop-filter l =
-    filters_of (filter_trees l.stripped.items) ≡ stripped_filters l.needs (filters_of (filter_trees (take l.filter-index l.filters)))
+invariant-strip_filters-loop-filter l = record {
+  value : filters_of (filter_trees l.stripped.items) ≡ stripped_filters l.needs (filters_of (filter_trees (take l.filter-index l.filters)));
+  made : l.changed ≡ any_names l.needs (filters_of (filter_trees (take l.filter-index l.filters)));
+}
