@@ -1,13 +1,13 @@
-mod AnswersGiven
+pub mod AnswersGiven
 mod Branches
 mod EntersLeading
-mod Extending
+pub mod Extending
 mod FilterRuns
 mod FilterWalks
 mod Forwards
-mod Invocations
+pub mod Invocations
 mod LawfulTrees
-mod QuietCalls
-mod QuietTrees
-mod SiteRuns
-mod Walks
+pub mod QuietCalls
+pub mod QuietTrees
+pub mod SiteRuns
+pub mod Walks

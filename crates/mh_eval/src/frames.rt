@@ -47,8 +47,9 @@ fn put_copy(stack: &mut Vec<Value>, place: usize) -> Result<(), NoMemory>
     put(stack, value)
 }
 
-// Another owner of a value, on the stack.
-pub(crate) fn put_owner(stack: &mut Vec<Value>, value: &Value) -> Result<(), NoMemory>
+/// Another owner of a value, at the end of a list. It stays as it is where memory is refused, which
+/// it is not for a value other than a text where there is room.
+pub fn put_owner(stack: &mut Vec<Value>, value: &Value) -> Result<(), NoMemory>
     ensures extends { Extends result stack.old.items stack.new.items (value.now ∷ [])
         (vec_capacity stack.old) (vec_capacity stack.new) }
 {

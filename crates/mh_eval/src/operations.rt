@@ -100,9 +100,9 @@ fn text_equal(first: &Value, second: &Value) -> bool
     }
 }
 
-// The truth of an operation that compares two numbers, where both have its kind.
+/// The truth of an operation that compares two numbers, where both have its kind.
 #[inline(always)]
-pub(crate) fn truth(op: Op, first: &Value, second: &Value) -> Option<bool>
+pub fn truth(op: Op, first: &Value, second: &Value) -> Option<bool>
     ensures value { IfSome result (λ b. outcome_of op (first.now ∷ second.now ∷ [])
         ≡ Outcome.Value (Value.Boolean b)) }
 {
@@ -159,11 +159,11 @@ macro_rules! one {
     };
 }
 
-// The answer of an operation on two operands, of which some read the first alone. Joining two texts
-// alone takes memory.
+/// The answer of an operation on two operands, of which some read the first alone. Only joining two
+/// texts takes memory.
 #[inline(always)]
 #[tactic(auto, using(std::proofs::lemmas::Int::wraps))]
-pub(crate) fn operate(alloc: Global, op: Op, first: &Value, second: &Value) -> Answer
+pub fn operate(alloc: Global, op: Op, first: &Value, second: &Value) -> Answer
     ensures value { Gives result (outcome_of op (first.now ∷ second.now ∷ [])) }
     ensures quiet { (op ≡ Op.Concat → ⊥) → IsAnswered result }
 {
@@ -267,9 +267,9 @@ fn concat(alloc: Global, some: &Text, more: &Text) -> Answer
     }
 }
 
-// A number as the outcome that it is.
+/// A number as the outcome that it is.
 #[inline(always)]
-pub(crate) fn outcome_of_number(value: &Value) -> Option<Outcome>
+pub fn outcome_of_number(value: &Value) -> Option<Outcome>
     ensures value { IfSome result (λ o. o ≡ Outcome.Value value.now) }
 {
     match value {
@@ -279,9 +279,9 @@ pub(crate) fn outcome_of_number(value: &Value) -> Option<Outcome>
     }
 }
 
-// Another owner of a value.
+/// Another owner of a value, as an answer. Only a text may be refused one.
 #[inline(always)]
-pub(crate) fn share(value: &Value) -> Answer
+pub fn share(value: &Value) -> Answer
     ensures value { Gives result (Outcome.Value value.now) }
     ensures quiet { (kind_of value.now ≡ Kind.Text → ⊥) → IsAnswered result }
 {

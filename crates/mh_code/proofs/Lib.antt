@@ -1,0 +1,3 @@
+mod LeadingOperands
+mod PlacesBehind
+mod PreparedParts

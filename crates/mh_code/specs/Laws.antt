@@ -1,0 +1,6 @@
+-- Laws of the definitions, for the proofs of crates above. Each is proved: nothing here is to be believed.
+pub mod Above
+pub mod Costs
+pub mod Means
+pub mod Scoped
+pub mod Shifts

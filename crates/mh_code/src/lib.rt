@@ -1,0 +1,12 @@
+//! Code of handle trees.
+#![tactic(auto)]
+
+mod code;
+mod made;
+mod operands;
+mod prepared;
+mod preparing;
+mod purpose;
+
+pub use code::{Code, KeyTest, Piece};
+pub use prepared::Prepared;

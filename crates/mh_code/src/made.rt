@@ -1,0 +1,68 @@
+//! Code that is being made.
+
+ghost use Rattle.std.specs.Prelude.{◌≡◌, IfOk};
+ghost use Rattle.std.specs.Arc.{arc_value};
+ghost use Rattle.mh_code.specs.PieceOf.{routine_of, routine_of_code};
+
+use crate::code::{Code, Piece};
+use mh_base::NoMemory;
+use std::alloc::Global;
+use std::sync::Arc;
+
+// How many pieces may be dropped by one another.
+const FEW: usize = 1024;
+
+/// The pieces that were made so far, the last one last.
+#[derive(Drop)]
+pub(crate) struct Made {
+    alloc: Global,
+    pieces: Vec<Arc<Piece>>,
+}
+
+impl Made {
+    // No pieces yet.
+    pub(crate) fn new(alloc: Global) -> Made {
+        Made {
+            alloc,
+            pieces: Vec::new(alloc),
+        }
+    }
+
+    // The allocator.
+    pub(crate) fn alloc(&self) -> Global {
+        self.alloc
+    }
+
+    // One more piece.
+    pub(crate) fn add(&mut self, piece: Piece) -> Result<Arc<Piece>, NoMemory>
+        ensures value { IfOk result (λ a. arc_value a ≡ piece) }
+    {
+        let made = Arc::new(self.alloc, piece).map_err(|_| NoMemory)?;
+        let kept = Arc::try_clone(&made).map_err(|_| NoMemory)?;
+        self.pieces.push(kept).map_err(|_| NoMemory)?;
+        Ok(made)
+    }
+
+    // The code that begins with a piece.
+    pub(crate) fn finish(self, entry: Arc<Piece>) -> Result<Arc<Code>, NoMemory>
+        ensures value { IfOk result (λ c. routine_of_code (arc_value c)
+            ≡ routine_of (arc_value entry)) }
+    {
+        let Made { alloc, pieces } = self;
+        let owners = if pieces.len() > FEW {
+            last_first(alloc, pieces)?
+        } else {
+            Vec::new(alloc)
+        };
+        Code::with_owners(alloc, entry, owners)
+    }
+}
+
+// The same pieces, the last one first.
+fn last_first(alloc: Global, mut pieces: Vec<Arc<Piece>>) -> Result<Vec<Arc<Piece>>, NoMemory> {
+    let mut turned = Vec::with_capacity(alloc, pieces.len()).map_err(|_| NoMemory)?;
+    while let Some(piece) = pieces.pop() {
+        turned.push(piece).map_err(|_| NoMemory)?;
+    }
+    Ok(turned)
+}

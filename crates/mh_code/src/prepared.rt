@@ -1,0 +1,221 @@
+//! Handles with their code.
+
+ghost use Rattle.std.specs.Prelude.{◌≡◌, ◌+◌, ◌≤◌, Ok, IfOk, IfErr, length};
+ghost use Rattle.std.specs.Arc.{arc_value};
+ghost use Rattle.mh_base.specs.Tests.{Refuses};
+ghost use Rattle.mh_code.specs.PieceOf.{routine_of_code};
+ghost use Rattle.mh_code.specs.Routine.{switch, truth};
+ghost use Rattle.mh_code.specs.RoutineOf.{handle_routine, routine};
+ghost use Rattle.mh_tree.specs.Constructors.{refusals, guard_made, point_made};
+ghost use Rattle.mh_tree.specs.Handle.{IsSound};
+ghost use Rattle.mh_tree.specs.Limits.{most_nodes, size};
+ghost use Rattle.mh_tree.specs.Prepared.{handle_code, leading_arguments};
+
+use crate::code::{Code, Piece};
+use crate::made::Made;
+use crate::operands::arguments;
+use crate::preparing::{Place, prepare};
+use crate::purpose::{Purpose, use_code};
+use mh_base::NoMemory;
+use mh_tree::{Handle, Operand, TreeFault};
+use std::alloc::Global;
+use std::fmt;
+use std::marker::Model;
+use std::sync::Arc;
+
+/// A handle and its prepared code, in which moved arguments vanish and each piece says what comes
+/// next. A clone of it is `share`, which copies no code.
+///
+/// A contract sees the handle's tree and type. That the code is the tree's is the invariant.
+#[derive(Drop)]
+pub struct Prepared {
+    handle: Handle,
+    code: Arc<Code>,
+}
+
+impl Model for Prepared {
+    ghost use Rattle.mh_tree.specs.Handle.{TypedTree};
+
+    ghost Value = { TypedTree };
+
+    ghost use Rattle.mh_tree.specs.TreeCode.{coded_typed_tree};
+
+    ghost coded = { coded_typed_tree };
+
+    ghost use Rattle.mh_code.specs.KeptCode.{kept_handle, IsPrepared};
+
+    ghost view = { kept_handle };
+
+    ghost invariant = { IsPrepared };
+}
+
+/// As its handle.
+impl fmt::Debug for Prepared {
+    fn fmt<W: fmt::Write>(&self, f: &mut fmt::Formatter<W>) -> fmt::Result {
+        write!(f, "Prepared({:?})", self.handle())
+    }
+}
+
+impl Prepared {
+    /// The handle with its code, in time linear in the tree's size. Fails only with `NoMemory`.
+    pub fn new(alloc: Global, handle: &Handle) -> Result<Prepared, TreeFault>
+        ensures value { IfOk result (λ p. p ≡ handle.now) }
+        ensures refused { IfErr result (λ e. e ≡ TreeFault.NoMemory) }
+    {
+        let Ok(code) = call_code(alloc, handle) else {
+            return Err(TreeFault::NoMemory);
+        };
+        let handle = handle.share()?;
+        Ok(Prepared { handle, code })
+    }
+
+    /// The target where the test gives true, and else the fallback: what `Handle::guard` makes of
+    /// the three handles, with its refusals. It takes the code of target and fallback as it is, in
+    /// time linear in the size of the test.
+    pub fn guard(
+        alloc: Global,
+        test: &Prepared,
+        target: &Prepared,
+        fallback: &Prepared,
+    ) -> Result<Prepared, TreeFault>
+        ensures value { IfOk result (λ p. guard_made test.now target.now fallback.now ≡ Ok p) }
+        ensures refused { IfErr result (λ e. Refuses (refusals
+            (guard_made test.now target.now fallback.now)) e) }
+    {
+        let handle = Handle::guard(alloc, &test.handle, &target.handle, &fallback.handle)?;
+        let target = target.code_owner()?;
+        let fallback = fallback.code_owner()?;
+        let Ok(code) = guard_code(alloc, &test.handle, target, fallback) else {
+            return Err(TreeFault::NoMemory);
+        };
+        Ok(Prepared { handle, code })
+    }
+
+    /// The target while a point is valid, and else the fallback: what `Handle::point` makes of the
+    /// two handles, with its refusals. It takes the code of its parts as it is, in constant time.
+    pub fn point(
+        alloc: Global,
+        point: u32,
+        target: &Prepared,
+        fallback: &Prepared,
+    ) -> Result<Prepared, TreeFault>
+        ensures value { IfOk result (λ p. point_made point target.now fallback.now ≡ Ok p) }
+        ensures refused { IfErr result (λ e. Refuses (refusals
+            (point_made point target.now fallback.now)) e) }
+    {
+        let handle = Handle::point(alloc, point, &target.handle, &fallback.handle)?;
+        let target = target.code_owner()?;
+        let fallback = fallback.code_owner()?;
+        let Ok(code) = point_code(alloc, point, target, fallback) else {
+            return Err(TreeFault::NoMemory);
+        };
+        Ok(Prepared { handle, code })
+    }
+
+    /// Another owner of the handle and of its code. Fails only with `NoMemory`.
+    pub fn share(&self) -> Result<Prepared, TreeFault>
+        ensures value { IfOk result (λ p. p ≡ self.now) }
+        ensures refused { IfErr result (λ e. e ≡ TreeFault.NoMemory) }
+    {
+        let code = self.code_owner()?;
+        let handle = self.handle.share()?;
+        Ok(Prepared { handle, code })
+    }
+
+    // Another owner of the code.
+    fn code_owner(&self) -> Result<Arc<Code>, TreeFault>
+        ensures value { IfOk result (λ a. routine_of_code (arc_value a) ≡ handle_routine self.now) }
+        ensures refused { IfErr result (λ e. e ≡ TreeFault.NoMemory) }
+    {
+        Arc::try_clone(&self.code).map_err(|_| TreeFault::NoMemory)
+    }
+
+    /// The handle.
+    pub fn handle(&self) -> &Handle
+        ensures value { result.now ≡ self.now }
+    {
+        &self.handle
+    }
+
+    /// The code.
+    pub fn code(&self) -> &Code
+        ensures value { routine_of_code result.now ≡ handle_routine self.now }
+        ensures sound { IsSound self.now.tree self.now.signature }
+    {
+        &self.code
+    }
+}
+
+// The operands of a handle's calls: its parameters are the arguments.
+fn parameters(alloc: Global, handle: &Handle) -> Result<Vec<Operand>, NoMemory>
+    ensures value { IfOk result (λ v. v.items
+        ≡ leading_arguments (length handle.now.signature.parameters)) }
+{
+    let count = handle.method_type().count();
+    arguments(alloc, count as u32)
+}
+
+// The code of a handle's calls.
+fn call_code(alloc: Global, handle: &Handle) -> Result<Arc<Code>, NoMemory>
+    ensures value { IfOk result (λ c. routine_of_code (arc_value c) ≡ handle_routine handle.now) }
+{
+    let operands = parameters(alloc, handle)?;
+    let place = Place {
+        operands: &operands,
+        depth: 0,
+    };
+    let mut made = Made::new(alloc);
+    let entry = prepare(&mut made, handle.root(), &place, 0, &Purpose::Answer)?;
+    made.finish(entry)
+}
+
+// The code of a guard over other code.
+fn guard_code(
+    alloc: Global,
+    test: &Handle,
+    target: Arc<Code>,
+    fallback: Arc<Code>,
+) -> Result<Arc<Code>, NoMemory>
+    requires small { 1 + size test.now.tree ≤ most_nodes }
+    ensures value { IfOk result (λ c. routine_of_code (arc_value c)
+        ≡ routine (handle_code test.now) 0 1 (truth (routine_of_code (arc_value target))
+        (routine_of_code (arc_value fallback)))) }
+{
+    let mut made = Made::new(alloc);
+    let target = use_code(&mut made, target, 0)?;
+    let fallback = use_code(&mut made, fallback, 0)?;
+    let truth = Purpose::Truth {
+        target: &target,
+        fallback: &fallback,
+    };
+    let operands = parameters(alloc, test)?;
+    let place = Place {
+        operands: &operands,
+        depth: 0,
+    };
+    let entry = prepare(&mut made, test.root(), &place, 1, &truth)?;
+    made.finish(entry)
+}
+
+// The code of a point over other code.
+fn point_code(
+    alloc: Global,
+    point: u32,
+    target: Arc<Code>,
+    fallback: Arc<Code>,
+) -> Result<Arc<Code>, NoMemory>
+    ensures value { IfOk result (λ c. routine_of_code (arc_value c)
+        ≡ switch 1 point (routine_of_code (arc_value target))
+        (routine_of_code (arc_value fallback))) }
+{
+    let mut made = Made::new(alloc);
+    let target = use_code(&mut made, target, 0)?;
+    let fallback = use_code(&mut made, fallback, 0)?;
+    let entry = made.add(Piece::Point {
+        point,
+        target,
+        fallback,
+        steps: 1,
+    })?;
+    made.finish(entry)
+}

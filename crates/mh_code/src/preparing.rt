@@ -1,0 +1,372 @@
+//! Making the code of trees.
+
+ghost use Rattle.std.specs.Prelude.{◌≡◌, ◌+◌, ◌≤◌, ◌∷◌, ℕ, List, [], take, length, IfOk};
+ghost use Rattle.std.specs.Arc.{arc_value};
+ghost use Rattle.mh_code.specs.PieceOf.{routine_of};
+ghost use Rattle.mh_code.specs.PurposeOf.{purpose_of};
+ghost use Rattle.mh_code.specs.RoutineOf.{routine, used};
+ghost use Rattle.mh_tree.specs.Limits.{size, total_size, most_nodes};
+ghost use Rattle.mh_tree.specs.Tree.{Filters as FiltersData, filters_of};
+ghost use Rattle.mh_tree.specs.TreeOf.{tree_of, filter_trees};
+ghost use Rattle.mh_tree.specs.Code.{Code as CodeData, bind as bind_code, branch as branch_code, switch as switch_code};
+ghost use Rattle.mh_code.specs.Routine.{operand as operand_source, operation as operation_source, local};
+ghost use Rattle.mh_type.specs.Operations.{op_signature};
+ghost use Rattle.mh_tree.specs.Prepared.{operand_at, prepared, prepared_filters};
+ghost use Rattle.mh_tree.specs.declared.operand.Operand.{Operand as OperandData};
+ghost use Rattle.mh_tree.specs.declared.operand.Operand.TheVariants.{Constant, Local};
+
+use crate::code::Piece;
+use crate::made::Made;
+use crate::operands::{at, local_first, parts, put_in, reordered, taken_out, with_local};
+use crate::purpose::{Purpose, use_invocation, use_operand, use_operation};
+use mh_base::NoMemory;
+use mh_tree::{Node, Operand};
+use mh_type::{Op, Value};
+use std::sync::Arc;
+
+/// Where the parameters of a part stand, and how many locals there are.
+#[derive(Clone, Copy)]
+pub(crate) struct Place<'a> {
+    pub(crate) operands: &'a [Operand],
+    pub(crate) depth: u32,
+}
+
+/// The filters that are left, from a place of the operands on.
+#[derive(Clone, Copy)]
+struct Filters<'a> {
+    position: usize,
+    filters: &'a [Option<Arc<Node>>],
+}
+
+/// The target and the fallback of a branch.
+#[derive(Clone, Copy)]
+struct Branches<'a> {
+    target: &'a Arc<Node>,
+    fallback: &'a Arc<Node>,
+}
+
+// The code of a part of a tree, with so many steps before it, and of what its value is for.
+#[cycle(prepare)]
+pub(crate) fn prepare(
+    made: &mut Made,
+    node: &Node,
+    place: &Place<'_>,
+    before: u32,
+    purpose: &Purpose<'_>,
+) -> Result<Arc<Piece>, NoMemory>
+    requires few { before + size (tree_of node.now) ≤ most_nodes }
+    requires low { place.now.depth + size (tree_of node.now) ≤ most_nodes }
+    ensures value { IfOk result (λ p. routine_of (arc_value p) ≡ routine
+        (prepared (tree_of node.now) place.now.operands.now place.now.depth before)
+        place.now.depth 0 (purpose_of purpose.now)) }
+{
+    let alloc = made.alloc();
+    let steps = before + 1;
+    match node {
+        Node::Constant(value) => constant(made, value, steps, purpose),
+        Node::Identity(_) => use_operand(made, at(place.operands, 0)?, steps, purpose),
+        Node::Operation(op) => operation(made, *op, place.operands, steps, purpose),
+        Node::Insert {
+            target,
+            position,
+            values,
+        } => {
+            let operands = put_in(alloc, place.operands, *position, values)?;
+            prepare_moved(made, target, &operands, place.depth, steps, purpose)
+        }
+        Node::Drop {
+            target,
+            position,
+            kinds,
+        } => {
+            let operands = taken_out(alloc, place.operands, *position, kinds.len())?;
+            prepare_moved(made, target, &operands, place.depth, steps, purpose)
+        }
+        Node::Permute {
+            target,
+            reorder,
+            ..
+        } => {
+            let operands = reordered(alloc, place.operands, reorder)?;
+            prepare_moved(made, target, &operands, place.depth, steps, purpose)
+        }
+        Node::Filter {
+            target,
+            position,
+            filters,
+        } => {
+            let filters = Filters {
+                position: *position,
+                filters,
+            };
+            prepare_filters(made, target, &filters, place, steps, purpose)
+        }
+        Node::FilterReturn { target, filter } => {
+            prepare_return(made, target, filter, place, steps, purpose)
+        }
+        Node::Fold { target, combiner } => {
+            prepare_fold(made, target, combiner, place, steps, purpose)
+        }
+        Node::Guard {
+            test,
+            target,
+            fallback,
+        } => {
+            let branches = Branches { target, fallback };
+            prepare_guard(made, test, &branches, place, steps, purpose)
+        }
+        Node::Point {
+            point,
+            target,
+            fallback,
+        } => {
+            let branches = Branches { target, fallback };
+            prepare_point(made, *point, &branches, place, steps, purpose)
+        }
+        Node::Invoke { site, method_type } => {
+            let (read, _) = parts(place.operands, method_type.count());
+            use_invocation(made, *site, read, place.depth, steps, purpose)
+        }
+    }
+}
+
+// The code of a part below moved operands.
+#[cycle(prepare)]
+fn prepare_moved(
+    made: &mut Made,
+    target: &Node,
+    operands: &[Operand],
+    depth: u32,
+    steps: u32,
+    purpose: &Purpose<'_>,
+) -> Result<Arc<Piece>, NoMemory>
+    requires few { steps + size (tree_of target.now) ≤ most_nodes }
+    requires low { depth + size (tree_of target.now) ≤ most_nodes }
+    ensures value { IfOk result (λ p. routine_of (arc_value p) ≡ routine
+        (prepared (tree_of target.now) operands.now depth steps) depth 0
+        (purpose_of purpose.now)) }
+{
+    let place = Place { operands, depth };
+    prepare(made, target, &place, steps, purpose)
+}
+
+// A value, and what it is for.
+fn constant(
+    made: &mut Made,
+    value: &Value,
+    steps: u32,
+    purpose: &Purpose<'_>,
+) -> Result<Arc<Piece>, NoMemory>
+    ensures value { IfOk result (λ p. routine_of (arc_value p)
+        ≡ used steps (operand_source (Constant value.now)) (purpose_of purpose.now)) }
+{
+    let value = value.share().map_err(|_| NoMemory)?;
+    use_operand(made, Operand::Constant(value), steps, purpose)
+}
+
+// An operation on as many of the operands as it has parameters, and what its result is for.
+fn operation(
+    made: &mut Made,
+    op: Op,
+    operands: &[Operand],
+    steps: u32,
+    purpose: &Purpose<'_>,
+) -> Result<Arc<Piece>, NoMemory>
+    ensures value { IfOk result (λ p. routine_of (arc_value p)
+        ≡ used steps (operation_source op
+        (operand_at (take (length (op_signature op).parameters) operands.now) 0)
+        (operand_at (take (length (op_signature op).parameters) operands.now) 1))
+        (purpose_of purpose.now)) }
+{
+    let (read, _) = parts(operands, op.op_type().count());
+    use_operation(made, op, at(read, 0)?, at(read, 1)?, steps, purpose)
+}
+
+// The filters, and then the target.
+#[cycle(prepare)]
+fn prepare_filters(
+    made: &mut Made,
+    target: &Arc<Node>,
+    left: &Filters<'_>,
+    place: &Place<'_>,
+    steps: u32,
+    purpose: &Purpose<'_>,
+) -> Result<Arc<Piece>, NoMemory>
+    requires few { steps + (size (tree_of (arc_value target.now))
+        + total_size (filters_of (filter_trees left.now.filters.now))) ≤ most_nodes }
+    requires low { place.now.depth + (size (tree_of (arc_value target.now))
+        + total_size (filters_of (filter_trees left.now.filters.now))) ≤ most_nodes }
+    ensures value { IfOk result (λ p. routine_of (arc_value p) ≡ routine
+        (prepared_filters (filters_of (filter_trees left.now.filters.now)) left.now.position
+        place.now.operands.now place.now.depth steps (prepared (tree_of (arc_value target.now))))
+        place.now.depth 0 (purpose_of purpose.now)) }
+{
+    let Some((filter, filters)) = left.filters.split_first() else {
+        return prepare(made, target, place, steps, purpose);
+    };
+    let rest = Filters {
+        position: after(place.operands, left.position),
+        filters,
+    };
+    let Some(node) = filter else {
+        return prepare_filters(made, target, &rest, place, steps, purpose);
+    };
+    let passed = with_local(made.alloc(), place.operands, left.position, place.depth)?;
+    let below = Place {
+        operands: &passed,
+        depth: place.depth + 1,
+    };
+    let then = prepare_filters(made, target, &rest, &below, 0, purpose)?;
+    let argument = [at(place.operands, left.position)?];
+    prepare_local(made, node, &argument, place.depth, steps, &then)
+}
+
+// The code of a part whose value becomes the next local.
+#[cycle(prepare)]
+fn prepare_local(
+    made: &mut Made,
+    node: &Node,
+    operands: &[Operand],
+    depth: u32,
+    steps: u32,
+    then: &Arc<Piece>,
+) -> Result<Arc<Piece>, NoMemory>
+    requires few { steps + size (tree_of node.now) ≤ most_nodes }
+    requires low { depth + size (tree_of node.now) ≤ most_nodes }
+    ensures value { IfOk result (λ p. routine_of (arc_value p) ≡ routine
+        (prepared (tree_of node.now) operands.now depth 0) depth steps
+        (local depth (routine_of (arc_value then.now)))) }
+{
+    let place = Place { operands, depth };
+    let purpose = Purpose::Local { place: depth, then };
+    prepare(made, node, &place, steps, &purpose)
+}
+
+// The next place. Behind the last operand one place is as another: none has an operand there.
+fn after(operands: &[Operand], place: usize) -> usize
+    ensures value { (fs : FiltersData) → (d s : ℕ) → (go : List OperandData → ℕ → ℕ → CodeData)
+        → (env : List OperandData) → length env ≡ length operands.now
+        → prepared_filters fs result env d s go ≡ prepared_filters fs (place + 1) env d s go }
+{
+    if place < operands.len() {
+        return place + 1;
+    }
+    place
+}
+
+// The filter, on the target's result.
+#[cycle(prepare)]
+fn prepare_return(
+    made: &mut Made,
+    target: &Arc<Node>,
+    last: &Arc<Node>,
+    place: &Place<'_>,
+    steps: u32,
+    purpose: &Purpose<'_>,
+) -> Result<Arc<Piece>, NoMemory>
+    requires few { steps + (size (tree_of (arc_value target.now))
+        + size (tree_of (arc_value last.now))) ≤ most_nodes }
+    requires low { place.now.depth + (size (tree_of (arc_value target.now))
+        + size (tree_of (arc_value last.now))) ≤ most_nodes }
+    ensures value { IfOk result (λ p. routine_of (arc_value p) ≡ routine (bind_code steps
+        (prepared (tree_of (arc_value target.now)) place.now.operands.now place.now.depth 0)
+        (prepared (tree_of (arc_value last.now)) (Local place.now.depth ∷ [])
+        (place.now.depth + 1) 0)) place.now.depth 0 (purpose_of purpose.now)) }
+{
+    let below = Place {
+        operands: &[Operand::Local(place.depth)],
+        depth: place.depth + 1,
+    };
+    let then = prepare(made, last, &below, 0, purpose)?;
+    prepare_local(made, target, place.operands, place.depth, steps, &then)
+}
+
+// The target, on the combiner's result and the operands.
+#[cycle(prepare)]
+fn prepare_fold(
+    made: &mut Made,
+    target: &Arc<Node>,
+    combiner: &Arc<Node>,
+    place: &Place<'_>,
+    steps: u32,
+    purpose: &Purpose<'_>,
+) -> Result<Arc<Piece>, NoMemory>
+    requires few { steps + (size (tree_of (arc_value target.now))
+        + size (tree_of (arc_value combiner.now))) ≤ most_nodes }
+    requires low { place.now.depth + (size (tree_of (arc_value target.now))
+        + size (tree_of (arc_value combiner.now))) ≤ most_nodes }
+    ensures value { IfOk result (λ p. routine_of (arc_value p) ≡ routine (bind_code steps
+        (prepared (tree_of (arc_value combiner.now)) place.now.operands.now place.now.depth 0)
+        (prepared (tree_of (arc_value target.now)) (Local place.now.depth ∷ place.now.operands.now)
+        (place.now.depth + 1) 0)) place.now.depth 0 (purpose_of purpose.now)) }
+{
+    let inner = local_first(made.alloc(), place.depth, place.operands)?;
+    let below = Place {
+        operands: &inner,
+        depth: place.depth + 1,
+    };
+    let then = prepare(made, target, &below, 0, purpose)?;
+    prepare_local(made, combiner, place.operands, place.depth, steps, &then)
+}
+
+// The branches, and their test.
+#[cycle(prepare)]
+fn prepare_guard(
+    made: &mut Made,
+    test: &Arc<Node>,
+    branches: &Branches<'_>,
+    place: &Place<'_>,
+    steps: u32,
+    purpose: &Purpose<'_>,
+) -> Result<Arc<Piece>, NoMemory>
+    requires few { steps + (size (tree_of (arc_value test.now))
+        + (size (tree_of (arc_value branches.now.target.now))
+        + size (tree_of (arc_value branches.now.fallback.now)))) ≤ most_nodes }
+    requires low { place.now.depth + (size (tree_of (arc_value test.now))
+        + (size (tree_of (arc_value branches.now.target.now))
+        + size (tree_of (arc_value branches.now.fallback.now)))) ≤ most_nodes }
+    ensures value { IfOk result (λ p. routine_of (arc_value p) ≡ routine (branch_code steps
+        (prepared (tree_of (arc_value test.now)) place.now.operands.now place.now.depth 0)
+        (prepared (tree_of (arc_value branches.now.target.now)) place.now.operands.now
+        place.now.depth 0)
+        (prepared (tree_of (arc_value branches.now.fallback.now)) place.now.operands.now
+        place.now.depth 0)) place.now.depth 0 (purpose_of purpose.now)) }
+{
+    let target = prepare(made, branches.target, place, 0, purpose)?;
+    let fallback = prepare(made, branches.fallback, place, 0, purpose)?;
+    let truth = Purpose::Truth {
+        target: &target,
+        fallback: &fallback,
+    };
+    prepare(made, test, place, steps, &truth)
+}
+
+// The branches of a point.
+#[cycle(prepare)]
+fn prepare_point(
+    made: &mut Made,
+    point: u32,
+    branches: &Branches<'_>,
+    place: &Place<'_>,
+    steps: u32,
+    purpose: &Purpose<'_>,
+) -> Result<Arc<Piece>, NoMemory>
+    requires few { size (tree_of (arc_value branches.now.target.now))
+        + size (tree_of (arc_value branches.now.fallback.now)) ≤ most_nodes }
+    requires low { place.now.depth + (size (tree_of (arc_value branches.now.target.now))
+        + size (tree_of (arc_value branches.now.fallback.now))) ≤ most_nodes }
+    ensures value { IfOk result (λ p. routine_of (arc_value p) ≡ routine (switch_code steps point
+        (prepared (tree_of (arc_value branches.now.target.now)) place.now.operands.now
+        place.now.depth 0)
+        (prepared (tree_of (arc_value branches.now.fallback.now)) place.now.operands.now
+        place.now.depth 0)) place.now.depth 0 (purpose_of purpose.now)) }
+{
+    let target = prepare(made, branches.target, place, 0, purpose)?;
+    let fallback = prepare(made, branches.fallback, place, 0, purpose)?;
+    made.add(Piece::Point {
+        point,
+        target,
+        fallback,
+        steps,
+    })
+}

@@ -1,0 +1,187 @@
+//! What the value of a part is for.
+
+ghost use Rattle.std.specs.Prelude.{◌≡◌, IfOk};
+ghost use Rattle.std.specs.Arc.{arc_value};
+ghost use Rattle.mh_code.specs.PieceOf.{routine_of, routine_of_code};
+ghost use Rattle.mh_code.specs.PurposeOf.{purpose_of};
+ghost use Rattle.mh_code.specs.Routine.{operand as operand_source, operation, invocation, give, pick};
+ghost use Rattle.mh_code.specs.RoutineOf.{used, invoked, after_steps};
+
+use crate::code::{Code, KeyTest, Piece};
+use crate::made::Made;
+use crate::operands::{copied, leading};
+use mh_base::NoMemory;
+use mh_tree::Operand;
+use mh_type::Op;
+use std::sync::Arc;
+
+/// What the value of a part is for: it is the answer, a local that a piece reads, or the truth that
+/// chooses one of two pieces.
+#[derive(Clone, Copy)]
+pub(crate) enum Purpose<'a> {
+    Answer,
+    Local {
+        place: u32,
+        then: &'a Arc<Piece>,
+    },
+    Truth {
+        target: &'a Arc<Piece>,
+        fallback: &'a Arc<Piece>,
+    },
+}
+
+// Another owner of a piece.
+fn owner(piece: &Arc<Piece>) -> Result<Arc<Piece>, NoMemory>
+    ensures value { IfOk result (λ a. arc_value a ≡ arc_value piece.now) }
+{
+    Arc::try_clone(piece).map_err(|_| NoMemory)
+}
+
+// An operand's value, and what it is for.
+pub(crate) fn use_operand(
+    made: &mut Made,
+    operand: Operand,
+    steps: u32,
+    purpose: &Purpose<'_>,
+) -> Result<Arc<Piece>, NoMemory>
+    ensures value { IfOk result (λ p. routine_of (arc_value p)
+        ≡ used steps (operand_source operand) (purpose_of purpose.now)) }
+{
+    let piece = match purpose {
+        Purpose::Answer => Piece::Leaf { operand, steps },
+        Purpose::Local { place, then } => Piece::Put {
+            operand,
+            local: *place,
+            then: owner(then)?,
+            steps,
+        },
+        Purpose::Truth { target, fallback } => Piece::Truth {
+            operand,
+            target: owner(target)?,
+            fallback: owner(fallback)?,
+            steps,
+        },
+    };
+    made.add(piece)
+}
+
+// The result of an operation on two operands, and what it is for.
+pub(crate) fn use_operation(
+    made: &mut Made,
+    op: Op,
+    first: Operand,
+    second: Operand,
+    steps: u32,
+    purpose: &Purpose<'_>,
+) -> Result<Arc<Piece>, NoMemory>
+    ensures value { IfOk result (λ p. routine_of (arc_value p)
+        ≡ used steps (operation op first second) (purpose_of purpose.now)) }
+{
+    let piece = match purpose {
+        Purpose::Answer => Piece::Apply {
+            op,
+            first,
+            second,
+            steps,
+        },
+        Purpose::Local { place, then } => Piece::Let {
+            op,
+            first,
+            second,
+            local: *place,
+            then: owner(then)?,
+            steps,
+        },
+        Purpose::Truth { target, fallback } => {
+            test(op, first, second, owner(target)?, owner(fallback)?, steps)
+        }
+    };
+    made.add(piece)
+}
+
+// One of two pieces, by the truth that an operation gives.
+fn test(
+    op: Op,
+    first: Operand,
+    second: Operand,
+    target: Arc<Piece>,
+    fallback: Arc<Piece>,
+    steps: u32,
+) -> Piece
+    ensures value { routine_of result ≡ pick steps (operation op first second)
+        (routine_of (arc_value target)) (routine_of (arc_value fallback)) }
+{
+    match KeyTest::of(op, &first, &second) {
+        Some(test) => Piece::Case {
+            test,
+            target,
+            fallback,
+            steps,
+        },
+        None => Piece::Test {
+            op,
+            first,
+            second,
+            target,
+            fallback,
+            steps,
+        },
+    }
+}
+
+// What a site gives on operands, below so many locals, and what it is for. A truth is kept before it
+// chooses.
+pub(crate) fn use_invocation(
+    made: &mut Made,
+    site: u32,
+    operands: &[Operand],
+    depth: u32,
+    steps: u32,
+    purpose: &Purpose<'_>,
+) -> Result<Arc<Piece>, NoMemory>
+    ensures value { IfOk result (λ p. routine_of (arc_value p)
+        ≡ invoked depth steps site operands.now (purpose_of purpose.now)) }
+{
+    let (local, then) = match purpose {
+        Purpose::Answer => return answer_invocation(made, site, operands, steps),
+        Purpose::Local { place, then } => (*place, owner(then)?),
+        Purpose::Truth { .. } => (depth, use_operand(made, Operand::Local(depth), 0, purpose)?),
+    };
+    let operands = copied(made.alloc(), operands)?;
+    made.add(Piece::Call {
+        site,
+        operands,
+        local,
+        then,
+        steps,
+    })
+}
+
+// What a site gives on operands, as the answer.
+fn answer_invocation(
+    made: &mut Made,
+    site: u32,
+    operands: &[Operand],
+    steps: u32,
+) -> Result<Arc<Piece>, NoMemory>
+    ensures value { IfOk result (λ p. routine_of (arc_value p)
+        ≡ give steps (invocation site operands.now)) }
+{
+    if let Some(count) = leading(operands) {
+        return made.add(Piece::Forward { site, count, steps });
+    }
+    let operands = copied(made.alloc(), operands)?;
+    made.add(Piece::Invoke {
+        site,
+        operands,
+        steps,
+    })
+}
+
+// Other code, in which so many steps fewer are counted, as the answer.
+pub(crate) fn use_code(made: &mut Made, code: Arc<Code>, steps: u32) -> Result<Arc<Piece>, NoMemory>
+    ensures value { IfOk result (λ p. routine_of (arc_value p)
+        ≡ after_steps steps (routine_of_code (arc_value code))) }
+{
+    made.add(Piece::Go { code, steps })
+}
