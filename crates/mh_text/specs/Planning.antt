@@ -37,7 +37,7 @@ lines_for options p plan phases =
 -- the lines of a plan that matches a problem, with its least best links
 abbrev pub IsPlanOf : PlanOptions → ProblemData → List ℕ → Type 0
 IsPlanOf options p text =
-    (plan : Plan) × (phases : List ℕ) × Matches p plan × IsLeast p (member plan.links) × ArePhases p phases × (text ≡ lines_for options p plan phases)
+    (plan : Plan) × (phases : List ℕ) × Matches p plan × IsLeast p (member plan.links) × ArePhases p plan.flow phases × (text ≡ lines_for options p plan phases)
 
 -- the same of the problem of an input
 abbrev pub IsPlanned : PlanOptions → List ℕ → List ℕ → Type 0
