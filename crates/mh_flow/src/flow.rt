@@ -12,9 +12,10 @@ use mh_base::NoMemory;
 use mh_network::{Problem, cuts_are_least, needs_are_of_links};
 use std::alloc::Global;
 
-/// A greatest flow of a problem, and the links that its source still reaches, which are the least
-/// best links (Picard 1976). The rows are positive amounts by link and then point, the charges
-/// positive amounts by link. At most two phases more than there are links and points.
+/// A greatest flow of a problem, and the links that its source still reaches, ascending, which are
+/// the least best links (Picard 1976). The rows are positive amounts by link and then point, the
+/// charges positive amounts by link. One phase where no need carries anything, else more, and at
+/// most two more than there are links and points.
 ///
 /// Fails only if an allocation is refused.
 pub fn max_flow(alloc: Global, problem: &Problem) -> Result<FlowRun, NoMemory>

@@ -181,7 +181,8 @@ impl<'p> LayerRun<'p> {
         self.sink < UNREACHED
     }
 
-    /// Pushes along a path the least of what its edges leave.
+    /// Pushes along a path the least of what its edges leave, which changes the rows of the path and
+    /// no other.
     pub fn push_path(&mut self, path: &Path)
         requires path { IsPath self.old.rows self.old.gain_left (number_at self.old.links)
             (number_at self.old.points) path.now.point path.now.turns.items path.now.first }
