@@ -1,22 +1,27 @@
 -- What contracts see of a book, and what books and machines keep.
-use Rattle.std.specs.Prelude.{◌≡◌, ℕ, ◌+◌, ◌<◌, ◌≤◌, Bool, false, List, [], ◌∷◌, length}
+use Rattle.std.specs.Prelude.{◌≡◌, ℕ, ◌+◌, ◌<◌, ◌≤◌, ◌&&◌, Bool, false, nat_lt, List, [], ◌∷◌, length, reverse, vec_len, refl}
+use Rattle.std.specs.Coded.{Coded, code_by, coded×, coded_bool, coded_list}
+use Rattle.std.specs.Vec.{vec_capacity}
+use Rattle.mh_ledger.specs.Codes.{coded_totals}
 use Rattle.mh_ledger.specs.Ledgers.{TotalsState, at, opened_totals}
-use Rattle.mh_site.specs.Defined.{DefinitionData}
+use Rattle.mh_site.specs.Defined.{DefinitionData, coded_definition}
 use Rattle.mh_site.specs.Lawful.{IsDefinition}
 use Rattle.mh_site.specs.Links.{links}
-use Rattle.mh_site.specs.Worlds.{WorldState, opened}
+use Rattle.mh_site.specs.Worlds.{WorldState, coded_world, opened}
+use Rattle.mh_core.specs.contracts.record.Record as entry
+use Rattle.mh_core.specs.declared.book.Book.TheInside.{Inside}
 use Rattle.mh_core.specs.declared.record.Record.{Record}
 use Rattle.mh_core.specs.declared.record.Record.TheVariants.{Flushed, Targeted, Invalidated, Snapped, Published, Installed}
 use Rattle.mh_core.specs.declared.refusal.Refusal.{Refusal}
 use Rattle.mh_core.specs.declared.reply.Reply.{Reply}
 use Rattle.mh_core.specs.declared.reply.Reply.TheVariants as reply
-use Rattle.mh_core.specs.Limits.{LimitsData, IsLimits}
+use Rattle.mh_core.specs.Limits.{LimitsData, IsLimits, coded_limits}
 use Rattle.mh_core.specs.Installations.{PublishedPlan, report}
-use Rattle.mh_core.specs.PlanTables.{plans_of}
+use Rattle.mh_core.specs.PlanTables.{coded_published, plans_of}
 use Rattle.mh_core.specs.Records.{plans, snapshots, total}
 use Rattle.mh_core.specs.Replayed.{world}
 use Rattle.mh_core.specs.Rows.{tests}
-use Rattle.mh_core.specs.Snapshots.{SnapshotState, snapshots_of}
+use Rattle.mh_core.specs.Snapshots.{SnapshotState, coded_snapshot, snapshots_of}
 use Rattle.mh_base.specs.Tests.{Passes, Refuses}
 
 -- its records, newest first, with what was made of them: the world, the totals, the snapshots and the plans, newest first;
@@ -30,6 +35,26 @@ pub record BookState : Type 0 where
   pub snapshots : List SnapshotState
   pub plans : List PublishedPlan
   pub room : Bool
+
+abbrev pub coded_book : Coded BookState
+coded_book =
+    code_by ((DefinitionData × LimitsData) × ((List Record × WorldState) × ((TotalsState × Bool) × (List SnapshotState × List PublishedPlan))))
+    (coded× (coded× coded_definition coded_limits) (coded× (coded× (coded_list entry.the_row.coded) coded_world) (coded× (coded× coded_totals coded_bool) (coded× (coded_list coded_snapshot) (coded_list coded_published)))))
+    (λ b. ((b.definition, b.limits), ((b.records, b.world), ((b.totals, b.room), (b.snapshots, b.plans)))))
+    (λ p. record { definition = p.0.0; limits = p.0.1; records = p.1.0.0; world = p.1.0.1; totals = p.1.1.0.0; snapshots = p.1.1.1.0; plans = p.1.1.1.1; room = p.1.1.0.1 }) (λ _. refl)
+
+abbrev pub book_state : Inside → BookState
+book_state b =
+    record {
+      definition = b.definition;
+      limits = b.limits;
+      records = reverse b.records.items;
+      world = b.world;
+      totals = b.totals;
+      snapshots = reverse b.snapshots.items;
+      plans = reverse b.plans.items;
+      room = nat_lt (vec_len b.records) (vec_capacity b.records) && (nat_lt (vec_len b.snapshots) (vec_capacity b.snapshots) && nat_lt (vec_len b.plans) (vec_capacity b.plans));
+    }
 
 -- a book without records
 abbrev pub opened_book : DefinitionData → ℕ → LimitsData → BookState

@@ -1,6 +1,8 @@
 -- Histories: the accepted events, newest first.
 use Rattle.std.specs.Prelude.{List, [], ◌∷◌}
+use Rattle.std.specs.Coded.{Coded, coded_list}
 use Rattle.mh_site.specs.Defined.{DefinitionData}
+use Rattle.mh_core.specs.contracts.event.Event as event
 use Rattle.mh_core.specs.declared.event.Event.{Event}
 use Rattle.mh_core.specs.declared.event.Event.TheVariants.{Call, Flush, Target, Invalidate, Snapshot, Publish, Install}
 use Rattle.mh_core.specs.declared.record.Record.{Record}
@@ -26,3 +28,6 @@ event_of (Invalidated points) = Invalidate points
 event_of Snapped = Snapshot
 event_of (Published n plan) = Publish n plan
 event_of (Installed m) = Install m
+
+abbrev pub coded_events : Coded (List Event)
+coded_events = coded_list event.the_row.coded

@@ -18,13 +18,8 @@ pub mod Books
 pub mod Pending
 pub mod Standing
 pub mod State
-pub mod Codes
-pub mod BookViews
 pub mod Runtimes
 pub mod Machines
-pub mod MachineViews
-pub mod RuntimeCodes
-pub mod RuntimeViews
 pub mod ArgumentViews
 pub mod Pasts
 pub use Rattle.mh_base.specs.Tests

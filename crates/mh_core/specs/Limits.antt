@@ -1,5 +1,6 @@
 -- The limits of a book or a machine.
-use Rattle.std.specs.Prelude.{ℕ, ◌≤◌, ◌^◌}
+use Rattle.std.specs.Prelude.{ℕ, ◌≤◌, ◌^◌, refl}
+use Rattle.std.specs.Coded.{Coded, code_by, coded×, coded_ℕ}
 
 -- the most events of a history
 abbrev pub most_events : ℕ
@@ -17,6 +18,9 @@ pub record LimitsData : Type 0 where
   pub history : ℕ
   pub ledger : ℕ
   pub total : ℕ
+
+abbrev pub coded_limits : Coded LimitsData
+coded_limits = code_by (ℕ × (ℕ × ℕ)) (coded× coded_ℕ (coded× coded_ℕ coded_ℕ)) (λ l. (l.history, (l.ledger, l.total))) (λ p. record { history = p.0; ledger = p.1.0; total = p.1.1 }) (λ _. refl)
 
 pub record IsLimits (l : LimitsData) : Type 0 where
   pub history : l.history ≤ most_events

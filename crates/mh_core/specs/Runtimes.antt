@@ -1,9 +1,11 @@
 -- What contracts see of a runtime, and what its calls answer, count and are refused.
-use Rattle.std.specs.Prelude.{◌≡◌, ◌⊎◌, ℕ, ◌<◌, true, false, List, length, map, slice_set}
+use Rattle.std.specs.Prelude.{◌≡◌, ◌⊎◌, ℕ, ◌<◌, true, false, List, length, map, slice_set, refl}
+use Rattle.std.specs.Coded.{Coded, code_by, coded×, coded_list}
 use Rattle.std.specs.List.{range_with_len}
 use Rattle.mh_base.specs.Tests.{Tests, test, only}
 use Rattle.mh_type.specs.declared.value.Value.{Value}
 use Rattle.mh_eval.specs.Entered.{EntersPlain}
+use Rattle.mh_ledger.specs.Codes.{coded_ledger}
 use Rattle.mh_ledger.specs.Ledgers.{AreHeld, LedgerState, at, ledger_at, opened_ledger, with_hit}
 use Rattle.mh_site.specs.Defined.{DefinitionData}
 use Rattle.mh_site.specs.Links.{links}
@@ -11,7 +13,7 @@ use Rattle.mh_core.specs.declared.record.Record.{Record}
 use Rattle.mh_core.specs.declared.record.Record.TheVariants.{Flushed}
 use Rattle.mh_core.specs.declared.refusal.Refusal.{Refusal}
 use Rattle.mh_core.specs.declared.refusal.Refusal.TheVariants.{NoWorker, LedgerFull}
-use Rattle.mh_core.specs.Books.{BookState, MayRefuse, opened_book}
+use Rattle.mh_core.specs.Books.{BookState, MayRefuse, coded_book, opened_book}
 use Rattle.mh_core.specs.Hits.{hits}
 use Rattle.mh_core.specs.Installations.{linked, linked_sites}
 use Rattle.mh_core.specs.Legal.{callee_tests}
@@ -23,6 +25,9 @@ use Rattle.mh_core.specs.Refusals.{memory_last}
 pub record RuntimeState : Type 0 where
   pub book : BookState
   pub ledgers : List LedgerState
+
+abbrev pub coded_runtime : Coded RuntimeState
+coded_runtime = code_by (BookState × List LedgerState) (coded× coded_book (coded_list coded_ledger)) (λ r. (r.book, r.ledgers)) (λ p. record { book = p.0; ledgers = p.1 }) (λ _. refl)
 
 -- before its first call
 abbrev pub opened_runtime : DefinitionData → ℕ → LimitsData → RuntimeState

@@ -46,14 +46,11 @@ pub struct Book {
 }
 
 impl Model for Book {
-    ghost use Rattle.mh_core.specs.Books.{BookState, IsBook};
-    ghost use Rattle.mh_core.specs.Codes.{coded_book};
+    ghost use Rattle.mh_core.specs.Books.{BookState, IsBook, book_state, coded_book};
 
     ghost Value = { BookState };
 
     ghost coded = { coded_book };
-
-    ghost use Rattle.mh_core.specs.BookViews.{book_state};
 
     ghost view = { book_state };
 

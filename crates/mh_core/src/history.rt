@@ -44,7 +44,7 @@ pub(crate) struct History {
 impl Model for History {
     ghost use Rattle.std.specs.Prelude.{◌≡◌, List, length};
     ghost use Rattle.mh_core.specs.declared.event.Event.{Event};
-    ghost use Rattle.mh_core.specs.Codes.{coded_events};
+    ghost use Rattle.mh_core.specs.Histories.{coded_events};
     ghost use Rattle.mh_core.specs.Pasts.{history_events};
 
     ghost Value = { List Event };

@@ -41,15 +41,13 @@ pub struct Machine {
 
 impl Model for Machine {
     ghost use Rattle.mh_core.specs.Legal.{MachineState};
-    ghost use Rattle.mh_core.specs.Codes.{coded_machine};
-    ghost use Rattle.mh_core.specs.Machines.{IsMachine};
-    ghost use Rattle.mh_core.specs.MachineViews.{machine_state};
+    ghost use Rattle.mh_core.specs.Machines.{IsMachine, coded_machine, machine_of};
 
     ghost Value = { MachineState };
 
     ghost coded = { coded_machine };
 
-    ghost view = { machine_state };
+    ghost view = { λ m. machine_of m.runtime m.history };
 
     ghost invariant = { λ m. IsMachine m.runtime m.history };
 }

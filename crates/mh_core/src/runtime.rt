@@ -48,16 +48,13 @@ pub struct Runtime {
 
 impl Model for Runtime {
     ghost use Rattle.std.specs.Prelude.{◌≡◌, length};
-    ghost use Rattle.mh_core.specs.Runtimes.{IsRuntime, RuntimeState};
-    ghost use Rattle.mh_core.specs.RuntimeCodes.{coded_runtime};
+    ghost use Rattle.mh_core.specs.Runtimes.{IsRuntime, RuntimeState, coded_runtime};
 
     ghost Value = { RuntimeState };
 
     ghost coded = { coded_runtime };
 
-    ghost use Rattle.mh_core.specs.RuntimeViews.{runtime_state};
-
-    ghost view = { runtime_state };
+    ghost view = { λ r. record { book = r.book; ledgers = r.ledgers.items } };
 
     ghost invariant = { λ r. IsRuntime r.book r.ledgers.items × (length r.ledgers.items ≡ r.workers) };
 }

@@ -7,7 +7,6 @@ pub mod Openings
 pub mod Offices
 pub mod Receipts
 pub mod Settled
-pub mod Codes
 pub mod Faults
 pub mod Limits
 pub use Rattle.mh_core.specs.Books

@@ -1,15 +1,18 @@
 -- What contracts see of an office and of its receipts.
-use Rattle.std.specs.Prelude.{ℕ, ◌≡◌, ◌<◌, Bool, false, true, List, [], fold, length, reverse}
+use Rattle.std.specs.Prelude.{ℕ, ◌≡◌, ◌<◌, Bool, false, true, List, [], fold, length, reverse, refl}
+use Rattle.std.specs.Coded.{Coded, code_by, coded×, coded_bool}
 use mathlib.Core.List.{IsPrefix}
 use Rattle.logbook.specs.Pages.{Book}
 use Rattle.mh_ledger.specs.Ledgers.{IsTotals, TotalsState}
 use Rattle.mh_site.specs.Defined.{DefinitionData}
 use Rattle.mh_site.specs.declared.control.Control.{Control}
-use Rattle.mh_core.specs.Books.{AreTotals, BookState, Legal}
+use Rattle.mh_core.specs.Books.{AreTotals, BookState, Legal, coded_book}
 use Rattle.mh_core.specs.Limits.{LimitsData}
 use Rattle.mh_core.specs.Replayed.{controls}
+use Rattle.mh_core.specs.contracts.reply.Reply as reply
 use Rattle.mh_core.specs.declared.record.Record.{Record}
 use Rattle.mh_core.specs.declared.reply.Reply.{Reply}
+use Rattle.mh_live.specs.Pasts.{coded_controls}
 use Rattle.mh_live.specs.Rules.{Stands}
 use Rattle.mh_live.specs.Steps.{stepped}
 use Rattle.mh_live.specs.declared.published.Published.{Published}
@@ -20,6 +23,11 @@ pub record OfficeState : Type 0 where
   pub book : BookState
   pub published : List Control
   pub closed : Bool
+
+abbrev pub coded_office : Coded OfficeState
+coded_office =
+    code_by (BookState × (List Control × Bool)) (coded× coded_book (coded× coded_controls coded_bool)) (λ o. (o.book, (o.published, o.closed)))
+    (λ p. record { book = p.0; published = p.1.0; closed = p.1.1 }) (λ _. refl)
 
 -- the totals of some records that are legal within these limits, with a share of each of so many workers
 pub record AreTotalsOf (d : DefinitionData) (l : LimitsData) (workers : ℕ) (t : TotalsState) : Type 0 where
@@ -52,3 +60,7 @@ CanShow name d shown pending = (next : Published) → next ≡ fold stepped show
 pub record ReceiptState : Type 0 where
   pub reply : Reply
   pub front : List Control
+
+abbrev pub coded_receipt : Coded ReceiptState
+coded_receipt =
+    code_by (Reply × List Control) (coded× reply.the_row.coded coded_controls) (λ r. (r.reply, r.front)) (λ p. record { reply = p.0; front = p.1 }) (λ _. refl)

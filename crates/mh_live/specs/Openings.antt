@@ -1,14 +1,15 @@
 -- What contracts see of an opening.
-use Rattle.std.specs.Prelude.{ℕ, ◌≡◌, ◌<◌, ◌≤◌, List, length, map}
+use Rattle.std.specs.Prelude.{ℕ, ◌≡◌, ◌<◌, ◌≤◌, List, length, map, refl}
+use Rattle.std.specs.Coded.{Coded, code_by, coded×, coded_ℕ}
 use Rattle.std.specs.List.{range_with_len}
-use Rattle.logbook.specs.Pages.{Book}
+use Rattle.logbook.specs.Pages.{Book, book_coded}
 use Rattle.mh_ledger.specs.Ledgers.{LedgerState, AreHeld, opened_ledger}
-use Rattle.mh_site.specs.Defined.{DefinitionData}
+use Rattle.mh_site.specs.Defined.{DefinitionData, coded_definition}
 use Rattle.mh_site.specs.Lawful.{IsDefinition}
 use Rattle.mh_site.specs.Links.{links}
 use Rattle.mh_site.specs.Worlds.{WorldState, opened}
 use Rattle.mh_core.specs.Books.{BookState, opened_book}
-use Rattle.mh_core.specs.Limits.{LimitsData}
+use Rattle.mh_core.specs.Limits.{LimitsData, coded_limits}
 use Rattle.mh_live.specs.Limits.{most_workers}
 
 -- which list of controls it begins, what is declared, how many workers, and the limits
@@ -17,6 +18,11 @@ pub record OpeningState : Type 0 where
   pub definition : DefinitionData
   pub workers : ℕ
   pub limits : LimitsData
+
+abbrev pub coded_opening : Coded OpeningState
+coded_opening =
+    code_by ((Book × DefinitionData) × (ℕ × LimitsData)) (coded× (coded× book_coded coded_definition) (coded× coded_ℕ coded_limits))
+    (λ o. ((o.name, o.definition), (o.workers, o.limits))) (λ p. record { name = p.0.0; definition = p.0.1; workers = p.1.0; limits = p.1.1 }) (λ _. refl)
 
 -- its parts: a book without records, ledgers without hits, two worlds before any control, and the definition
 pub record IsOpening (o : OpeningState) (b : BookState) (ledgers : List LedgerState) (first second : WorldState) (d : DefinitionData) : Type 0 where

@@ -1,17 +1,19 @@
 -- What stands once all passes are back.
-use Rattle.std.specs.Prelude.{ℕ, ◌≡◌, ◌⊎◌, ◌+◌, ◌==◌, ◌<◌, ◌≤◌, List, length, reverse}
+use Rattle.std.specs.Prelude.{ℕ, ◌≡◌, ◌⊎◌, ◌+◌, ◌==◌, ◌<◌, ◌≤◌, List, length, reverse, refl}
+use Rattle.std.specs.Coded.{Coded, code_by, coded×, coded_ℕ, coded_list}
 use Rattle.std.specs.List.{All, count_by, sum_by}
 use mathlib.Core.List.{IsPrefix}
 use Rattle.mh_ledger.specs.Ledgers.{TotalsState, Holds, at, made}
 use Rattle.mh_site.specs.Defined.{DefinitionData}
 use Rattle.mh_site.specs.Links.{links}
 use Rattle.mh_site.specs.declared.control.Control.{Control}
-use Rattle.mh_core.specs.Books.{BookState, IsBook}
+use Rattle.mh_core.specs.Books.{BookState, IsBook, coded_book}
 use Rattle.mh_core.specs.Limits.{LimitsData}
 use Rattle.mh_core.specs.Replayed.{controls}
 use Rattle.mh_live.specs.Limits.{most_hits_of_all}
 use Rattle.mh_live.specs.Offices.{AreTotalsOf, list_of}
 use Rattle.mh_live.specs.Passes.{PassState}
+use Rattle.mh_live.specs.Pasts.{coded_controls}
 use Rattle.mh_live.specs.declared.settle_fault.SettleFault.{SettleFault}
 use Rattle.mh_live.specs.declared.settle_fault.SettleFault.TheVariants.{MissingPass, NoMemory}
 
@@ -37,6 +39,11 @@ pub record SettledState : Type 0 where
   pub book : BookState
   pub unflushed : List ℕ
   pub front : List Control
+
+abbrev pub coded_settled : Coded SettledState
+coded_settled =
+    code_by (BookState × (List ℕ × List Control)) (coded× coded_book (coded× (coded_list coded_ℕ) coded_controls)) (λ s. (s.book, (s.unflushed, s.front)))
+    (λ p. record { book = p.0; unflushed = p.1.0; front = p.1.1 }) (λ _. refl)
 
 -- as many links as are declared, with sums that can be added, and the list of the book's records
 pub record IsSettled (d : DefinitionData) (l : LimitsData) (workers : ℕ) (s : SettledState) : Type 0 where

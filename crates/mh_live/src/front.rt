@@ -151,7 +151,7 @@ pub struct Front<N: Name> {
 impl<N: Name> Model for Front<N> {
     ghost use Rattle.std.specs.Prelude.{◌≡◌, List, [], length};
     ghost use Rattle.mh_site.specs.declared.control.Control.{Control};
-    ghost use Rattle.mh_live.specs.Codes.{coded_controls};
+    ghost use Rattle.mh_live.specs.Pasts.{coded_controls};
 
     ghost Value = { List Control };
 

@@ -36,8 +36,7 @@ pub struct Office<N: Name> {
 
 impl<N: Name> Model for Office<N> {
     ghost use Rattle.std.specs.Prelude.{drop};
-    ghost use Rattle.mh_live.specs.Codes.{coded_office};
-    ghost use Rattle.mh_live.specs.Offices.{OfficeState, InStep};
+    ghost use Rattle.mh_live.specs.Offices.{OfficeState, InStep, coded_office};
 
     ghost Value = { OfficeState };
 

@@ -45,8 +45,7 @@ pub struct Opening {
 
 impl Model for Opening {
     ghost use Rattle.std.specs.Prelude.{◌≡◌, ◌<◌, ◌≤◌};
-    ghost use Rattle.mh_live.specs.Codes.{coded_opening};
-    ghost use Rattle.mh_live.specs.Openings.{OpeningState, IsOpening};
+    ghost use Rattle.mh_live.specs.Openings.{OpeningState, IsOpening, coded_opening};
 
     ghost Value = { OpeningState };
 

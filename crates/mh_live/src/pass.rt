@@ -43,9 +43,8 @@ pub struct Pass<N: Name> {
 impl<N: Name> Model for Pass<N> {
     ghost use Rattle.std.specs.Prelude.{◌≡◌, length};
     ghost use Rattle.mh_site.specs.Links.{links};
-    ghost use Rattle.mh_live.specs.Codes.{coded_pass};
     ghost use Rattle.left_right.specs.Sides.{view as view_of};
-    ghost use Rattle.mh_live.specs.Passes.{PassState};
+    ghost use Rattle.mh_live.specs.Passes.{PassState, coded_pass};
 
     ghost Value = { PassState };
 

@@ -15,8 +15,7 @@ pub struct Receipt<N: Name> {
 }
 
 impl<N: Name> Model for Receipt<N> {
-    ghost use Rattle.mh_live.specs.Offices.{ReceiptState};
-    ghost use Rattle.mh_live.specs.Codes.{coded_receipt};
+    ghost use Rattle.mh_live.specs.Offices.{ReceiptState, coded_receipt};
 
     ghost Value = { ReceiptState };
 

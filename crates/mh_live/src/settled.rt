@@ -27,8 +27,7 @@ pub struct Settled<N: Name> {
 }
 
 impl<N: Name> Model for Settled<N> {
-    ghost use Rattle.mh_live.specs.Codes.{coded_settled};
-    ghost use Rattle.mh_live.specs.Settled.{SettledState, IsSettled};
+    ghost use Rattle.mh_live.specs.Settled.{SettledState, IsSettled, coded_settled};
 
     ghost Value = { SettledState };
 

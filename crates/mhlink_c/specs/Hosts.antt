@@ -1,8 +1,7 @@
 -- What contracts see of a machine of C.
 use Rattle.std.specs.Prelude.{ℕ, List, Option, refl}
 use Rattle.std.specs.Coded.{Coded, code_by, coded×, coded_ℕ, coded_list, coded_option}
-use Rattle.mh_core.specs.RuntimeCodes.{coded_runtime}
-use Rattle.mh_core.specs.Runtimes.{RuntimeState}
+use Rattle.mh_core.specs.Runtimes.{RuntimeState, coded_runtime}
 use Rattle.mh_text.specs.contracts.json.scope.Scope as scope
 use Rattle.mh_text.specs.declared.json.scope.Scope.{Scope}
 

@@ -1,8 +1,7 @@
 use Rattle.std.proofs.Common.{◌≡◌, ◌∷◌, List, ap, refl, sym, subst, ◌∙◌}
 use Rattle.std.specs.Prelude.{reverse}
 use Rattle.mh_core.specs.declared.pending.Effect.TheVariants as effect
-use Rattle.mh_core.specs.Books.{BookState, IsBook}
-use Rattle.mh_core.specs.BookViews.{book_state}
+use Rattle.mh_core.specs.Books.{BookState, IsBook, book_state}
 use Rattle.mh_core.specs.Pending.{HasEffect, IsReady, PendingState}
 use Rattle.mh_core.specs.Snapshots.{SnapshotState}
 use Rattle.mh_core.proofs.Changing.{made_by_snapshot}

@@ -1,8 +1,7 @@
 use Rattle.std.proofs.Common.{◌≡◌, ◌∙◌, ◌==◌, ℕ, List, ap, length, refl, slice_index_or, subst, arith}
 use Rattle.std.proofs.lemmas.List.FromFn.{length-map-range_with_len}
 use Rattle.mh_site.specs.Worlds.{SiteState, state_at}
-use Rattle.mh_core.specs.BookViews.{book_state}
-use Rattle.mh_core.specs.Books.{BookState, IsBook}
+use Rattle.mh_core.specs.Books.{BookState, IsBook, book_state}
 use Rattle.mh_core.specs.Installations.{PublishedPlan, plan_at}
 use Rattle.mh_core.specs.Records.{past, version}
 use Rattle.mh_core.proofs.InstalledLinks.{ReadsPlan, plan_taken, sites_now, state_now, versions_read}

@@ -1,7 +1,6 @@
 use Rattle.std.proofs.Common.{◌∙◌, ap, refl, subst, sym, arith}
 use Rattle.mh_cert.specs.declared.plan.Plan.{Plan}
-use Rattle.mh_core.specs.BookViews.{book_state}
-use Rattle.mh_core.specs.Books.{IsBook}
+use Rattle.mh_core.specs.Books.{IsBook, book_state}
 use Rattle.mh_core.specs.Installations.{PublishedPlan}
 use Rattle.mh_core.specs.Laws.PlanTables.{AreKnown, plan_known, plan_read, plans_now}
 use Rattle.mh_core.proofs.book.Book.links_of_plan.Goals as goal

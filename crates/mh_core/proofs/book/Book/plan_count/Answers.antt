@@ -1,5 +1,5 @@
 use Rattle.std.proofs.Common.{refl, arith}
-use Rattle.mh_core.specs.BookViews.{book_state}
+use Rattle.mh_core.specs.Books.{book_state}
 use Rattle.mh_core.specs.Laws.PlanTables.{plans_now}
 use Rattle.mh_core.proofs.book.Book.plan_count.Goals as goal
 

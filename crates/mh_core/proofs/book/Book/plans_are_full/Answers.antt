@@ -1,6 +1,6 @@
 use Rattle.std.proofs.Common.{◌≤◌, inl, inr, refl, arith}
 use Rattle.std.proofs.lemmas.Bool.Decides.{nat_tests}
-use Rattle.mh_core.specs.BookViews.{book_state}
+use Rattle.mh_core.specs.Books.{book_state}
 use Rattle.mh_core.specs.Limits.{most_plans}
 use Rattle.mh_core.specs.Laws.PlanTables.{plans_now}
 use Rattle.mh_core.proofs.book.Book.plans_are_full.Goals as goal

@@ -1,5 +1,5 @@
 use Rattle.std.proofs.Common.{inl, refl, arith}
-use Rattle.mh_core.specs.BookViews.{book_state}
+use Rattle.mh_core.specs.Books.{book_state}
 use Rattle.mh_core.proofs.Standing.{snapshots_now}
 use Rattle.mh_core.proofs.book.Book.problem.Goals.{then-snapshot-eq0-via-then-snapshot-eq0, then-snapshot-eq0-via-else-snapshot-eq0+then-snapshot-len}
 use Rattle.mh_core.proofs.book.Book.problem.Goals as goal

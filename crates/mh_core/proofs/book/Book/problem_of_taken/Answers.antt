@@ -1,6 +1,6 @@
 use Rattle.std.proofs.Common.{◌≡◌, IfOk, refl, subst, arith}
 use Rattle.mh_network.specs.Problems.{ProblemData}
-use Rattle.mh_core.specs.BookViews.{book_state}
+use Rattle.mh_core.specs.Books.{book_state}
 use Rattle.mh_core.proofs.Standing.{read_makes, read_problem, snapshots_now}
 use Rattle.mh_core.proofs.book.Book.problem_of_taken.Goals as goal
 

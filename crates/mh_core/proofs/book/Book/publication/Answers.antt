@@ -1,6 +1,6 @@
 use Rattle.std.proofs.Common.{◌≡◌, ◌+◌, ap, refl, ◌∙◌, arith}
+use Rattle.mh_core.specs.Books.{book_state}
 use Rattle.mh_core.specs.declared.reply.Reply.TheVariants as reply
-use Rattle.mh_core.specs.BookViews.{book_state}
 use Rattle.mh_core.specs.Records.{plans}
 use Rattle.mh_core.specs.Laws.PlanTables.{plans_now}
 use Rattle.mh_core.proofs.book.Book.publication.Goals as goal

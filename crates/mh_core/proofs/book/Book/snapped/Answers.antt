@@ -2,8 +2,7 @@ use Rattle.std.proofs.Common.{◌≡◌, ℕ, length, map, refl, ap, ◌∙◌, 
 use Rattle.mh_site.specs.Worlds.{WorldState, state_at}
 use Rattle.mh_core.specs.declared.pending.Effect.TheVariants as effect
 use Rattle.mh_core.specs.declared.reply.Reply.TheVariants as reply
-use Rattle.mh_core.specs.Books.{BookState, IsBook}
-use Rattle.mh_core.specs.BookViews.{book_state}
+use Rattle.mh_core.specs.Books.{BookState, IsBook, book_state}
 use Rattle.mh_core.specs.Records.{numbers}
 use Rattle.mh_core.specs.Snapshots.{SnapshotState, snapshot_of}
 use Rattle.mh_core.proofs.Standing.{snapshot_now, snapshots_now}

@@ -1,5 +1,5 @@
 use Rattle.std.proofs.Common.{◌≡◌, ◌+◌, length, ap, refl, ◌∙◌, arith}
-use Rattle.mh_core.specs.BookViews.{book_state}
+use Rattle.mh_core.specs.Books.{book_state}
 use Rattle.mh_core.specs.Records.{snapshots}
 use Rattle.mh_core.specs.Laws.PastSnapshots.{snapshots_count}
 use Rattle.mh_core.proofs.Standing.{snapshots_now}

@@ -1,5 +1,5 @@
 use Rattle.std.proofs.Common.{refl, arith}
-use Rattle.mh_core.specs.BookViews.{book_state}
+use Rattle.mh_core.specs.Books.{book_state}
 use Rattle.mh_core.proofs.Standing.{snapshots_now}
 use Rattle.mh_core.proofs.book.Book.snapshot_count.Goals as goal
 

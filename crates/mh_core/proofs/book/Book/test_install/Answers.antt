@@ -1,6 +1,6 @@
 use Rattle.std.proofs.Common.{◌≡◌, inl, inr, ap, refl, arith}
+use Rattle.mh_core.specs.Books.{book_state}
 use Rattle.mh_core.specs.declared.refusal.Refusal.TheVariants.{OldPlan}
-use Rattle.mh_core.specs.BookViews.{book_state}
 use Rattle.mh_core.specs.Records.{plans}
 use Rattle.mh_core.proofs.Deciding.{below}
 use Rattle.mh_core.specs.Laws.PlanTables.{plans_now}

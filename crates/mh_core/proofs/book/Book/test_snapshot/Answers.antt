@@ -1,5 +1,5 @@
 use Rattle.std.proofs.Common.{inl, inr, refl, arith}
-use Rattle.mh_core.specs.BookViews.{book_state}
+use Rattle.mh_core.specs.Books.{book_state}
 use Rattle.mh_core.proofs.Deciding.{below, fails}
 use Rattle.mh_core.proofs.Standing.{gains_read, snapshots_now}
 use Rattle.mh_core.proofs.book.Book.test_snapshot.Goals.{then-is_full-via-then-is_full, then-is_full-via-else-is_full+then-len-ge-MOST_SNAPSHOTS}
