@@ -1,5 +1,5 @@
 -- What an installation reads of a book, and what its loops gather.
-use Rattle.std.proofs.Common.{◌≡◌, inl, inr, ℕ, zero, suc, ◌+◌, ◌-◌, ◌<◌, ◌≤◌, ◌==◌, Bool, true, false, not, ◌&&◌, cond, nat_lt, List, [], ◌∷◌, ◌++◌, length, map, filter, take, slice_index_or, Result, Ok, Err, refl, sym, subst, ap, ◌∙◌, arith}
+use Rattle.std.proofs.Common.{◌≡◌, inl, inr, ℕ, zero, suc, ◌+◌, ◌-◌, ◌<◌, ◌≤◌, ◌==◌, Bool, true, false, not, ◌&&◌, cond, nat_lt, List, [], ◌∷◌, ◌++◌, length, map, filter, slice_index_or, Result, Ok, Err, refl, sym, subst, ap, ◌∙◌, arith}
 use Rattle.std.specs.Prelude.{reverse}
 use Rattle.std.specs.List.{range_with_len}
 use Rattle.std.specs.List.Sorted.{IsBinarySearchResult, IsStrictlyIncreasing}
@@ -9,7 +9,7 @@ use Rattle.std.proofs.lemmas.Bool.{cases_Bool, cases_lt, eq-eqb, ne_eqb, false�
 use Rattle.std.proofs.lemmas.Bool.Decides.{Decides-ltb}
 use Rattle.std.proofs.lemmas.Grind.{get_or_default_zero}
 use Rattle.std.proofs.lemmas.List.{append-nil, map-append, map-id}
-use Rattle.std.proofs.lemmas.List.Elements.{filter-append, filter_more}
+use Rattle.std.proofs.lemmas.List.Elements.{filter-append}
 use Rattle.std.proofs.lemmas.List.Folds.{list_any_none}
 use Rattle.std.proofs.lemmas.List.FromFn.{map-range_with_len_more}
 use Rattle.std.proofs.lemmas.List.Kept.{AllPairs-from_increasing}
@@ -158,10 +158,3 @@ gather_both f p q n next xs ys more before first pushed skipped = elim (cases_Bo
   | inl second ↦ let both : (p n && q n) ≡ true = cc in gather_pass f (λ s. p s && q s) 0 n n next xs ys (f n) (omega arith) more before both refl (pushed second)
   | inr second ↦ let one : (p n && q n) ≡ q n = ap (λ (b : Bool). b && q n) first in rw (skipped second) (gather_skip f (λ s. p s && q s) 0 n n next xs (omega arith) more before (one ∙ second))
 ]
-
--- one element more, by whether it passes
-pub more_passes : (P : ℕ → Bool) (now links : List ℕ) (i : ℕ) (b : Bool) → now ≡ links → i < length links → P (slice_index_or now i 0) ≡ b
-    → filter P (take i links) ++ cond b (slice_index_or now i 0 ∷ []) [] ≡ filter P (take (i + 1) links)
-more_passes P now links i b read inside passes =
-    ap (λ (l : List ℕ). filter P (take i links) ++ cond b (slice_index_or l i 0 ∷ []) []) read
-    ∙ (ap (λ (t : Bool). filter P (take i links) ++ cond t (slice_index_or links i 0 ∷ []) []) (sym passes ∙ ap (λ (l : List ℕ). P (slice_index_or l i 0)) read) ∙ sym (filter_more P links i 0 inside))

@@ -11,6 +11,7 @@ mod HitLinks
 mod InstalledLinks
 mod Ledgered
 mod Machines
+mod PlanLinks
 mod PlanTests
 mod Runs
 mod Runtimes

@@ -3,6 +3,7 @@ pub mod Caches
 pub mod Changes
 pub mod InvokedTrees
 pub mod LawfulLinks
+pub mod Members
 pub mod Numbered
 pub mod PastSnapshots
 pub mod PlanTables

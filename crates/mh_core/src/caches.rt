@@ -1,13 +1,13 @@
 //! The links of a plan that an installation can use, and the inline caches that they make.
 
-ghost use Rattle.std.specs.Prelude.{◌≡◌, ◌<◌, ◌≤◌, ◌&&◌, ◌||◌, not, nat_lt, filter, length, map, IfOk};
+ghost use Rattle.std.specs.Prelude.{◌≡◌, ◌<◌, ◌≤◌, ◌++◌, ◌||◌, not, nat_lt, filter, length, map, IfOk, OnOk};
 ghost use Rattle.std.specs.List.{All};
 ghost use Rattle.std.specs.List.Sorted.{IsStrictlyIncreasing};
 ghost use Rattle.mh_network.specs.Selection.{member};
 ghost use Rattle.mh_site.specs.Limits.{most_links};
-ghost use Rattle.mh_site.specs.Links.{links as links_of, site_of as site_of_link};
+ghost use Rattle.mh_site.specs.Links.{links as links_of};
 ghost use Rattle.mh_core.specs.Books.{IsBook};
-ghost use Rattle.mh_core.specs.Installations.{IsPublished, cached, chosen as chosen_of, entry as entry_of, is_current as is_current_at, kept, left_out as left_out_of, plan_at, usable as usable_of};
+ghost use Rattle.mh_core.specs.Installations.{IsPublished, cached, chosen as chosen_of, entry as entry_of, is_current as is_current_at, kept, plan_at, usable as usable_of};
 ghost use Rattle.mh_core.specs.Problems.{is_eligible as is_eligible_after};
 ghost use Rattle.mh_core.specs.Records.{base};
 
@@ -15,35 +15,10 @@ use crate::book::Book;
 use crate::problem::{all_valid, link_of};
 use mh_base::NoMemory;
 use mh_pic::{Entry, prepared_chain};
-use mh_site::{KeptLinks, Listing};
+use mh_site::KeptLinks;
 use mh_tree::{Handle, Prepared};
 
 impl Book {
-    // The plan's links that an installation does not link, since a need is invalid.
-    pub(crate) fn left_out(&self, plan: usize) -> Result<Listing<u32>, NoMemory>
-        requires published { IsPublished self.now.records plan }
-        ensures value { IfOk result (λ links. links
-            ≡ left_out_of self.now.definition self.now.records plan) }
-    {
-        let mut left_out = Vec::new(self.alloc);
-        for link in self.links_of_plan(plan) {
-            if self.is_left_out(plan, *link as usize) {
-                left_out.push(*link)?;
-            }
-        }
-        Ok(Listing::from_vec(left_out))
-    }
-
-    fn is_left_out(&self, plan: usize, link: usize) -> bool
-        requires published { IsPublished self.now.records plan }
-        requires inside { link < length (links_of self.now.definition) }
-        ensures value { result ≡ (is_current_at self.now.records plan
-            (site_of_link self.now.definition link) && not
-            (is_eligible_after self.now.definition self.now.records link)) }
-    {
-        self.is_current(plan, self.definition.site_of(link)) && !self.is_eligible(link)
-    }
-
     // The inline cache of the usable links of a site over its base tree.
     pub(crate) fn make_cache(
         &self,
@@ -103,20 +78,31 @@ impl Book {
         chosen
     }
 
-    // Those of some links of a site whose needs are all valid.
-    pub(crate) fn usable(&self, chosen: &[usize]) -> KeptLinks
+    // Those of some links whose needs are all valid. The others are added to those that are left
+    // out.
+    pub(crate) fn usable(
+        &self,
+        chosen: &[usize],
+        left_out: &mut Vec<u32>,
+    ) -> Result<KeptLinks, NoMemory>
         requires few { length chosen.now ≤ most_links }
         requires inside { All (λ j. j < length (links_of self.now.definition)) chosen.now }
-        ensures value { result.items
-            ≡ filter (is_eligible_after self.now.definition self.now.records) chosen.now }
+        ensures value { IfOk result (λ links. links.items
+            ≡ filter (is_eligible_after self.now.definition self.now.records) chosen.now) }
+        ensures left_out { OnOk result (left_out.new.items ≡ left_out.old.items
+            ++ filter (λ j. not (is_eligible_after self.now.definition self.now.records j))
+            chosen.now) }
     {
+        self.kept();
         let mut usable = KeptLinks::new();
         for link in chosen {
             if self.is_eligible(*link) {
                 usable.push(*link);
+            } else {
+                left_out.push(*link as u32)?;
             }
         }
-        usable
+        Ok(usable)
     }
 
     // Whether an installation concerns a site of which a plan has these links: there are some, or
