@@ -152,10 +152,9 @@ impl Machine {
             (Call worker site arguments) → IfErr result (λ told. told ≡ Refusal.NoMemory → ⊥) }
     {
         let values = arguments.as_slice();
-        let link = self.runtime.test_callee(worker, site, values)?;
-        if self.is_full() {
-            return Err(Refusal::HistoryFull);
-        }
+        let link = self
+            .runtime
+            .test_callee(self.is_full(), worker, site, values)?;
         let (outcome, steps) = self.runtime.answer(worker, site, link, values)?;
         self.history.add_call(worker, site, arguments);
         Ok((outcome, steps))

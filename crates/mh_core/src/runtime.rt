@@ -1,6 +1,6 @@
 //! Runtimes: a book with the ledgers of its workers, for one thread, whose calls are in no history.
 
-ghost use Rattle.std.specs.Prelude.{◌≡◌, ◌<◌, ◌+◌, length, slice_set, IfErr, IfOk, IfSome, IfNone, OnErr, OnOk};
+ghost use Rattle.std.specs.Prelude.{◌≡◌, ◌⊎◌, ◌<◌, ◌+◌, false, true, length, slice_set, IfErr, IfOk, IfSome, IfNone, OnErr, OnOk};
 ghost use Rattle.mh_base.specs.Tests.{Passes, Refuses, no_more, nothing};
 ghost use Rattle.mh_cert.specs.Plans.{Matches};
 ghost use Rattle.mh_ledger.specs.Ledgers.{ledger_at, settled};
@@ -136,15 +136,16 @@ impl Runtime {
         ensures memory { TakesNoMemory self.old.book site arguments.now
             → IfErr result (λ told. told ≡ Refusal.NoMemory → ⊥) }
     {
-        let link = self.test_callee(worker, site, arguments)?;
+        let link = self.test_callee(false, worker, site, arguments)?;
         self.answer(worker, site, link, arguments)
     }
 
     // The tests of a call that no hits decide, of which the first that fails is reported, and the
-    // link that it hits.
+    // link that it hits. The last is whether the history is full.
     #[inline(always)]
     pub(crate) fn test_callee(
         &self,
+        is_full: bool,
         worker: u32,
         site: usize,
         arguments: &[Value],
@@ -152,13 +153,20 @@ impl Runtime {
         ensures worker { OnOk result (worker < length self.now.ledgers) }
         ensures callable { OnOk result (IsCallable self.now.book.definition site arguments.now) }
         ensures link { IfOk result (IsHitLink self.now.book.definition site arguments.now) }
+        ensures open { OnOk result (is_full ≡ false) }
         ensures refuses { IfErr result (λ told. Refuses (callee_tests self.now.book.definition
-            (length self.now.ledgers) worker site arguments.now (no_more nothing)) told) }
+            (length self.now.ledgers) worker site arguments.now (no_more nothing)) told
+            ⊎ ((told ≡ Refusal.HistoryFull) × (is_full ≡ true)
+            × (worker < length self.now.ledgers)
+            × IsCallable self.now.book.definition site arguments.now)) }
     {
         if worker >= self.workers {
             return Err(Refusal::NoWorker);
         }
         let link = test_callee(self.book.definition(), site, arguments)?;
+        if is_full {
+            return Err(Refusal::HistoryFull);
+        }
         Ok(link)
     }
 

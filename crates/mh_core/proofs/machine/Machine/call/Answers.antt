@@ -13,7 +13,7 @@ use Rattle.mh_core.specs.Runtimes.{CountsHit, RuntimeState, room_tests}
 use Rattle.mh_core.specs.Runtimes as runtime
 use Rattle.mh_core.proofs.Deciding.{below}
 use Rattle.mh_core.proofs.Machines.{machine_calls, passes_call, refuses_call, room_left, view_calls}
-use Rattle.mh_core.proofs.machine.Machine.call.Goals.{in-One-3, in-Two-3, in-Many-3, in-None-3}
+use Rattle.mh_core.proofs.machine.Machine.call.Goals.{in-One-2, in-Two-2, in-Many-2, in-None-2}
 use Rattle.mh_core.proofs.machine.Machine.call.Goals as goal
 
 pub returns-in_err-outcome-clause-refused : goal.returns-in_err-outcome-clause-refused
@@ -23,7 +23,7 @@ returns-in_err-outcome-clause-refused c =
     let w = c.args.worker in
     let same = c.as_slice-values.ensures.value in
     let few : length m.history < m.runtime.book.limits.history =
-    omega (arith, below c.is_full.result _ _ c.is_full.ensures.decides c.if-is_full.false, ap (λ (y : MachineState). length y.history) c.self.view_is, ap (λ (y : MachineState). y.setting.limits.history) c.self.view_is) in
+    omega (arith, below c.is_full.result _ _ c.is_full.ensures.decides c.in_ok-link.ensures.open, ap (λ (y : MachineState). length y.history) c.self.view_is, ap (λ (y : MachineState). y.setting.limits.history) c.self.view_is) in
     let may = subst (IsCallable m.runtime.book.definition s) same c.in_ok-link.ensures.callable in
     let hit = subst (λ (a : List Value). IsHitLink m.runtime.book.definition s a c.in_ok-link.link) same c.in_ok-link.ensures.link in
     let p = err_from_is_err_and c.from_residual-in_err-outcome.result c.from_residual-in_err-outcome.ensures.1 in
@@ -32,24 +32,24 @@ returns-in_err-outcome-clause-refused c =
     let refuses = subst (λ (y : MachineState). Refuses (tests y.setting y.history (Call w s c.args.arguments)) told) c.self.view_is
     (refuses_call m.runtime m.history c.self.invariant w s c.args.arguments c.in_ok-link.link c.in_ok-link.ensures.worker may hit few told tests_told) in
     let kept = ap (λ (r : RuntimeState). machine_of r m.history) c.in_err-outcome.ensures.kept ∙ c.self.view_is in
-    elim c.match-arguments-3.branch [
-      | in-One-3 v ↦ rw (p.1, p.2) record { refuses = refuses; same = kept }
-      | in-Two-3 v ↦ rw (p.1, p.2) record { refuses = refuses; same = kept }
-      | in-Many-3 v ↦ rw (p.1, p.2) record { refuses = refuses; same = kept }
-      | in-None-3 v ↦ rw (p.1, p.2) record { refuses = refuses; same = kept }
+    elim c.match-arguments-2.branch [
+      | in-One-2 v ↦ rw (p.1, p.2) record { refuses = refuses; same = kept }
+      | in-Two-2 v ↦ rw (p.1, p.2) record { refuses = refuses; same = kept }
+      | in-Many-2 v ↦ rw (p.1, p.2) record { refuses = refuses; same = kept }
+      | in-None-2 v ↦ rw (p.1, p.2) record { refuses = refuses; same = kept }
     ]
 
 pub add_call-requires : goal.add_call-requires
 add_call-requires c =
     let few : length c.self.inside.history < c.self.inside.runtime.book.limits.history =
-    omega (arith, below c.is_full.result _ _ c.is_full.ensures.decides c.if-is_full.false, ap (λ (y : MachineState). length y.history) c.self.view_is, ap (λ (y : MachineState). y.setting.limits.history) c.self.view_is) in
+    omega (arith, below c.is_full.result _ _ c.is_full.ensures.decides c.in_ok-link.ensures.open, ap (λ (y : MachineState). length y.history) c.self.view_is, ap (λ (y : MachineState). y.setting.limits.history) c.self.view_is) in
     record { room = room_left c.self.inside.runtime c.self.inside.history c.self.invariant few }
 
 pub invariant_of-self-2 : goal.invariant_of-self-2
 invariant_of-self-2 c =
     let m = c.self.inside in
     let few : length c.self.inside.history < c.self.inside.runtime.book.limits.history =
-    omega (arith, below c.is_full.result _ _ c.is_full.ensures.decides c.if-is_full.false, ap (λ (y : MachineState). length y.history) c.self.view_is, ap (λ (y : MachineState). y.setting.limits.history) c.self.view_is) in
+    omega (arith, below c.is_full.result _ _ c.is_full.ensures.decides c.in_ok-link.ensures.open, ap (λ (y : MachineState). length y.history) c.self.view_is, ap (λ (y : MachineState). y.setting.limits.history) c.self.view_is) in
     let s = c.args.site in
     let w = c.args.worker in
     let same = c.as_slice-values.ensures.value in
@@ -63,7 +63,7 @@ pub returns-clause-accepted : goal.returns-clause-accepted
 returns-clause-accepted c =
     let m = c.self.inside in
     let few : length c.self.inside.history < c.self.inside.runtime.book.limits.history =
-    omega (arith, below c.is_full.result _ _ c.is_full.ensures.decides c.if-is_full.false, ap (λ (y : MachineState). length y.history) c.self.view_is, ap (λ (y : MachineState). y.setting.limits.history) c.self.view_is) in
+    omega (arith, below c.is_full.result _ _ c.is_full.ensures.decides c.in_ok-link.ensures.open, ap (λ (y : MachineState). length y.history) c.self.view_is, ap (λ (y : MachineState). y.setting.limits.history) c.self.view_is) in
     let s = c.args.site in
     let w = c.args.worker in
     let a = c.args.arguments in
