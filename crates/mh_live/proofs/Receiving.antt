@@ -1,5 +1,6 @@
 -- What threads know of an office's answers: they stand over some legal records.
-use Rattle.std.proofs.Common.{◌≡◌, ◌⊎◌, ℕ, List, [], ◌∷◌, ◌++◌, refl, ap, subst, ◌∙◌, arith}
+use Rattle.std.proofs.Common.{◌≡◌, ◌⊎◌, ℕ, List, [], ◌∷◌, ◌++◌, Result, IfErr, IfOk, refl, ap, subst, ◌∙◌, arith}
+use Rattle.std.proofs.lemmas.Result.{MatchResult-weaker}
 use Rattle.std.specs.Prelude.{reverse}
 use Rattle.mh_ledger.specs.Ledgers.{IsTotals, LedgerState}
 use Rattle.mh_tree.specs.Handle.{TypedTree}
@@ -21,7 +22,7 @@ use Rattle.mh_core.specs.declared.refusal.Refusal.{Refusal}
 use Rattle.mh_core.specs.declared.refusal.Refusal.TheVariants.{NoMemory, NoSnapshot}
 use Rattle.mh_core.specs.Laws.{oldest_push}
 use Rattle.mh_live.specs.Offices.{AreTotalsOf, OfficeState, ReceiptState}
-use Rattle.mh_live.specs.Receipts.{Accepts, IsFlushRefusal, IsLegalFault, IsLegalRefusal, IsNoProblem, IsOffice, IsProblem, IsReceipt, IsRefusal}
+use Rattle.mh_live.specs.Receipts.{Accepts, Changes, IsFlushRefusal, IsLegalFault, IsLegalRefusal, IsNoProblem, IsOffice, IsProblem, IsReceipt, IsRefusal}
 use Rattle.mh_live.specs.declared.flush_fault.FlushFault.{FlushFault}
 use Rattle.mh_live.specs.declared.flush_fault.FlushFault.TheVariants.{NotHeld, Refused}
 
@@ -45,6 +46,13 @@ pub refusal_of : (d : DefinitionData) (l : LimitsData) (n : ℕ) (o : OfficeStat
 refusal_of d l n o e told office refuses =
     within office (λ x l. IsRefusal x l e told)
     record { before = o.book.records; legal = office.lawful.legal; refuses = refuses }
+
+-- of a change of the world
+pub receipt_of_change : (d : DefinitionData) (l : LimitsData) (n : ℕ) (o new : OfficeState) (e : Record) (result : Result ReceiptState Refusal) → Changes d l n o e result new → IfOk result (IsReceipt d l e)
+receipt_of_change d l n o new e result is = MatchResult-weaker result is.accepted (λ r accepts. receipt_of d l n o new e r is.office accepts) (λ _ always. always)
+
+pub refusal_of_change : (d : DefinitionData) (l : LimitsData) (n : ℕ) (o new : OfficeState) (e : Record) (result : Result ReceiptState Refusal) → Changes d l n o e result new → IfErr result (IsRefusal d l e)
+refusal_of_change d l n o new e result is = MatchResult-weaker result is.refused (λ _ always. always) (λ told legal. refusal_of d l n o e told is.office legal)
 
 -- its totals are those of its records
 abbrev pub totals_of : (d : DefinitionData) (l : LimitsData) (n : ℕ) (o : OfficeState) → IsOffice d l n o → IsTotals o.book.totals → AreTotalsOf d l n o.book.totals

@@ -1,5 +1,5 @@
 -- What an office answers, over its records.
-use Rattle.std.specs.Prelude.{◌≡◌, ◌⊎◌, ℕ, ◌+◌, ◌<◌, true, List, ◌∷◌, length, reverse}
+use Rattle.std.specs.Prelude.{◌≡◌, ◌⊎◌, ℕ, ◌+◌, ◌<◌, true, false, List, ◌∷◌, length, reverse, Result, IfErr, IfOk, OnErr, OnOk}
 use Rattle.mh_ledger.specs.Ledgers.{LedgerState, TotalsState, Holds}
 use Rattle.mh_network.specs.Problems.{ProblemData}
 use Rattle.mh_site.specs.Defined.{DefinitionData}
@@ -68,6 +68,17 @@ pub record HasHalted (o : OfficeState) (e : Record) (told : Refusal) (new : Offi
 -- nothing is changed; or a publication has halted, by which alone an office may close
 abbrev pub MayClose : OfficeState → Record → Refusal → OfficeState → Type 0
 MayClose o e told new = (new ≡ o) ⊎ HasHalted o e told new
+
+-- What the change that a record tells answers, and what it leaves, of an office of this definition: it is accepted while the office is
+-- open, or refused, and the totals stay as they are
+pub record Changes (d : DefinitionData) (l : LimitsData) (workers : ℕ) (o : OfficeState) (e : Record) (result : Result ReceiptState Refusal) (new : OfficeState) : Type 0 where
+  pub office : IsOffice d l workers o
+  pub accepted : IfOk result (λ r. Accepts o e r new)
+  pub was_open : OnOk result (o.closed ≡ false)
+  pub totals : new.book.totals ≡ o.book.totals
+  pub refused : IfErr result (IsLegalRefusal o.book e)
+  pub kept : OnErr result (IsUntouched o new)
+  pub closed : IfErr result (λ told. MayClose o e told new)
 
 -- a receipt of this record, behind some records that are legal within these limits: its reply, and the list of controls up to it
 pub record IsReceipt (d : DefinitionData) (l : LimitsData) (e : Record) (r : ReceiptState) : Type 0 where

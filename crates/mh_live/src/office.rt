@@ -6,7 +6,7 @@ ghost use Rattle.mh_core.specs.Pending.{IsReady};
 ghost use Rattle.mh_core.specs.Records.{hits_in};
 ghost use Rattle.mh_core.specs.declared.record.Record.TheVariants.{Flushed, Installed, Invalidated, Published, Snapped, Targeted};
 ghost use Rattle.mh_live.specs.Offices.{list_of};
-ghost use Rattle.mh_live.specs.Receipts.{Accepts, ChangesWorld, IsLegalFault, IsLegalRefusal, IsOffice, IsUntouched, MayClose};
+ghost use Rattle.mh_live.specs.Receipts.{Accepts, Changes, ChangesWorld, IsLegalFault, IsLegalRefusal, IsOffice, IsUntouched, MayClose};
 ghost use Rattle.mh_live.specs.Rules.{Stands};
 
 use crate::flush_fault::FlushFault;
@@ -197,14 +197,8 @@ impl<N: Name> Office<N> {
         site: usize,
         tree: Declared,
     ) -> Result<Receipt<N>, Refusal>
-        ensures office { IsOffice N.definition N.limits N.workers self.old }
-        ensures accepted { IfOk result (λ r. Accepts self.old (Targeted site tree) r self.new) }
-        ensures open { OnOk result (self.old.closed ≡ false) }
-        ensures totals { self.new.book.totals ≡ self.old.book.totals }
-        ensures refused { IfErr result (IsLegalRefusal self.old.book (Targeted site tree)) }
-        ensures kept { OnErr result (IsUntouched self.old self.new) }
-        ensures closed { IfErr result (λ told. MayClose self.old (Targeted site tree) told
-            self.new) }
+        ensures changes { Changes N.definition N.limits N.workers self.old (Targeted site tree)
+            result self.new }
     {
         self.change(rt, Record::Targeted { site, tree })
     }
@@ -218,14 +212,8 @@ impl<N: Name> Office<N> {
         rt: &R,
         points: Listing<u32>,
     ) -> Result<Receipt<N>, Refusal>
-        ensures office { IsOffice N.definition N.limits N.workers self.old }
-        ensures accepted { IfOk result (λ r. Accepts self.old (Invalidated points) r self.new) }
-        ensures open { OnOk result (self.old.closed ≡ false) }
-        ensures totals { self.new.book.totals ≡ self.old.book.totals }
-        ensures refused { IfErr result (IsLegalRefusal self.old.book (Invalidated points)) }
-        ensures kept { OnErr result (IsUntouched self.old self.new) }
-        ensures closed { IfErr result (λ told. MayClose self.old (Invalidated points) told
-            self.new) }
+        ensures changes { Changes N.definition N.limits N.workers self.old (Invalidated points)
+            result self.new }
     {
         self.change(rt, Record::Invalidated { points })
     }
@@ -235,14 +223,8 @@ impl<N: Name> Office<N> {
     /// Refused as by the book, and with `NoMemory` where no test fails and the office is closed, or
     /// what passes read cannot be changed. Records and what passes read stay as they are.
     pub fn install<R: Wait>(&mut self, rt: &R, plan: usize) -> Result<Receipt<N>, Refusal>
-        ensures office { IsOffice N.definition N.limits N.workers self.old }
-        ensures accepted { IfOk result (λ r. Accepts self.old (Installed plan) r self.new) }
-        ensures open { OnOk result (self.old.closed ≡ false) }
-        ensures totals { self.new.book.totals ≡ self.old.book.totals }
-        ensures refused { IfErr result (IsLegalRefusal self.old.book (Installed plan)) }
-        ensures kept { OnErr result (IsUntouched self.old self.new) }
-        ensures closed { IfErr result (λ told. MayClose self.old (Installed plan) told
-            self.new) }
+        ensures changes { Changes N.definition N.limits N.workers self.old (Installed plan)
+            result self.new }
     {
         self.change(rt, Record::Installed { plan })
     }
