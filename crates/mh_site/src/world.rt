@@ -1,6 +1,6 @@
 //! Worlds: the tables that calls read.
 
-ghost use Rattle.std.specs.Prelude.{◌≡◌, ◌<◌, ◌+◌, ◌^◌, length, map, fold, slice_set, slice_index_or, IfOk, OnOk, OnErr, List, ◌++◌, ◌∷◌, []};
+ghost use Rattle.std.specs.Prelude.{◌≡◌, ◌<◌, ◌+◌, ◌^◌, ℕ, length, map, fold, slice_set, slice_index_or, IfOk, OnOk, OnErr, List, ◌++◌, ◌∷◌, []};
 ghost use Rattle.std.specs.List.{All};
 ghost use Rattle.mh_tree.specs.Typing.{IsTyped};
 ghost use Rattle.mh_site.specs.Worlds.{WorldState, AreTyped, linkeds, opened, opening, after, replay, state_at, no_state, retargeted, relink_site, clear_point};
@@ -170,12 +170,14 @@ impl World {
     /// changes than there are sites: `open` has reserved room for one change of each.
     ///
     /// Fails only if a reference count or that allocation is refused, or if 2^64 - 1 controls were
-    /// absorbed, and then nothing changes.
+    /// absorbed, and then nothing changes. An invalidation fails for the last reason alone.
     pub fn try_absorb(&mut self, control: &Control) -> Result<(), NoMemory>
         ensures step { OnOk result (self.new ≡ after self.old control.now) }
         ensures replays { OnOk result ((w : WorldState) → (controls : List Control)
             → self.old ≡ replay w controls → self.new ≡ replay w (controls ++ control.now ∷ [])) }
         ensures refused { OnErr result (self.new ≡ self.old) }
+        ensures last { OnErr result ((points : List ℕ) → control.now ≡ Control.Invalidate points
+            → self.old.front + 1 ≡ 2 ^ 64) }
     {
         if self.front == u64::MAX {
             return Err(NoMemory);
