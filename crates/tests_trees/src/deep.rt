@@ -8,7 +8,7 @@ use std::alloc::Global;
 use std::test::Fail;
 
 /// Negations one behind another, in 262,143 nodes, of which every other is one.
-fn largest(alloc: Global) -> Result<Handle, Fail> {
+pub(crate) fn largest(alloc: Global) -> Result<Handle, Fail> {
     let mut tree = op(alloc, Op::Ineg)?;
     for _ in 0..17 {
         tree = Handle::filter_return(alloc, &tree, &tree)?;

@@ -12,13 +12,13 @@ pub(crate) fn op(alloc: Global, op: Op) -> Result<Handle, Fail> {
 }
 
 /// An operation behind the argument 1.
-fn with_one(alloc: Global, op: Op) -> Result<Handle, Fail> {
+pub(crate) fn with_one(alloc: Global, op: Op) -> Result<Handle, Fail> {
     let op = Handle::op(alloc, op)?;
     Ok(Handle::insert(alloc, &op, 1, &[Value::Int(1)])?)
 }
 
 /// 100, whatever the argument.
-fn hundred(alloc: Global) -> Result<Handle, Fail> {
+pub(crate) fn hundred(alloc: Global) -> Result<Handle, Fail> {
     let hundred = Handle::constant(alloc, &Value::Int(100))?;
     Ok(Handle::drop(alloc, &hundred, 0, &[Kind::Int])?)
 }

@@ -4,6 +4,8 @@
 #![tactic(auto)]
 
 #[cfg(test)]
+mod code;
+#[cfg(test)]
 mod deep;
 #[cfg(test)]
 mod evaluation;

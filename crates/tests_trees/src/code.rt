@@ -1,0 +1,127 @@
+//! Tests of code: the pieces that trees are made into.
+
+use crate::deep::largest;
+use crate::examples::{hundred, op, with_one};
+use mh_code::{Code, Piece, Prepared};
+use mh_tree::Handle;
+use mh_type::Op;
+use std::alloc::Global;
+use std::test::Fail;
+
+/// What a piece is, with its steps.
+#[derive(Clone, Copy, Debug, PartialEq, Eq)]
+enum Kindred {
+    Leaf(u32),
+    Apply(u32),
+    Put(u32),
+    Let(u32),
+    Case(i32, u32),
+    Point(u32),
+    Go(u32),
+    Other,
+}
+
+/// What a piece is.
+fn kindred_of(piece: &Piece) -> Kindred {
+    match piece {
+        Piece::Leaf { steps, .. } => Kindred::Leaf(*steps),
+        Piece::Apply { steps, .. } => Kindred::Apply(*steps),
+        Piece::Put { steps, .. } => Kindred::Put(*steps),
+        Piece::Let { steps, .. } => Kindred::Let(*steps),
+        Piece::Case { test, steps, .. } => Kindred::Case(test.key, *steps),
+        Piece::Point { steps, .. } => Kindred::Point(*steps),
+        Piece::Go { steps, .. } => Kindred::Go(*steps),
+        _ => Kindred::Other,
+    }
+}
+
+/// The first piece, and the pieces behind it that it chooses from or goes on with.
+fn first_pieces(code: &Code) -> (Kindred, Kindred, Kindred) {
+    match code.entry() {
+        Piece::Case {
+            target,
+            fallback,
+            ..
+        }
+        | Piece::Point {
+            target,
+            fallback,
+            ..
+        } => (kindred_of(code.entry()), kindred_of(target), kindred_of(fallback)),
+        Piece::Let { then, .. } | Piece::Put { then, .. } => {
+            (kindred_of(code.entry()), kindred_of(then), Kindred::Other)
+        }
+        other => (kindred_of(other), Kindred::Other, Kindred::Other),
+    }
+}
+
+/// The code of a guard, all parts of which are prepared with it: 100 on 1, and else one more.
+fn whole_guard(alloc: Global) -> Result<Prepared, Fail> {
+    let test = with_one(alloc, Op::Ieq)?;
+    let next = with_one(alloc, Op::Iadd)?;
+    let guard = Handle::guard(alloc, &test, &hundred(alloc)?, &next)?;
+    Ok(Prepared::new(alloc, &guard)?)
+}
+
+/// The same over parts that were prepared before.
+fn guard_over_parts(alloc: Global) -> Result<Prepared, Fail> {
+    let test = Prepared::new(alloc, &with_one(alloc, Op::Ieq)?)?;
+    let target = Prepared::new(alloc, &hundred(alloc)?)?;
+    let fallback = Prepared::new(alloc, &with_one(alloc, Op::Iadd)?)?;
+    Ok(Prepared::guard(alloc, &test, &target, &fallback)?)
+}
+
+/// That guard while point 0 is valid, and else the negation.
+fn point_over_parts(alloc: Global) -> Result<Prepared, Fail> {
+    let guard = guard_over_parts(alloc)?;
+    let negation = Prepared::new(alloc, &op(alloc, Op::Ineg)?)?;
+    Ok(Prepared::point(alloc, 0, &guard, &negation)?)
+}
+
+/// The negation of one more.
+fn negated(alloc: Global) -> Result<Prepared, Fail> {
+    let next = with_one(alloc, Op::Iadd)?;
+    let negated = Handle::filter_return(alloc, &next, &op(alloc, Op::Ineg)?)?;
+    Ok(Prepared::new(alloc, &negated)?)
+}
+
+#[test]
+fn a_guard_on_a_key_is_one_piece(rt: HostRuntime) -> Result<(), Fail> {
+    let code = whole_guard(rt.alloc())?;
+    let pieces = (Kindred::Case(1, 3), Kindred::Leaf(2), Kindred::Apply(2));
+    assert_eq!(rt; first_pieces(code.code()), pieces);
+    Ok(())
+}
+
+#[test]
+fn a_guard_goes_to_code_that_stands(rt: HostRuntime) -> Result<(), Fail> {
+    let code = guard_over_parts(rt.alloc())?;
+    let pieces = (Kindred::Case(1, 3), Kindred::Go(0), Kindred::Go(0));
+    assert_eq!(rt; first_pieces(code.code()), pieces);
+    Ok(())
+}
+
+#[test]
+fn a_point_goes_to_code_that_stands(rt: HostRuntime) -> Result<(), Fail> {
+    let code = point_over_parts(rt.alloc())?.share()?;
+    let pieces = (Kindred::Point(1), Kindred::Go(0), Kindred::Go(0));
+    assert_eq!(rt; first_pieces(code.code()), pieces);
+    Ok(())
+}
+
+#[test]
+fn a_value_becomes_a_local(rt: HostRuntime) -> Result<(), Fail> {
+    let code = negated(rt.alloc())?;
+    let pieces = (Kindred::Let(3), Kindred::Apply(1), Kindred::Other);
+    assert_eq!(rt; first_pieces(code.code()), pieces);
+    Ok(())
+}
+
+#[test]
+fn the_largest_tree_has_code(rt: HostRuntime) -> Result<(), Fail> {
+    let alloc = rt.alloc();
+    let code = Prepared::new(alloc, &largest(alloc)?)?;
+    let pieces = (Kindred::Let(18), Kindred::Let(1), Kindred::Other);
+    assert_eq!(rt; first_pieces(code.code()), pieces);
+    Ok(())
+}
