@@ -1,6 +1,7 @@
 //! The check of a plan.
 
 ghost use Rattle.std.specs.Prelude.{◌≡◌, ◌⊎◌, ◌↔◌, All, IfErr, IsTrue, MatchResult, OnOk, true, false};
+ghost use Rattle.std.specs.List.Sorted.{IsStrictlyIncreasing};
 ghost use Rattle.mh_cert.specs.Plans.{AreCharges, AreRows, Matches, plan_tests};
 ghost use Rattle.mh_network.specs.Problems.{IsProblem, link_at};
 ghost use Rattle.mh_network.specs.Selection.{IsBest, member};
@@ -24,7 +25,8 @@ use std::alloc::Global;
 /// are then best: no set of eligible links is worth more. O(links + points + rows).
 ///
 /// Refused with the first part that fails, as `CheckFault` tells them, or with NoMemory, only where
-/// a growth was refused. A plan that matches is refused with nothing else.
+/// a growth was refused, which is asked for once the links are eligible and ascending. A plan that
+/// matches is refused with nothing else.
 pub fn check(alloc: Global, problem: &Problem, plan: &Plan) -> Result<(), CheckFault>
     ensures matching { OnOk result (Matches problem.now plan.now) }
     ensures best { OnOk result (IsBest problem.now (member plan.now.links)) }
@@ -32,6 +34,9 @@ pub fn check(alloc: Global, problem: &Problem, plan: &Plan) -> Result<(), CheckF
         ⊎ Refuses (plan_tests problem.now plan.now) e) }
     ensures exact { IfErr result (λ e. (e ≡ CheckFault.NoMemory)
         ⊎ (Matches problem.now plan.now → ⊥)) }
+    ensures early { IfErr result (λ e. e ≡ CheckFault.NoMemory
+        → All (λ j. (link_at problem.now j).eligible ≡ true) plan.now.links
+        × IsStrictlyIncreasing plan.now.links) }
 {
     matching_is_best(problem);
     test(alloc, problem, plan)
@@ -42,6 +47,9 @@ fn test(alloc: Global, problem: &Problem, plan: &Plan) -> Result<(), CheckFault>
     requires problem { IsProblem problem.now }
     ensures value { MatchResult result (λ _. Passes (plan_tests problem.now plan.now))
         (λ e. (e ≡ CheckFault.NoMemory) ⊎ Refuses (plan_tests problem.now plan.now) e) }
+    ensures early { IfErr result (λ e. e ≡ CheckFault.NoMemory
+        → All (λ j. (link_at problem.now j).eligible ≡ true) plan.now.links
+        × IsStrictlyIncreasing plan.now.links) }
 {
     let links = plan.links.as_slice();
     let points = plan.points.as_slice();
