@@ -3,6 +3,7 @@ mod Faults
 mod Firsts
 mod Items
 mod Lists
+mod Names
 mod Problems
 mod Unreads
 mod Whole

@@ -4,6 +4,7 @@ pub mod Forms
 pub mod Keys
 pub mod Laws
 pub mod Looks
+pub mod Near
 pub mod Parts
 pub mod Places
 pub mod Problems

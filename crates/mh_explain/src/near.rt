@@ -1,4 +1,7 @@
 //! The known word that an unknown one is most likely meant for.
+ghost use Rattle.std.specs.Prelude.{All, IfNone, IfOk, IfSome, map};
+ghost use Rattle.mh_explain.specs.Near.{IsNear, IsNearest};
+
 use mh_base::NoMemory;
 use std::alloc::Global;
 use strsim::levenshtein;
@@ -15,7 +18,12 @@ pub fn nearest<'a>(
     alloc: Global,
     word: &str,
     known: &[&'a str],
-) -> Result<Option<&'a str>, NoMemory> {
+) -> Result<Option<&'a str>, NoMemory>
+    ensures nearest { IfOk result (λ found. IfSome found
+        (λ name. IsNearest word.now (map (λ n. n.now) known.now) name.now)) }
+    ensures none { IfOk result (λ found. IfNone found
+        (All (λ n. IsNear word.now n.now → ⊥) known.now)) }
+{
     let mut found: Option<&'a str> = None;
     let mut least = MOST_EDITS + 1;
     for name in known {

@@ -1,4 +1,8 @@
 //! Words that several sentences have.
+ghost use Rattle.std.specs.Prelude.{◌≡◌, IfOk, string_bytes};
+ghost use Rattle.serde_json.specs.Data.{string};
+ghost use Rattle.serde_json.specs.Written.{compact_text};
+
 use crate::near::nearest;
 use mh_base::NoMemory;
 use serde_json::Value;
@@ -7,7 +11,9 @@ use std::alloc::Global;
 /// A text as a string of JSON.
 ///
 /// Fails only if memory runs out.
-pub fn quoted(alloc: Global, text: &str) -> Result<String, NoMemory> {
+pub fn quoted(alloc: Global, text: &str) -> Result<String, NoMemory>
+    ensures value { IfOk result (λ s. string_bytes s ≡ compact_text (string text.now)) }
+{
     let value = Value::String(String::from_str(alloc, text)?);
     Ok(value.to_string(alloc)?)
 }
