@@ -1,5 +1,5 @@
 -- Reading that may fail, and what a reader of the code gives.
-use Rattle.std.specs.Prelude.{ℕ, ◌≡◌, ◌⊎◌, Option, Some, None, Result, Ok, Err, ⊤}
+use Rattle.std.specs.Prelude.{ℕ, ◌≡◌, ◌≢◌, ◌⊎◌, Option, Some, None, Result, Ok, Err, ⊤}
 use Rattle.mh_type.specs.declared.fault.TypeFault.{TypeFault}
 use Rattle.mh_type.specs.declared.fault.TypeFault.TheVariants as type_fault
 use Rattle.mh_tree.specs.declared.fault.TreeFault.{TreeFault}
@@ -99,6 +99,11 @@ IsHonest (Err e) reads_old reads_new writes_old writes_new = IsEndOf (HasFailed 
 abbrev pub IsHonestReading : {A : Type 0} → Result A Fault → ℕ → ℕ → Type 0
 IsHonestReading (Ok x) old new = new ≡ old
 IsHonestReading (Err e) old new = IsEndOf (HasFailed old new) ⊥ e.kind
+
+-- no stream failed but the one that the fault names
+abbrev pub NoOtherFailed : TextFault → ℕ → ℕ → ℕ → ℕ → Type 0
+NoOtherFailed kind reads_old reads_new writes_old writes_new =
+    (kind ≢ text.ReadFailed → reads_new ≡ reads_old) × (kind ≢ text.WriteFailed → writes_new ≡ writes_old)
 
 -- a fault that an input may have, or want of memory, and not that of a stream
 abbrev pub IsOfInput : TextFault → Type 0

@@ -1,9 +1,10 @@
 //! Checks of plans: bytes in, a line out.
-ghost use Rattle.std.specs.Prelude.{◌≡◌, ◌⊎◌, IfOk, IfErr, OnOk, IfSome, MatchResult};
-ghost use Rattle.std.specs.Io.KnownBytes.{Appends, Keeps};
-ghost use Rattle.mh_text.specs.Bytes.{HasFailed};
-ghost use Rattle.mh_text.specs.Gives.{no_memory, IsHonest};
+ghost use Rattle.std.specs.Prelude.{◌≡◌, ◌≢◌, ◌+◌, ◌⊎◌, IfOk, IfErr, OnOk, IfSome, MatchResult};
+ghost use Rattle.std.specs.Io.KnownBytes.{Appends, IsAtEnd, Keeps};
+ghost use Rattle.mh_text.specs.Bytes.{HasFailed, LosesAtMost, most_bytes};
+ghost use Rattle.mh_text.specs.Gives.{no_memory, IsHonest, NoOtherFailed};
 ghost use Rattle.mh_text.specs.Output.{outside};
+ghost use Rattle.mh_text.specs.declared.fault.TextFault.TheVariants.{WriteFailed};
 ghost use Rattle.mh_text.specs.Checks.{IsVerdict, IsCutOff, FailsCheck, verdict_line};
 
 use crate::fault::Fault;
@@ -31,6 +32,8 @@ pub fn write_verdict<W: Write>(
         ⊎ IsCutOff (W.contents writer.old.inner) (W.contents writer.new.inner)
         (HasFailed writer.old.failures writer.new.failures) e verdict) }
     ensures kept { OnOk result (writer.new.failures ≡ writer.old.failures) }
+    ensures others { IfErr result (λ e. e.kind ≢ WriteFailed
+        → writer.new.failures ≡ writer.old.failures) }
 {
     let line = line(alloc, verdict)?;
     writer.write_all(line.as_bytes())?;
@@ -59,6 +62,11 @@ pub fn check_bytes<R: Read, W: Write>(
         (HasFailed writer.old.failures writer.new.failures)) }
     ensures honest { IsHonest result reader.old.failures reader.new.failures
         writer.old.failures writer.new.failures }
+    ensures others { IfErr result (λ e. NoOtherFailed e.kind reader.old.failures
+        reader.new.failures writer.old.failures writer.new.failures) }
+    ensures end { OnOk result (IsAtEnd (R.remaining reader.new.inner)) }
+    ensures most { LosesAtMost (most_bytes + 1) (R.remaining reader.old.inner)
+        (R.remaining reader.new.inner) }
 {
     let claim = read_whole(alloc, reader)?;
     let verdict = judge(alloc, &claim.problem, &claim.plan)?;

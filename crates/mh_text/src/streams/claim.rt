@@ -1,7 +1,9 @@
 //! A problem and a plan, which is claimed to be best.
-ghost use Rattle.std.specs.Prelude.{◌≡◌, ◌⊎◌, Some, codes, IfOk, IfErr, IfSome};
+ghost use Rattle.std.specs.Prelude.{◌≡◌, ◌≢◌, ◌+◌, ◌⊎◌, Some, codes, IfOk, IfErr, IfSome, OnOk};
 ghost use Rattle.serde_json.specs.View.{view};
-ghost use Rattle.mh_text.specs.Bytes.{HasFailed};
+ghost use Rattle.std.specs.Io.KnownBytes.{IsAtEnd};
+ghost use Rattle.mh_text.specs.Bytes.{HasFailed, LosesAtMost, most_bytes};
+ghost use Rattle.mh_text.specs.declared.fault.TextFault.TheVariants.{ReadFailed};
 ghost use Rattle.mh_text.specs.Checks.{Holds, IsFirstOf, IsClaim, IsClaimFault};
 ghost use Rattle.mh_text.specs.Gives.{at_place, no_memory, IsHonestReading, IsOfInput};
 ghost use Rattle.mh_text.specs.Output.{IsUnread, outside};
@@ -58,6 +60,11 @@ pub(crate) fn read_whole<R: Read>(alloc: Global, reader: &mut Watched<R>) -> Res
     ensures failed { IfErr result (IsUnread IsClaimFault (R.remaining reader.old.inner)
         (HasFailed reader.old.failures reader.new.failures)) }
     ensures honest { IsHonestReading result reader.old.failures reader.new.failures }
+    ensures others { IfErr result (λ e. e.kind ≢ ReadFailed
+        → reader.new.failures ≡ reader.old.failures) }
+    ensures end { OnOk result (IsAtEnd (R.remaining reader.new.inner)) }
+    ensures most { LosesAtMost (most_bytes + 1) (R.remaining reader.old.inner)
+        (R.remaining reader.new.inner) }
 {
     let input = read_input(alloc, reader)?;
     read_claim(alloc, &input)

@@ -1,8 +1,8 @@
 //! The whole input.
-ghost use Rattle.std.specs.Prelude.{◌≡◌, ◌<◌, ◌≤◌, ◌⊎◌, ◌+◌, ◌^◌, length, IfOk, IfErr, OnOk, OnErr, IfSome, IsErrOf};
-ghost use Rattle.mh_text.specs.Bytes.{HasFailed, most_bytes};
+ghost use Rattle.std.specs.Prelude.{◌≡◌, ◌≢◌, ◌<◌, ◌≤◌, ◌⊎◌, ◌+◌, ◌^◌, length, IfOk, IfErr, OnOk, OnErr, IfSome, IsErrOf};
+ghost use Rattle.mh_text.specs.Bytes.{HasFailed, LosesAtMost, most_bytes};
 ghost use Rattle.mh_text.specs.Gives.{no_memory, too_long};
-ghost use Rattle.std.specs.Io.KnownBytes.{Consumes};
+ghost use Rattle.std.specs.Io.KnownBytes.{Consumes, IsAtEnd};
 
 use crate::fault::{InputFault, TextFault};
 use crate::streams::watched::Watched;
@@ -29,6 +29,11 @@ pub fn read_up_to<R: Read>(
     ensures kept { OnOk result (reader.new.failures ≡ reader.old.failures) }
     ensures failed { IsErrOf result TextFault.ReadFailed
         → HasFailed reader.old.failures reader.new.failures }
+    ensures others { IfErr result (λ e. e ≢ TextFault.ReadFailed
+        → reader.new.failures ≡ reader.old.failures) }
+    ensures end { OnOk result (IsAtEnd (R.remaining reader.new.inner)) }
+    ensures most { LosesAtMost (limit + 1) (R.remaining reader.old.inner)
+        (R.remaining reader.new.inner) }
     ensures kinds { IfErr result (λ e. (e ≡ no_memory) ⊎ (e ≡ too_long)
         ⊎ (e ≡ TextFault.ReadFailed)) }
 {
@@ -58,6 +63,11 @@ pub fn read_input<R: Read>(alloc: Global, reader: &mut Watched<R>) -> Result<Vec
     ensures kept { OnOk result (reader.new.failures ≡ reader.old.failures) }
     ensures failed { IsErrOf result TextFault.ReadFailed
         → HasFailed reader.old.failures reader.new.failures }
+    ensures others { IfErr result (λ e. e ≢ TextFault.ReadFailed
+        → reader.new.failures ≡ reader.old.failures) }
+    ensures end { OnOk result (IsAtEnd (R.remaining reader.new.inner)) }
+    ensures most { LosesAtMost (most_bytes + 1) (R.remaining reader.old.inner)
+        (R.remaining reader.new.inner) }
     ensures kinds { IfErr result (λ e. (e ≡ no_memory) ⊎ (e ≡ too_long)
         ⊎ (e ≡ TextFault.ReadFailed)) }
 {

@@ -1,11 +1,12 @@
 //! Planning: a problem in, its plan out.
-ghost use Rattle.std.specs.Prelude.{◌≡◌, ◌<◌, ◌≤◌, ◌++◌, ◌⊎◌, ℕ, List, true, string_bytes, IfOk, IfErr, OnOk, IfSome, MatchResult};
-ghost use Rattle.std.specs.Io.KnownBytes.{Appends};
-ghost use Rattle.mh_text.specs.Bytes.{HasFailed};
-ghost use Rattle.mh_text.specs.Gives.{no_memory, IsHonest, IsHonestReading, IsOfInput};
+ghost use Rattle.std.specs.Prelude.{◌≡◌, ◌≢◌, ◌+◌, ◌<◌, ◌≤◌, ◌++◌, ◌⊎◌, ℕ, List, true, string_bytes, IfOk, IfErr, OnOk, IfSome, MatchResult};
+ghost use Rattle.std.specs.Io.KnownBytes.{Appends, IsAtEnd};
+ghost use Rattle.mh_text.specs.Bytes.{HasFailed, LosesAtMost, most_bytes};
+ghost use Rattle.mh_text.specs.Gives.{no_memory, IsHonest, IsHonestReading, IsOfInput, NoOtherFailed};
 ghost use Rattle.mh_text.specs.Output.{IsUnread, outside};
 ghost use Rattle.mh_text.specs.Planning.{IsProblemInput, IsProblemFault, IsPlanOf, IsPlanned, IsCutShort, FailsPlan, line_where, lines_for};
 ghost use Rattle.mh_text.specs.Script.{most_workers};
+ghost use Rattle.mh_text.specs.declared.fault.TextFault.TheVariants.{ReadFailed};
 
 use crate::fault::Fault;
 use crate::json::certificate::plan_json;
@@ -47,6 +48,11 @@ fn read_whole<R: Read>(alloc: Global, reader: &mut Watched<R>) -> Result<Problem
     ensures failed { IfErr result (IsUnread IsProblemFault (R.remaining reader.old.inner)
         (HasFailed reader.old.failures reader.new.failures)) }
     ensures honest { IsHonestReading result reader.old.failures reader.new.failures }
+    ensures others { IfErr result (λ e. e.kind ≢ ReadFailed
+        → reader.new.failures ≡ reader.old.failures) }
+    ensures end { OnOk result (IsAtEnd (R.remaining reader.new.inner)) }
+    ensures most { LosesAtMost (most_bytes + 1) (R.remaining reader.old.inner)
+        (R.remaining reader.new.inner) }
 {
     let input = read_input(alloc, reader)?;
     read_bytes(alloc, &input)
@@ -139,6 +145,11 @@ pub fn plan_bytes<T: Threads + Sync, R: Read, W: Write>(
         (HasFailed writer.old.failures writer.new.failures)) }
     ensures honest { IsHonest result reader.old.failures reader.new.failures
         writer.old.failures writer.new.failures }
+    ensures others { IfErr result (λ e. NoOtherFailed e.kind reader.old.failures
+        reader.new.failures writer.old.failures writer.new.failures) }
+    ensures end { OnOk result (IsAtEnd (R.remaining reader.new.inner)) }
+    ensures most { LosesAtMost (most_bytes + 1) (R.remaining reader.old.inner)
+        (R.remaining reader.new.inner) }
 {
     let problem = read_whole(alloc, reader)?;
     let lines = plan_problem(rt, alloc, options, &problem)?;

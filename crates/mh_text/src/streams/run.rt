@@ -1,9 +1,9 @@
 //! Bytes in, lines out.
-ghost use Rattle.std.specs.Prelude.{◌≡◌, ◌↔◌, true, Ok, IfOk, IfErr, IsTrue, OnOk, IfSome, MatchResult};
-ghost use Rattle.std.specs.Io.KnownBytes.{Appends, Keeps};
+ghost use Rattle.std.specs.Prelude.{◌≡◌, ◌≢◌, ◌+◌, ◌↔◌, true, Ok, IfOk, IfErr, IsTrue, OnOk, IfSome, MatchResult};
+ghost use Rattle.std.specs.Io.KnownBytes.{Appends, IsAtEnd, Keeps};
 ghost use Rattle.mh_text.specs.declared.json.script.Script.{Script};
-ghost use Rattle.mh_text.specs.Bytes.{AppendsFront, HasFailed};
-ghost use Rattle.mh_text.specs.Gives.{IsHonest, IsHonestReading};
+ghost use Rattle.mh_text.specs.Bytes.{AppendsFront, HasFailed, LosesAtMost, most_bytes};
+ghost use Rattle.mh_text.specs.Gives.{IsHonest, IsHonestReading, NoOtherFailed};
 ghost use Rattle.mh_text.specs.Lines.{line_of};
 ghost use Rattle.mh_text.specs.Steps.{Told, Takes};
 ghost use Rattle.mh_text.specs.Output.{script_of_input, first, report_where, AppendsRun, EndsIn, EndsEarly, EndsReading, FailsReport, IsUnread, Failed, IsEnd, MayEnd, RunsTo};
@@ -72,6 +72,8 @@ fn write_line<W: Write>(
         e.kind) }
     ensures spared { IfErr result (λ e. MayEnd e.kind reply.now) }
     ensures kept { OnOk result (writer.new.failures ≡ writer.old.failures) }
+    ensures others { IfErr result (λ e. e.kind ≢ TextFault.WriteFailed
+        → writer.new.failures ≡ writer.old.failures) }
 {
     if is_out_of_memory(reply) {
         return write_text("refused 1 NoMemory\n", at, writer);
@@ -105,6 +107,8 @@ fn write_step<T: Threads + Sync, W: Write>(
     ensures kind { IfErr result (λ e. IsEnd (HasFailed writer.old.failures writer.new.failures)
         e.kind) }
     ensures kept { OnOk result (writer.new.failures ≡ writer.old.failures) }
+    ensures others { IfErr result (λ e. e.kind ≢ TextFault.WriteFailed
+        → writer.new.failures ≡ writer.old.failures) }
 {
     let named = step.number();
     let reply = answer(rt, alloc, machine, step);
@@ -125,6 +129,8 @@ fn run_steps<T: Threads + Sync, W: Write>(
     ensures kind { IfErr result (λ e. IsEnd (HasFailed writer.old.failures writer.new.failures)
         e.kind) }
     ensures kept { OnOk result (writer.new.failures ≡ writer.old.failures) }
+    ensures others { IfErr result (λ e. e.kind ≢ TextFault.WriteFailed
+        → writer.new.failures ≡ writer.old.failures) }
     ensures ends { IfErr result (λ e. EndsIn machine steps.items e (W.contents writer.old.inner)
         (W.contents writer.new.inner)) }
 {
@@ -147,6 +153,8 @@ fn write_report<W: Write>(
     ensures ok { OnOk result (Appends (W.contents writer.old.inner) (W.contents writer.new.inner)
         (report_where options.report machine.now)) }
     ensures kept { OnOk result (writer.new.failures ≡ writer.old.failures) }
+    ensures others { IfErr result (λ e. e.kind ≢ TextFault.WriteFailed
+        → writer.new.failures ≡ writer.old.failures) }
     ensures failed { IfErr result (FailsReport options machine.now (W.contents writer.old.inner)
         (W.contents writer.new.inner) (HasFailed writer.old.failures writer.new.failures)) }
 {
@@ -166,6 +174,11 @@ pub fn read_script_from<R: Read>(alloc: Global, reader: &mut Watched<R>) -> Resu
     ensures failed { IfErr result (IsUnread EndsReading (R.remaining reader.old.inner)
         (HasFailed reader.old.failures reader.new.failures)) }
     ensures honest { IsHonestReading result reader.old.failures reader.new.failures }
+    ensures others { IfErr result (λ e. e.kind ≢ TextFault.ReadFailed
+        → reader.new.failures ≡ reader.old.failures) }
+    ensures end { OnOk result (IsAtEnd (R.remaining reader.new.inner)) }
+    ensures most { LosesAtMost (most_bytes + 1) (R.remaining reader.old.inner)
+        (R.remaining reader.new.inner) }
 {
     let input = read_input(alloc, reader)?;
     read_script(alloc, &input)
@@ -182,6 +195,8 @@ fn run_script<T: Threads + Sync, W: Write>(
     ensures ok { OnOk result (AppendsRun options (first script) script.steps
         (W.contents writer.old.inner) (W.contents writer.new.inner)) }
     ensures kept { OnOk result (writer.new.failures ≡ writer.old.failures) }
+    ensures others { IfErr result (λ e. e.kind ≢ TextFault.WriteFailed
+        → writer.new.failures ≡ writer.old.failures) }
     ensures failed { IfErr result (EndsEarly options script (W.contents writer.old.inner)
         (W.contents writer.new.inner) (HasFailed writer.old.failures writer.new.failures)) }
 {
@@ -222,6 +237,11 @@ pub fn run_bytes<T: Threads + Sync, R: Read, W: Write>(
         (HasFailed writer.old.failures writer.new.failures) e) }
     ensures honest { IsHonest result reader.old.failures reader.new.failures
         writer.old.failures writer.new.failures }
+    ensures others { IfErr result (λ e. NoOtherFailed e.kind reader.old.failures
+        reader.new.failures writer.old.failures writer.new.failures) }
+    ensures end { OnOk result (IsAtEnd (R.remaining reader.new.inner)) }
+    ensures most { LosesAtMost (most_bytes + 1) (R.remaining reader.old.inner)
+        (R.remaining reader.new.inner) }
 {
     let script = read_script_from(alloc, reader)?;
     run_script(rt, alloc, options, script, writer)
