@@ -1,18 +1,18 @@
 -- What is read of a reader's bytes, chunk by chunk.
-use Rattle.std.proofs.Common.{◌≡◌, ℕ, List, [], ◌++◌, Option, Some, None, Result, Ok, Err, IfOk, IfErr, IfSome, ap, ◌∙◌, inl, inr}
+use Rattle.std.proofs.Common.{◌≡◌, ◌⊎◌, ℕ, List, [], ◌++◌, Option, Some, None, Result, Ok, Err, IfOk, IfErr, IfSome, sym, ap, ◌∙◌, inl, inr}
 use Rattle.std.specs.Io.KnownBytes.{Consumes, IsAtEnd}
 use Rattle.std.proofs.lemmas.List.{append_assoc}
 use Rattle.mh_text.specs.declared.fault.Fault.{Fault}
 use Rattle.mh_profile.specs.declared.profile.Profile.{Profile}
 use Rattle.mh_profile.specs.declared.reader.LineReader.{LineReader}
-use Rattle.mh_text.specs.Gives.{GivesAt}
+use Rattle.mh_text.specs.Gives.{no_memory, GivesAt}
 use Rattle.mh_profile.specs.declared.named.NamedProblem.{NamedProblem}
 use Rattle.mh_profile.specs.declared.planning.ProfileOptions.{ProfileOptions}
-use Rattle.mh_profile.specs.Inputs.{IsFaultOfLines, IsProfileInput}
+use Rattle.mh_profile.specs.Inputs.{IsFaultOfLines, IsProfileFault, IsProfileInput}
 use Rattle.mh_profile.specs.Planning.{IsPlanOf, IsPlanned}
 use Rattle.mh_profile.specs.Profiles.{profile_of}
 use Rattle.mh_profile.specs.Readers.{resumed, Takes}
-use Rattle.mh_text.specs.Output.{IsUnread}
+use Rattle.mh_text.specs.Output.{outside, IsUnread}
 
 -- a reader that has taken these bytes, the first of an input
 abbrev pub HasTaken : List ℕ → LineReader → Type 0
@@ -66,3 +66,16 @@ pub planned_in : (options : ProfileOptions) (input : Option (List ℕ)) (n : Nam
     → IfSome input (λ bytes. IsPlanned options bytes text)
 planned_in options None n text is planned = tt
 planned_in options (Some bytes) n text is planned = (n, is, planned)
+
+-- ---- lines that are past the limit of all, of which a beginning was taken
+pub late_fails : (r : LineReader) (front : List ℕ) (e : Fault) → ((input : List ℕ) → resumed r input ≡ profile_of input) → Takes r front (Err e)
+    → (e ≡ outside no_memory) ⊎ ((rest : List ℕ) → profile_of (front ++ rest) ≡ Err e)
+late_fails r front e value (inl memory) = inl memory
+late_fails r front e value (inr fails) = inr (λ rest. sym (value (front ++ rest)) ∙ fails rest)
+
+pub front_fails : (initial now : Option (List ℕ)) (front : List ℕ) (H : Type 0) (e : Fault) → Consumes initial now front
+    → (e ≡ outside no_memory) ⊎ ((rest : List ℕ) → profile_of (front ++ rest) ≡ Err e) → IsUnread IsProfileFault initial H e
+front_fails initial now front H e consumed (inl memory) = inl memory
+front_fails None now front H e consumed (inr fails) = inr (inr tt)
+front_fails (Some input) None front H e consumed (inr fails) = absurd consumed
+front_fails (Some input) (Some rest) front H e consumed (inr fails) = inr (inr (inl (ap profile_of consumed ∙ fails rest)))

@@ -1,5 +1,6 @@
 pub mod Accounts
 pub mod Claims
+pub mod Faulty
 pub mod Inputs
 pub mod Limits
 pub mod Lines

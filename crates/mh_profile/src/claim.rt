@@ -1,11 +1,12 @@
 //! Claims: a profile, and behind it a line that is said to be a best plan of it.
-ghost use Rattle.std.specs.Prelude.{◌≡◌, ◌⊎◌, ◌==◌, ◌≤◌, IfOk, IfErr, IfSome, length};
+ghost use Rattle.std.specs.Prelude.{◌≡◌, ◌⊎◌, ◌==◌, ◌≤◌, IfOk, IfErr, IfSome, List, ℕ, length};
 ghost use Rattle.std.specs.List.{IsAfterLastMatch};
 ghost use Rattle.serde_json.specs.View.{view};
 ghost use Rattle.mh_text.specs.Bytes.{HasFailed};
 ghost use Rattle.mh_text.specs.Gives.{at_place, no_memory, Gives, GivesAt, IsHonestReading, IsOfInput};
 ghost use Rattle.mh_text.specs.Output.{outside, IsUnread};
 ghost use Rattle.mh_profile.specs.Claims.{claimed_plan, plan_in_line, is_said, IsClaim, IsClaimFault, IsParted, IsReadClaim, IsReadClaimFault};
+ghost use Rattle.mh_profile.specs.Limits.{most_in_claim};
 ghost use Rattle.mh_profile.specs.Lines.{lines_of};
 ghost use Rattle.mh_profile.specs.Profiles.{profile_of};
 
@@ -49,7 +50,7 @@ fn said_len(bytes: &[u8]) -> usize
 }
 
 /// Where the last line begins.
-fn last_line_start(bytes: &[u8]) -> usize
+pub(crate) fn last_line_start(bytes: &[u8]) -> usize
     ensures inside { result ≤ length bytes.now }
     ensures value { IsAfterLastMatch (λ b. b == 10) bytes.now result }
 {
@@ -70,7 +71,7 @@ fn part(input: &[u8]) -> (&[u8], &[u8])
 }
 
 /// How many lines these bytes are: the number of the one that has begun.
-fn line_count(bytes: &[u8]) -> u64
+pub(crate) fn line_count(bytes: &[u8]) -> u64
     ensures value { result ≡ length (lines_of bytes.now) }
 {
     let mut number = 1;
@@ -112,7 +113,7 @@ fn read_numbered_plan(alloc: Global, number: u64, line: &[u8]) -> Result<Plan, F
 }
 
 /// The profile that lines are.
-fn read_lines(alloc: Global, lines: &[u8]) -> Result<Profile, Fault>
+pub(crate) fn read_lines(alloc: Global, lines: &[u8]) -> Result<Profile, Fault>
     ensures value { GivesAt (λ x. x) result (profile_of lines.now) }
     ensures kind { IfErr result (λ e. IsOfInput e.kind) }
 {
@@ -130,6 +131,27 @@ fn read_parts(alloc: Global, lines: &[u8], line: &[u8]) -> Result<Claim, Fault>
     Ok(Claim { problem, plan })
 }
 
+/// The lines of the profile in an input that has a plan behind them.
+pub fn claimed_lines(input: &[u8]) -> &[u8]
+    ensures value { (line : List ℕ) × IsParted input.now result.now line }
+{
+    part(input).0
+}
+
+/// The input of a profile and a plan, whole.
+///
+/// It is read to its end, or to the first byte past 134,217,728, and is too long then.
+pub fn keep_claim<R: Read>(alloc: Global, reader: &mut Watched<R>) -> Result<Vec<u8>, Fault>
+    ensures ok { IfOk result (λ input. IfSome (R.remaining reader.old.inner)
+        (λ bytes. input.items ≡ bytes)) }
+    ensures short { IfOk result (λ input. length input.items ≤ most_in_claim) }
+    ensures failed { IfErr result (IsUnread IsReadClaimFault (R.remaining reader.old.inner)
+        (HasFailed reader.old.failures reader.new.failures)) }
+    ensures honest { IsHonestReading result reader.old.failures reader.new.failures }
+{
+    Ok(read_up_to(alloc, reader, LIMIT)?)
+}
+
 /// The problem and the plan that the reader gives.
 pub(crate) fn read_claim<R: Read>(alloc: Global, reader: &mut Watched<R>) -> Result<Claim, Fault>
     ensures ok { IfOk result (λ claim. IfSome (R.remaining reader.old.inner)
@@ -138,7 +160,7 @@ pub(crate) fn read_claim<R: Read>(alloc: Global, reader: &mut Watched<R>) -> Res
         (HasFailed reader.old.failures reader.new.failures)) }
     ensures honest { IsHonestReading result reader.old.failures reader.new.failures }
 {
-    let input = read_up_to(alloc, reader, LIMIT)?;
+    let input = keep_claim(alloc, reader)?;
     let (lines, line) = part(&input);
     read_parts(alloc, lines, line)
 }

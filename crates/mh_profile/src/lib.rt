@@ -22,6 +22,8 @@
 mod accounts;
 mod check;
 mod claim;
+mod faulty;
+mod kept;
 mod keyed;
 mod laws;
 mod line;
@@ -34,11 +36,14 @@ mod reader;
 mod streams;
 
 pub use check::check_profile;
+pub use claim::{claimed_lines, keep_claim};
+pub use faulty::{FaultyLine, faulty_line};
+pub use kept::keep_profile;
 pub use laws::links_stay_best_within_slack;
 pub use mh_text::{Fault, InputFault, TextFault};
 pub use named::NamedProblem;
 pub use names::{LinkNames, PointNames};
-pub use plan_lines::profile_lines;
+pub use plan_lines::{profile_lines, quoted};
 pub use planning::{ProfileOptions, plan_profile};
 pub use profile::Profile;
 pub use reader::LineReader;

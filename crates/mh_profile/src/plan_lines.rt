@@ -17,7 +17,9 @@ use serde_json::Value;
 use std::alloc::Global;
 
 /// A name as a string of JSON.
-fn quoted(alloc: Global, name: &str) -> Result<String, NoMemory>
+///
+/// Fails only if memory runs out.
+pub fn quoted(alloc: Global, name: &str) -> Result<String, NoMemory>
     ensures value { IfOk result (λ s. string_bytes s ≡ compact_text (string name.now)) }
 {
     let value = Value::String(String::from_str(alloc, name)?);

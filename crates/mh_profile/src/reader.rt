@@ -20,7 +20,7 @@ use std::alloc::Global;
 const LONGEST_LINE: usize = 1_048_576;
 
 /// The most bytes of all lines together.
-const LIMIT: u64 = 67_108_864;
+pub(crate) const LIMIT: u64 = 67_108_864;
 
 /// A profile, as far as its lines were read. It holds the line that has begun, and no other.
 #[derive(Drop)]

@@ -1,0 +1,165 @@
+//! The line of a profile that has its fault, for whoever explains it.
+ghost use Rattle.std.specs.Prelude.{◌≡◌, ◌≢◌, ◌<◌, ◌≤◌, ◌==◌, ◌⊎◌, ℕ, length, slice_index_or, string_bytes, IfSome, IsTrue, Err, Some};
+ghost use Rattle.std.specs.List.{HoldsAt, IsFirstMatchOrLen};
+ghost use Rattle.serde_json.specs.Find.{as_str};
+ghost use Rattle.serde_json.specs.View.{view};
+ghost use Rattle.mh_profile.specs.Faulty.{is_new, IsFaulty, IsUnknown};
+ghost use Rattle.mh_profile.specs.Profiles.{text_of_line};
+
+use crate::claim::{last_line_start, line_count, read_lines};
+use crate::line::read_line;
+use crate::names::PointNames;
+use crate::profile::Profile;
+use mh_network::Listing;
+use mh_text::InputFault;
+use mh_text::readers::{list, parse_json};
+use serde_json::Value;
+use std::alloc::Global;
+
+/// A line that has a fault, and the names that stand before it.
+#[derive(Drop)]
+pub struct FaultyLine {
+    /// Its number, from 1.
+    pub number: u64,
+    /// Its bytes, its end not among them.
+    pub bytes: Listing<u8>,
+    /// The names of the points of the lines before it.
+    pub points: PointNames,
+}
+
+/// The number of the first line that has a fault; 0 where none has one, or memory ran out.
+fn faulty_number(alloc: Global, lines: &[u8]) -> u64 {
+    match read_lines(alloc, lines) {
+        Ok(_) => 0,
+        Err(fault) => fault.at,
+    }
+}
+
+/// Where the line of this number ends, or, where there are fewer lines, all of them.
+fn line_stop(lines: &[u8], number: u64) -> usize
+    ensures inside { result ≤ length lines.now }
+    ensures ended { (result ≡ length lines.now) ⊎ (slice_index_or lines.now result 0 ≡ 10) }
+{
+    let mut ended: u64 = 0;
+    let mut at = 0;
+    while at < lines.len() {
+        if lines[at] == b'\n' {
+            ended = ended.saturating_add(1);
+            if ended == number {
+                return at;
+            }
+        }
+        at += 1;
+    }
+    at
+}
+
+/// Whether a line, whose bytes are these, has this fault behind what was read.
+fn has_fault(alloc: Global, profile: Profile, number: u64, bytes: &[u8], fault: InputFault) -> bool
+    requires of_line { fault ≢ InputFault.NoMemory }
+    ensures value { IsTrue result → text_of_line number profile bytes.now ≡ Err fault }
+{
+    match read_line(alloc, profile, number, bytes) {
+        Ok(_) => false,
+        Err(found) => found == fault,
+    }
+}
+
+/// A copy of bytes, unless memory runs out.
+fn copied(alloc: Global, bytes: &[u8]) -> Option<Listing<u8>>
+    ensures value { IfSome result (λ copy. copy ≡ bytes.now) }
+{
+    let mut copy = Vec::new(alloc);
+    copy.extend_from_slice(bytes).ok()?;
+    Some(Listing::from_vec(copy))
+}
+
+/// The first line that has a fault, where it is this one.
+///
+/// There is none where the fault is of no line: memory ran out, a line or all lines are too long,
+/// or sums are past their limit. Nor is there one where memory runs out here.
+pub fn faulty_line(alloc: Global, lines: &[u8], fault: InputFault) -> Option<FaultyLine>
+    ensures value { IfSome result (IsFaulty lines.now fault) }
+{
+    if fault == InputFault::NoMemory {
+        return None;
+    }
+    let number = faulty_number(alloc, lines);
+    let whole = &lines[..line_stop(lines, number)];
+    let start = last_line_start(whole);
+    let (before, bytes) = (&whole[..start], &whole[start..]);
+    if line_count(before) != number {
+        return None;
+    }
+    let Ok(profile) = read_lines(alloc, before) else {
+        return None;
+    };
+    if !has_fault(alloc, profile, number, bytes, fault) {
+        return None;
+    }
+    // The reading of the line took the profile.
+    let Ok(profile) = read_lines(alloc, before) else {
+        return None;
+    };
+    Some(FaultyLine {
+        number,
+        bytes: copied(alloc, bytes)?,
+        points: profile.points,
+    })
+}
+
+/// Whether a value is the name of no point.
+fn is_new_name(points: &PointNames, value: &Value) -> bool
+    ensures value { result ≡ is_new points.now (as_str (view value.now)) }
+{
+    match value.as_str() {
+        Some(name) => !points.contains(name),
+        None => false,
+    }
+}
+
+/// The place of the first need that is the name of no point, or one past the last.
+fn new_place(points: &PointNames, needs: &[Value]) -> usize
+    ensures inside { result ≤ length needs.now }
+    ensures value { IsFirstMatchOrLen (λ v. is_new points.now (as_str (view v))) needs.now result }
+{
+    let mut at = 0;
+    while at < needs.len() {
+        if is_new_name(points, &needs[at]) {
+            return at;
+        }
+        at += 1;
+    }
+    at
+}
+
+/// The first need that is the name of no point.
+fn new_name<'a>(points: &PointNames, needs: &'a [Value]) -> Option<&'a str>
+    ensures value { IfSome result (λ name. (at : ℕ) × (at < length needs.now)
+        × IsFirstMatchOrLen (λ v. is_new points.now (as_str (view v))) needs.now at
+        × HoldsAt (λ v. as_str (view v) ≡ Some name.now) needs.now at) }
+{
+    let at = new_place(points, needs);
+    if at < needs.len() {
+        needs[at].as_str()
+    } else {
+        None
+    }
+}
+
+impl FaultyLine {
+    /// The first name that it needs and that no point before it has; none where there is none, or
+    /// memory runs out.
+    pub fn unknown_need(&self, alloc: Global) -> Option<String>
+        ensures value { IfSome result (λ name. IsUnknown self.now (string_bytes name)) }
+    {
+        let Ok(value) = parse_json(alloc, self.bytes.as_slice()) else {
+            return None;
+        };
+        let Ok(needs) = list(value.get("needs")?) else {
+            return None;
+        };
+        let name = new_name(&self.points, needs)?;
+        String::from_str(alloc, name).ok()
+    }
+}
