@@ -6,7 +6,7 @@ use Rattle.clap.specs.declared.parser.matches.Found.{Found}
 use Rattle.clap.proofs.WalkLemmas.{one_text-rows}
 use Rattle.mh_text.specs.declared.streams.run.RunOptions.{RunOptions}
 use Rattle.mh_stress.specs.declared.stress.StressOptions.{StressOptions}
-use Rattle.mh_command.specs.CommandLine.{AreStressed, AreWorkers, IsNumber, IsRead, IsReadFor, IsRequest, plain, IsReported, IsUnexplained, MayBeNumber, truth_text}
+use Rattle.mh_command.specs.CommandLine.{AreStressed, AreWorkers, IsNumber, IsRead, IsReadFor, IsReadPlainly, IsRequest, IsReported, IsUnexplained, MayBeNumber, truth_text}
 use Rattle.mh_command.specs.declared.reading.Reading.{Reading}
 use Rattle.mh_command.specs.declared.request.Request.{Request}
 use Rattle.mh_command.specs.declared.request.Request.TheVariants.{Run, Check, CheckProfile, Plan, Stress, Profile}
@@ -83,14 +83,14 @@ module _ (f : Found) (options : StressOptions) (are : AreStressed options (rows_
   rounds_are G only r reads = number_read 32 G only (one_text f (codes "rounds")) options.rounds r reads
       (subst (λ o. IsNumber o options.rounds) (sym (one_text-rows f (codes "rounds"))) are.rounds) (let few = are.lawful.few in omega (arith, few))
 
--- words after `profile` ask for a profile alone, which is read as it is
-pub reading_plain : (request : Request) (reading : Reading) (name : List ℕ) (rows : List Row) → name ≡ codes "profile" → IsRequest request name rows → IsReadFor request reading rows → plain ≡ reading
+-- words after `profile` ask for a profile alone
+pub reading_plain : (request : Request) (reading : Reading) (name : List ℕ) (rows : List Row) → name ≡ codes "profile" → IsRequest request name rows → IsReadFor request reading rows → IsReadPlainly reading rows
 reading_plain (Run options) reading name rows is asks reads = absurd (omega (arith, ap length (sym is ∙ asks.0)))
 reading_plain Check reading name rows is asks reads = absurd (omega (arith, ap length (sym is ∙ asks.0)))
 reading_plain CheckProfile reading name rows is asks reads = absurd (omega (arith, ap length (sym is ∙ asks.0)))
 reading_plain (Plan options) reading name rows is asks reads = absurd (omega (arith, ap length (sym is ∙ asks.0)))
 reading_plain (Stress options) reading name rows is asks reads = absurd (omega (arith, ap length (sym is ∙ asks.0)))
-reading_plain (Profile options) reading name rows is asks reads = sym reads
+reading_plain (Profile options) reading name rows is asks reads = reads
 
 -- words after any other subcommand say how its input is read
 pub reading_said : (request : Request) (reading : Reading) (name : List ℕ) (rows : List Row) → (name ≡ codes "profile" → ⊥) → IsRequest request name rows → IsReadFor request reading rows → IsRead reading rows
@@ -100,3 +100,7 @@ reading_said CheckProfile reading name rows other asks reads = reads
 reading_said (Plan options) reading name rows other asks reads = reads
 reading_said (Stress options) reading name rows other asks reads = reads
 reading_said (Profile options) reading name rows other asks reads = absurd (other asks.0)
+
+-- what the words after `profile` say of reading
+pub plain_is : (explain : Bool) (reading : Reading) → explain ≡ reading.explain → reading.strict ≡ false → record { explain = explain; strict = false } ≡ reading
+plain_is explain reading said plain = rw (said, sym plain) refl

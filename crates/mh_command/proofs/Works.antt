@@ -21,8 +21,8 @@ use Rattle.mh_text.specs.declared.fault.TextFault.{TextFault}
 use Rattle.mh_text.specs.declared.fault.TextFault.TheVariants.{Input, ReadFailed, WriteFailed, NoReader}
 use Rattle.mh_explain.specs.Unread.{first_unread, first_of_read}
 use Rattle.mh_explain.specs.declared.input.InputForm.{InputForm}
-use Rattle.mh_command.specs.Answers.{FailsIn, FailsOn, IsAnswerUnless, IsHelp, Works, WorksOn, fault_at, output_alone}
-use Rattle.mh_command.specs.Readings.{fault_explained, fault_told, form_of, refused_at, unread_in, ExplainsFault, IsExplained, IsRefusal}
+use Rattle.mh_command.specs.Answers.{FailsIn, FailsOn, IsAnswerUnless, IsFaultOf, IsHelp, Works, WorksOn, fault_at, output_alone}
+use Rattle.mh_command.specs.Readings.{fault_explained, fault_told, form_of, refused_at, unread_in, ExplainsAs, IsExplained, IsRefusal}
 use Rattle.mh_command.specs.declared.request.Asked.{Asked}
 use Rattle.mh_command.specs.declared.request.Request.{Request}
 use Rattle.mh_command.specs.declared.request.Request.TheVariants.{Run, Check, CheckProfile, Plan, Stress, Profile}
@@ -199,37 +199,37 @@ none_helped asked (Some bytes) (Ok status) help none = record { unexplained = λ
 none_helped asked (Some bytes) (Err e) help none = record { unexplained = λ plain. none; silent = tt; explained = inl none }
 
 -- want of memory is explained by nothing
-lines_of_memory : (form : Option InputForm) (input lines : List ℕ) → ExplainsFault form input None lines → ExplainsFault form input (Some NoMemory) lines
-lines_of_memory None input lines none = none
-lines_of_memory (Some form) input lines none = λ is. cc
+lines_of_memory : (form : Option InputForm) (request : Request) (input lines : List ℕ) → lines ≡ [] → ExplainsAs form request input NoMemory lines
+lines_of_memory None request input lines none = inl none
+lines_of_memory (Some form) request input lines none = λ is. cc
 
-memory_explained : (form : Option InputForm) (input help : List ℕ) → IsExplained form input None help → IsExplained form input (Some NoMemory) help
-memory_explained form input help (inl none) = inl none
-memory_explained form input help (inr (lines, notes, both, explains, read)) = inr (lines, notes, both, lines_of_memory form input lines explains, read)
+memory_explained : (request : Request) (input help : List ℕ) → IsExplained request input None help → IsExplained request input (Some NoMemory) help
+memory_explained request input help (inl none) = inl none
+memory_explained request input help (inr (lines, notes, both, explains, read)) = inr (lines, notes, both, lines_of_memory (form_of request) request input lines explains, read)
 
-memory_at : (found : Option ℕ) (form : Option InputForm) (input help : List ℕ) → IsExplained form input None help
-    → IsExplained form input (fault_explained found (Some (outside no_memory))) help
-memory_at (Some at) form input help explained = explained
-memory_at None form input help explained = memory_explained form input help explained
+memory_at : (found : Option ℕ) (request : Request) (input help : List ℕ) → IsExplained request input None help
+    → IsExplained request input (fault_explained found (Some (outside no_memory))) help
+memory_at (Some at) request input help explained = explained
+memory_at None request input help explained = memory_explained request input help explained
 
 -- the help for an input that is refused for a key, or whose keys could not be looked at
-module _ (asked : Asked) (bytes : List ℕ) (e : Fault) (help : List ℕ) (explained : IsExplained (form_of asked.request) bytes None help) where
-  refused_explained : (e ≡ outside no_memory) ⊎ IsRefusal asked bytes e → IsExplained (form_of asked.request) bytes (fault_explained (refused_at asked bytes) (Some e)) help
+module _ (asked : Asked) (bytes : List ℕ) (e : Fault) (help : List ℕ) (explained : IsExplained asked.request bytes None help) where
+  refused_explained : (e ≡ outside no_memory) ⊎ IsRefusal asked bytes e → IsExplained asked.request bytes (fault_explained (refused_at asked bytes) (Some e)) help
   refused_explained (inl memory) =
-      subst (λ f. IsExplained (form_of asked.request) bytes (fault_explained (refused_at asked bytes) (Some f)) help) (sym memory)
-      (memory_at (refused_at asked bytes) (form_of asked.request) bytes help explained)
+      subst (λ f. IsExplained asked.request bytes (fault_explained (refused_at asked bytes) (Some f)) help) (sym memory)
+      (memory_at (refused_at asked bytes) asked.request bytes help explained)
   refused_explained (inr (at, is, same)) =
-      subst (λ o. IsExplained (form_of asked.request) bytes (fault_explained o (Some e)) help) (sym is) explained
+      subst (λ o. IsExplained asked.request bytes (fault_explained o (Some e)) help) (sym is) explained
 
   pub refused_helped : (e ≡ outside no_memory) ⊎ IsRefusal asked bytes e → (asked.reading.explain ≡ false → help ≡ []) → IsHelp asked (Some bytes) (Err e) help
   refused_helped refused plain = record { unexplained = plain; silent = tt; explained = refused_explained refused }
 
 -- the help for the end of the work, over an input that is not refused
-module _ (asked : Asked) (bytes : List ℕ) (fault : Option InputFault) (help : List ℕ) (unrefused : refused_at asked bytes ≡ None) (explained : IsExplained (form_of asked.request) bytes fault help) where
-  explained_as : (o : Option Fault) → fault ≡ fault_told o → IsExplained (form_of asked.request) bytes (fault_explained (refused_at asked bytes) o) help
+module _ (asked : Asked) (bytes : List ℕ) (fault : Option InputFault) (help : List ℕ) (unrefused : refused_at asked bytes ≡ None) (explained : IsExplained asked.request bytes fault help) where
+  explained_as : (o : Option Fault) → fault ≡ fault_told o → IsExplained asked.request bytes (fault_explained (refused_at asked bytes) o) help
   explained_as o is =
-      subst (λ r. IsExplained (form_of asked.request) bytes (fault_explained r o) help) (sym unrefused)
-      (subst (λ (f : Option InputFault). IsExplained (form_of asked.request) bytes f help) is explained)
+      subst (λ r. IsExplained asked.request bytes (fault_explained r o) help) (sym unrefused)
+      (subst (λ (f : Option InputFault). IsExplained asked.request bytes f help) is explained)
 
   pub worked_helped : (end : Result ℕ Fault) → fault ≡ fault_told (fault_at end) → (asked.reading.explain ≡ false → help ≡ [])
       → (fault ≡ None → unread_in (form_of asked.request) bytes ≡ None → help ≡ []) → IsHelp asked (Some bytes) end help
@@ -286,3 +286,26 @@ module _ (asked : Asked) (old : Option (List ℕ)) (A B : Type 0) (formed : form
   unread_fails input k (inl memory) long failed = inl (Keeps-refl old, inl (ap outside memory))
   unread_fails input k (inr (inl is)) long failed = subst (λ kind. FailsIn asked input old old A B (outside kind)) (sym is) (too_long_fails input (long is))
   unread_fails input k (inr (inr is)) long failed = inl (Keeps-refl old, inr (inl (ap outside is, failed is)))
+
+-- an input that has the lines of a profile could not be kept
+form_is_none : (form : InputForm) → Some form ≡ None → ⊥
+form_is_none form is = cc
+
+formless_unread : (strict : Bool) (form : Option InputForm) (bytes : List ℕ) → form ≡ None → (if strict then unread_in form bytes else None) ≡ None
+formless_unread true None bytes formless = refl
+formless_unread true (Some form) bytes formless = absurd (form_is_none form formless)
+formless_unread false form bytes formless = refl
+
+formless_fails : (request : Request) (input old : Option (List ℕ)) (A B : Type 0) (e : Fault) → form_of request ≡ None → IsUnread (IsFaultOf request) input A e → FailsOn request input old old A B e
+formless_fails (Run options) input old A B e formless unread = absurd (form_is_none _ formless)
+formless_fails Check input old A B e formless unread = absurd (form_is_none _ formless)
+formless_fails CheckProfile input old A B e formless unread = inl (Keeps-refl old, unread)
+formless_fails (Plan options) input old A B e formless unread = absurd (form_is_none _ formless)
+formless_fails (Stress options) input old A B e formless unread = absurd (form_is_none _ formless)
+formless_fails (Profile options) input old A B e formless unread = inl (Keeps-refl old, unread)
+
+pub lines_fail : (asked : Asked) (input old : Option (List ℕ)) (A B : Type 0) (e : Fault) → form_of asked.request ≡ None → IsUnread (IsFaultOf asked.request) input A e
+    → FailsIn asked input old old A B e
+lines_fail asked input old A B e formless unread =
+    fails_plain asked (λ bytes. formless_unread asked.reading.strict (form_of asked.request) bytes formless) input old old A B e
+    (formless_fails asked.request input old A B e formless unread)

@@ -89,6 +89,15 @@ IsAnswerOf (request.Plan options) = IsPlanAnswer options
 IsAnswerOf (request.Stress options) = IsStressAnswer options
 IsAnswerOf (request.Profile options) = IsProfileAnswer options
 
+-- the first fault of the input of a request
+abbrev pub IsFaultOf : Request → List ℕ → Fault → Type 0
+IsFaultOf (request.Run options) = IsScriptFault
+IsFaultOf request.Check = IsClaimFault
+IsFaultOf request.CheckProfile = claim.IsReadClaimFault
+IsFaultOf (request.Plan options) = IsProblemFault
+IsFaultOf (request.Stress options) = IsScriptFault
+IsFaultOf (request.Profile options) = IsProfileFault
+
 -- an input is refused where one of its keys stands, or else there is an answer of the work
 abbrev pub IsAnswerUnless : Option ℕ → Request → List ℕ → Answer → Type 0
 IsAnswerUnless (Some at) request input answer = answer ≡ turned_down (unread_fault at)
@@ -103,7 +112,7 @@ IsAnswerTo asked input answer = IsAnswerUnless (refused_at asked input) asked.re
 pub record IsBeside (asked : Asked) (input : List ℕ) (fault : Option Fault) (help : List ℕ) : Type 0 where
   pub unexplained : asked.reading.explain ≡ false → help ≡ []
   pub silent : fault ≡ None → unread_in (form_of asked.request) input ≡ None → help ≡ []
-  pub explained : IsExplained (form_of asked.request) input (fault_explained (refused_at asked input) fault) help
+  pub explained : IsExplained asked.request input (fault_explained (refused_at asked input) fault) help
 
 -- The status is that of such an answer to the input, and its texts were appended to both streams.
 abbrev pub Answers : Asked → Option (List ℕ) → ℕ → Option (List ℕ) → Option (List ℕ) → Option (List ℕ) → Option (List ℕ) → Type 0
@@ -162,4 +171,4 @@ fault_at (Err e) = Some e
 pub record IsHelp (asked : Asked) (input : Option (List ℕ)) (end : Result ℕ Fault) (help : List ℕ) : Type 0 where
   pub unexplained : asked.reading.explain ≡ false → help ≡ []
   pub silent : IfOk end (λ status. IfSome input (λ bytes. unread_in (form_of asked.request) bytes ≡ None → help ≡ []))
-  pub explained : IfSome input (λ bytes. IsExplained (form_of asked.request) bytes (fault_explained (refused_at asked bytes) (fault_at end)) help)
+  pub explained : IfSome input (λ bytes. IsExplained asked.request bytes (fault_explained (refused_at asked bytes) (fault_at end)) help)

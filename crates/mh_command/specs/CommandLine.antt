@@ -48,9 +48,13 @@ rounds_rule = record (new_rule (codes "rounds")) {
 abbrev pub flag_rule : List ℕ → Rule
 flag_rule name = record (new_rule name) { long = Some name; action = Some SetTrue }
 
--- any subcommand takes `--explain` and `--strict`
+-- any subcommand takes `--explain`
+abbrev pub with_explain : App → App
+with_explain app = with_rule app (flag_rule (codes "explain"))
+
+-- and any but `profile` takes `--strict`
 abbrev pub with_reading : App → App
-with_reading app = with_rule (with_rule app (flag_rule (codes "explain"))) (flag_rule (codes "strict"))
+with_reading app = with_rule (with_explain app) (flag_rule (codes "strict"))
 
 abbrev pub run_app : App
 run_app = with_rule (with_reading (new_app (codes "run"))) (flag_rule (codes "report"))
@@ -67,7 +71,7 @@ stress_app =
     with_rule (with_rule (with_rule (with_reading (new_app (codes "stress"))) callers_rule) rounds_rule) (flag_rule (codes "report"))
 
 abbrev pub profile_app : App
-profile_app = with_rule (with_rule (new_app (codes "profile")) workers_rule) (flag_rule (codes "certificate"))
+profile_app = with_rule (with_rule (with_explain (new_app (codes "profile"))) workers_rule) (flag_rule (codes "certificate"))
 
 -- the program with its first two subcommands
 abbrev pub plain_app : App
@@ -131,18 +135,19 @@ pub record AreStressed (options : StressOptions) (rows : List Row) : Type 0 wher
   pub report : one_of (codes "report") rows ≡ Some (truth_text options.report)
   pub lawful : AreLawful options
 
--- what was found after any subcommand says how its input is read
+-- what was found after any subcommand but `profile` says how its input is read
 pub record IsRead (reading : Reading) (rows : List Row) : Type 0 where
   pub explain : one_of (codes "explain") rows ≡ Some (truth_text reading.explain)
   pub strict : one_of (codes "strict") rows ≡ Some (truth_text reading.strict)
 
--- nothing is explained, and no key refused
-abbrev pub plain : Reading
-plain = record { explain = false; strict = false }
+-- what was found after `profile` says whether a fault is explained; no key is refused
+pub record IsReadPlainly (reading : Reading) (rows : List Row) : Type 0 where
+  pub explain : one_of (codes "explain") rows ≡ Some (truth_text reading.explain)
+  pub strict : reading.strict ≡ false
 
--- what was found after the subcommand of a request says how its input is read; that of a profile is read as it is
+-- what was found after the subcommand of a request says how its input is read
 abbrev pub IsReadFor : Request → Reading → List Row → Type 0
-IsReadFor (Profile options) reading rows = reading ≡ plain
+IsReadFor (Profile options) reading rows = IsReadPlainly reading rows
 IsReadFor (Run options) reading rows = IsRead reading rows
 IsReadFor Check reading rows = IsRead reading rows
 IsReadFor CheckProfile reading rows = IsRead reading rows
@@ -171,9 +176,9 @@ abbrev pub IsNamed : Asked → Option (List ℕ × List Row) → Type 0
 IsNamed asked (Some (name, rows)) = IsRequest asked.request name rows × IsReadFor asked.request asked.reading rows
 IsNamed asked None = ⊥
 
--- a subcommand after which nothing says to explain, which nothing does after `profile`, or none
+-- a subcommand after which nothing says to explain, or none
 abbrev pub SaysNoExplanation : Option (List ℕ × List Row) → Type 0
-SaysNoExplanation (Some (name, rows)) = IsUnexplained rows ⊎ (name ≡ codes "profile")
+SaysNoExplanation (Some (name, rows)) = IsUnexplained rows
 SaysNoExplanation None = ⊤
 
 -- the word of an option that is asked for

@@ -1,14 +1,19 @@
 -- What the options of reading ask.
-use Rattle.std.specs.Prelude.{◌≡◌, ◌⊎◌, ◌++◌, ℕ, List, [], Option, Some, None, if◌then◌else◌}
+use Rattle.std.specs.Prelude.{◌≡◌, ◌⊎◌, ◌∷◌, ◌++◌, ℕ, List, [], Option, Some, None, codes, if◌then◌else◌}
+use Rattle.serde_json.specs.Data.{string}
+use Rattle.serde_json.specs.Written.{compact_text}
 use Rattle.mh_text.specs.declared.fault.Fault.{Fault}
 use Rattle.mh_text.specs.declared.fault.InputFault.{InputFault}
-use Rattle.mh_text.specs.declared.fault.InputFault.TheVariants.{BadShape}
+use Rattle.mh_text.specs.declared.fault.InputFault.TheVariants.{BadShape, UnknownPoint}
 use Rattle.mh_text.specs.declared.fault.TextFault.{TextFault}
 use Rattle.mh_text.specs.declared.fault.TextFault.TheVariants.{Input, ReadFailed, WriteFailed, NoReader}
 use Rattle.mh_explain.specs.Explanations.{Explains}
 use Rattle.mh_explain.specs.Unread.{first_unread}
 use Rattle.mh_explain.specs.declared.input.InputForm.{InputForm}
 use Rattle.mh_explain.specs.declared.input.InputForm.TheVariants.{Script, Problem, Claim}
+use Rattle.mh_profile.specs.Claims.{IsParted}
+use Rattle.mh_profile.specs.Faulty.{IsFaulty, IsUnknown}
+use Rattle.mh_profile.specs.declared.faulty.FaultyLine.{FaultyLine}
 use Rattle.mh_command.specs.declared.request.Asked.{Asked}
 use Rattle.mh_command.specs.declared.request.Request.{Request}
 use Rattle.mh_command.specs.declared.request.Request.TheVariants.{Run, Check, CheckProfile, Plan, Stress, Profile}
@@ -55,14 +60,37 @@ abbrev pub fault_explained : Option ℕ → Option Fault → Option InputFault
 fault_explained (Some at) fault = None
 fault_explained None fault = fault_told fault
 
--- lines that explain a fault of an input; there are none where there is no fault, and where the input has no form
-abbrev pub ExplainsFault : Option InputForm → List ℕ → Option InputFault → List ℕ → Type 0
-ExplainsFault (Some form) input (Some e) lines = Explains form input e lines
-ExplainsFault (Some form) input None lines = lines ≡ []
-ExplainsFault None input fault lines = lines ≡ []
+-- the lines of the profile in an input
+abbrev pub IsProfileIn : Request → List ℕ → List ℕ → Type 0
+IsProfileIn CheckProfile input profile = (line : List ℕ) × IsParted input profile line
+IsProfileIn (Profile options) input profile = profile ≡ input
+IsProfileIn (Run options) input profile = profile ≡ input
+IsProfileIn Check input profile = profile ≡ input
+IsProfileIn (Plan options) input profile = profile ≡ input
+IsProfileIn (Stress options) input profile = profile ≡ input
+
+-- lines begin with the first need of a line that is the name of no point before it
+abbrev pub NamesNeed : FaultyLine → List ℕ → Type 0
+NamesNeed line text =
+    (name rest : List ℕ) × IsUnknown line name × (text ≡ codes "  found: " ++ (compact_text (string name) ++ (10 ∷ rest)))
+
+-- Lines that explain a fault of a profile: none; or some for the line that has it, which name a need that no earlier line has.
+abbrev pub ExplainsProfile : Request → List ℕ → InputFault → List ℕ → Type 0
+ExplainsProfile request input e text =
+    (text ≡ []) ⊎ ((profile : List ℕ) × (line : FaultyLine) × IsProfileIn request input profile × IsFaulty profile e line × (e ≡ UnknownPoint → NamesNeed line text))
+
+-- the same of an input that is read as a form, or has the lines of a profile
+abbrev pub ExplainsAs : Option InputForm → Request → List ℕ → InputFault → List ℕ → Type 0
+ExplainsAs (Some form) request input e lines = Explains form input e lines
+ExplainsAs None request input e lines = ExplainsProfile request input e lines
+
+-- lines that explain a fault of an input; there are none where there is no fault
+abbrev pub ExplainsFault : Request → List ℕ → Option InputFault → List ℕ → Type 0
+ExplainsFault request input (Some e) lines = ExplainsAs (form_of request) request input e lines
+ExplainsFault request input None lines = lines ≡ []
 
 -- Such lines, and behind them those of the keys that nothing reads, none where each is read; or nothing, where memory ran out for them.
-abbrev pub IsExplained : Option InputForm → List ℕ → Option InputFault → List ℕ → Type 0
-IsExplained form input fault help =
+abbrev pub IsExplained : Request → List ℕ → Option InputFault → List ℕ → Type 0
+IsExplained request input fault help =
     (help ≡ [])
-    ⊎ ((lines notes : List ℕ) × (help ≡ lines ++ notes) × ExplainsFault form input fault lines × (unread_in form input ≡ None → notes ≡ []))
+    ⊎ ((lines notes : List ℕ) × (help ≡ lines ++ notes) × ExplainsFault request input fault lines × (unread_in (form_of request) input ≡ None → notes ≡ []))

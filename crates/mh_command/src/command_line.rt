@@ -59,18 +59,23 @@ fn perform<T: Threads + Wait + Sync, R: Read, W: Write, E: Write>(
 ///
 /// `mhlink run` reads a script from `reader`, and writes the line of each reply to `out`; it takes
 /// `--report`. `mhlink check` reads a problem and a plan, and writes to `out` whether the plan is
-/// accepted; with `--profile` it reads a profile, and behind it a plan. `mhlink plan` reads a problem, and writes its best plan to `out`; it takes `--workers
-/// N`, N from 1 to 64, `--certificate` and `--phases`, and starts threads by `rt`. `mhlink stress`
-/// reads a script, runs its calls in threads, and writes the sums of their hits to `out`; it takes
-/// `--workers N`, N from 1 to 64, `--rounds N`, N from 1 to 1,000,000, and `--report`. `mhlink
-/// profile` reads a profile, and writes to `out` what becomes of each of its names in a best plan;
-/// it takes `--workers N`, N from 1 to 64, and `--certificate`. A fault is one line on `err`.
+/// accepted; with `--profile` it reads a profile, and behind it a plan. `mhlink plan` reads a
+/// problem, and writes its best plan to `out`; it takes `--workers N`, N from 1 to 64,
+/// `--certificate` and `--phases`, and starts threads by `rt`. `mhlink stress` reads a script, runs
+/// its calls in threads, and writes the sums of their hits to `out`; it takes `--workers N`, N from
+/// 1 to 64, `--rounds N`, N from 1 to 1,000,000, and `--report`. `mhlink profile` reads a profile,
+/// line by line, and writes to `out` what becomes of each of its names in a best plan; it takes
+/// `--workers N`, N from 1 to 64, and `--certificate`, and starts threads too. A fault is one line
+/// on `err`.
 ///
-/// Each but `profile` takes `--explain` and `--strict`, which look at no line of a profile. With `--explain` the line of a fault is followed on `err`
-/// by lines that say where it is and why (see `mh_explain::explanation`), and then by those of the
-/// keys that nothing reads (see `mh_explain::unread_keys`), which are also written where the input
-/// is accepted. With `--strict` an input with such a key is refused before anything runs, by the
-/// fault `BadShape` in the event of the first one, or at 0.
+/// Each takes `--explain`, and each but `profile` takes `--strict`. With `--explain` the input is
+/// read whole first, and the line of a fault is followed on `err` by lines that explain it. They
+/// say where it is and why (see `mh_explain::explanation`), and behind them stand those of the keys
+/// that nothing reads (see `mh_explain::unread_keys`), which are also written where the input is
+/// accepted. Of a profile they say what the line that has the fault has there and why it is one,
+/// and no key of it is looked at. With `--strict` an input with a key that nothing reads is refused
+/// before anything runs, by the fault `BadShape` in the event of the first one, or at 0; with
+/// `check --profile` it says nothing.
 ///
 /// The statuses: 0 done, also help and the version, which go to `out`; 1 the input is refused, or its
 /// plan; 2 the command line is wrong, and nothing is read; 3 a read, a write or a flush failed; 4

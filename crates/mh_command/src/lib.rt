@@ -9,6 +9,7 @@
 mod answering;
 mod command_line;
 mod flags;
+mod line_reasons;
 mod reading;
 mod request;
 mod status;

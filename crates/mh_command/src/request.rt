@@ -1,5 +1,5 @@
 //! What a command line asks for.
-ghost use Rattle.std.specs.Prelude.{◌≡◌, ◌≢◌, ◌<◌, ◌≤◌, ◌⊎◌, [], ◌∷◌, List, ℕ, None, Some, false, OnOk, IfOk, IfErr, IfSome, IsTrue, codes, map, true};
+ghost use Rattle.std.specs.Prelude.{◌≡◌, ◌<◌, ◌≤◌, ◌⊎◌, [], ◌∷◌, List, ℕ, None, Some, false, OnOk, IfOk, IfErr, IfSome, codes, map, true};
 ghost use Rattle.clap.specs.Words.{app_of, fault_of, found_of, kind_of, new_app, rows_of, rule_of, subcommand_rows_of, with_rule};
 ghost use Rattle.clap.specs.declared.builder.command.Command.TheViews.{out-Command};
 ghost use Rattle.clap.specs.declared.error.kind.ErrorKind.{ErrorKind};
@@ -14,7 +14,7 @@ ghost use Rattle.mh_command.specs.declared.reading.Reading.{Reading};
 ghost use Rattle.mh_command.specs.declared.request.Asked.{Asked};
 
 use crate::flags::{flag, with_option};
-use crate::reading::{Reading, reading_of, with_reading};
+use crate::reading::{Reading, plain_reading_of, reading_of, with_explain, with_reading};
 use clap::{Arg, ArgMatches, Command, Error, value_parser};
 use mh_explain::InputForm;
 use mh_profile::ProfileOptions;
@@ -63,23 +63,19 @@ pub struct Asked {
 
 impl Asked {
     /// Whether the input is read whole before the work: its fault is to be explained, or its keys
-    /// are looked at. A profile is read as it comes.
+    /// are looked at.
     pub(crate) fn reads_whole(self) -> bool
-        ensures formed { IsTrue result → form_of self.request ≢ None }
         ensures unrefused { result ≡ false → (input : List ℕ) → refused_at self input ≡ None }
     {
-        match self.request {
-            Request::CheckProfile | Request::Profile(_) => false,
-            _ => !self.reading.is_plain(),
-        }
+        !self.reading.is_plain()
     }
 }
 
 /// What `mhlink --help` ends with.
 const AFTER_HELP: &str = "\
-With --explain a command says where a fault of its input is and why it is one, and names
-the keys that nothing reads; with --strict it refuses an input that has such a key. The
-lines of a profile are looked at by neither, and `mhlink profile` takes neither.
+With --explain a command says where a fault of its input is and why it is one. All but
+`profile` and `check --profile` then name the keys that nothing reads too, and refuse an
+input that has such a key with --strict.
 
 Examples:
   mhlink run --explain < examples/first-calls.json
@@ -107,8 +103,8 @@ const AFTER_CHECK: &str = "\
 Reads a JSON object with a problem and a plan from standard input, and writes
 `accepted`, or `refused` with the number and the name of the first part that is wrong.
 With --profile it reads a profile, as `mhlink profile` does, and behind it, as its last
-line, a plan, as `mhlink profile --certificate` writes it; --explain and --strict then
-say nothing.
+line, a plan, as `mhlink profile --certificate` writes it. No key of these is looked at,
+so --strict then says nothing, and --explain speaks of faults of the profile alone.
 
 Examples:
   mhlink check < examples/check-shared-point.json
@@ -136,10 +132,12 @@ Example:
 const AFTER_PROFILE: &str = "\
 Reads a profile from standard input, a line of JSON for each point and each link by name, a
 point before the links that need it, and writes what its best plan takes, what it leaves and
-why, and what each point gets. It takes 1048576 points and links, and 64 MiB in all.
+why, and what each point gets. It takes 1048576 points and links, and 64 MiB in all. A
+fault is one line on standard error with the number of its line, behind which --explain
+says what that line has there and why it is one. With it the input is held in memory.
 
 Example:
-  mhlink profile --certificate < examples/profiles/shop.jsonl";
+  mhlink profile --explain --certificate < examples/profiles/shop.jsonl";
 
 fn check_command<'a>(alloc: Global) -> Result<Command<'a>, AllocError>
     ensures app { IfOk result (λ c. app_of c ≡ check_app) }
@@ -266,6 +264,8 @@ fn profile_command<'a>(alloc: Global) -> Result<Command<'a>, AllocError>
         "certificate",
         "Writes the plan as JSON too, by number, with its flow",
     );
+    let help = "Tells of a fault what its line has there and why it is one";
+    let command = with_explain(alloc, command, help)?;
     let command = with_option(command, workers_option(alloc))?;
     let command = with_option(command, certificate)?;
     Ok(command)
@@ -431,7 +431,7 @@ fn request_of(name: &str, matches: &ArgMatches) -> Option<Request>
     }
 }
 
-/// How the input of the subcommand of this name is read. That of a profile is read as it is.
+/// How the input of the subcommand of this name is read. No key of a profile is refused.
 fn reading_for(name: &str, matches: &ArgMatches) -> Reading
     ensures value { (request : Request) → (reading : Reading)
         → IsRequest request name.now (rows_of (found_of matches.now))
@@ -440,10 +440,7 @@ fn reading_for(name: &str, matches: &ArgMatches) -> Reading
         → result.explain ≡ false }
 {
     match name {
-        "profile" => Reading {
-            explain: false,
-            strict: false,
-        },
+        "profile" => plain_reading_of(matches),
         _ => reading_of(matches),
     }
 }

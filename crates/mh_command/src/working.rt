@@ -1,19 +1,20 @@
 //! Work for what is asked, over an input that is read whole first where the options of reading want
 //! it.
-ghost use Rattle.std.specs.Prelude.{◌≡◌, ◌≢◌, ◌<◌, ◌⊎◌, [], None, Some, false, string_bytes, IfOk, IfErr, OnOk};
+ghost use Rattle.std.specs.Prelude.{◌≡◌, ◌≢◌, ◌<◌, ◌⊎◌, [], None, Some, false, string_bytes, IfOk, IfErr, IfSome, OnOk};
 ghost use Rattle.mh_text.specs.Bytes.{HasFailed};
-ghost use Rattle.mh_text.specs.Gives.{no_memory, IsHonest};
-ghost use Rattle.mh_text.specs.Output.{outside};
+ghost use Rattle.mh_text.specs.Gives.{no_memory, IsHonest, IsHonestReading};
+ghost use Rattle.mh_text.specs.Output.{outside, IsUnread};
 ghost use Rattle.mh_text.specs.declared.fault.TextFault.TheVariants.{ReadFailed};
-ghost use Rattle.mh_command.specs.Answers.{fault_at, Works, WorksOn, FailsIn, FailsOn, IsHelp};
+ghost use Rattle.mh_command.specs.Answers.{fault_at, Works, WorksOn, FailsIn, FailsOn, IsFaultOf, IsHelp};
 ghost use Rattle.mh_command.specs.CommandLine.{HasWorkers};
 ghost use Rattle.mh_command.specs.Readings.{fault_told, form_of, refused_at, unread_in, ExplainsFault, IsExplained, IsRefusal};
 
+use crate::line_reasons::line_reasons;
 use crate::request::{Asked, Request};
 use crate::status::{DONE, status_of_verdict};
 use mh_core::NoMemory;
 use mh_explain::{UnreadKeys, explanation, unread_keys};
-use mh_profile::{check_profile, plan_profile};
+use mh_profile::{check_profile, keep_claim, keep_profile, plan_profile};
 use mh_stress::stress_bytes;
 use mh_text::{
     Fault, InputFault, TextFault, Watched, check_bytes, plan_bytes, read_input, run_bytes,
@@ -158,19 +159,19 @@ fn refuse_unread(alloc: Global, asked: Asked, input: &[u8]) -> Result<(), Fault>
     }
 }
 
-/// The lines that explain a fault of an input; none explain that of a profile.
+/// The lines that explain a fault of an input.
 fn reasons(
     alloc: Global,
     request: Request,
     input: &[u8],
     fault: InputFault,
 ) -> Result<String, NoMemory>
-    ensures explained { IfOk result (λ lines. ExplainsFault (form_of request) input.now (Some fault)
+    ensures explained { IfOk result (λ lines. ExplainsFault request input.now (Some fault)
         (string_bytes lines)) }
 {
     match request.form() {
         Some(form) => explanation(alloc, form, input, fault),
-        None => Ok(String::new(alloc)),
+        None => line_reasons(alloc, request, input, fault),
     }
 }
 
@@ -181,7 +182,7 @@ fn reasons_where(
     input: &[u8],
     fault: Option<InputFault>,
 ) -> Result<String, NoMemory>
-    ensures explained { IfOk result (λ lines. ExplainsFault (form_of request) input.now fault
+    ensures explained { IfOk result (λ lines. ExplainsFault request input.now fault
         (string_bytes lines)) }
     ensures silent { IfOk result (λ lines. fault ≡ None → string_bytes lines ≡ []) }
 {
@@ -212,7 +213,7 @@ fn explain(
 ) -> Result<String, NoMemory>
     ensures silent { IfOk result (λ help. fault ≡ None
         → unread_in (form_of asked.request) input.now ≡ None → string_bytes help ≡ []) }
-    ensures explained { IfOk result (λ help. IsExplained (form_of asked.request) input.now fault
+    ensures explained { IfOk result (λ help. IsExplained asked.request input.now fault
         (string_bytes help)) }
 {
     let mut help = reasons_where(alloc, asked.request, input, fault)?;
@@ -226,7 +227,7 @@ fn help_for(alloc: Global, asked: Asked, input: &[u8], fault: Option<InputFault>
     ensures unexplained { asked.reading.explain ≡ false → string_bytes result ≡ [] }
     ensures silent { fault ≡ None → unread_in (form_of asked.request) input.now ≡ None
         → string_bytes result ≡ [] }
-    ensures explained { IsExplained (form_of asked.request) input.now fault (string_bytes result) }
+    ensures explained { IsExplained asked.request input.now fault (string_bytes result) }
 {
     if asked.reading.explain {
         if let Ok(help) = explain(alloc, asked, input, fault) {
@@ -311,6 +312,58 @@ fn work_whole<T: Threads + Wait + Sync, R: Read, W: Write>(
     }
 }
 
+/// The lines of a profile, whole, with the plan behind them where that is checked.
+fn keep_lines<R: Read>(
+    alloc: Global,
+    request: Request,
+    reader: &mut Watched<R>,
+) -> Result<Vec<u8>, Fault>
+    requires formless { form_of request ≡ None }
+    ensures ok { IfOk result (λ input. IfSome (R.remaining reader.old.inner)
+        (λ bytes. input.items ≡ bytes)) }
+    ensures failed { IfErr result (IsUnread (IsFaultOf request) (R.remaining reader.old.inner)
+        (HasFailed reader.old.failures reader.new.failures)) }
+    ensures honest { IsHonestReading result reader.old.failures reader.new.failures }
+{
+    match request {
+        Request::CheckProfile => keep_claim(alloc, reader),
+        // Of these only a profile has no form.
+        Request::Run(_)
+        | Request::Check
+        | Request::Plan(_)
+        | Request::Stress(_)
+        | Request::Profile(_) => keep_profile(alloc, reader),
+    }
+}
+
+/// Reads the lines of a profile whole, and does what is asked over them.
+fn work_lines<T: Threads + Wait + Sync, R: Read, W: Write>(
+    rt: &T,
+    alloc: Global,
+    asked: Asked,
+    reader: &mut Watched<R>,
+    out: &mut Watched<W>,
+) -> Outcome
+    requires formless { form_of asked.request ≡ None }
+    requires workers { HasWorkers asked.request }
+    ensures works { IfOk result.end (Works asked (R.remaining reader.old.inner)
+        (W.contents out.old.inner) (W.contents out.new.inner)) }
+    ensures small { IfOk result.end (λ status. status < 2) }
+    ensures fails { IfErr result.end (FailsIn asked (R.remaining reader.old.inner)
+        (W.contents out.old.inner) (W.contents out.new.inner)
+        (HasFailed reader.old.failures reader.new.failures)
+        (HasFailed out.old.failures out.new.failures)) }
+    ensures honest { IsHonest result.end reader.old.failures reader.new.failures
+        out.old.failures out.new.failures }
+    ensures help { IsHelp asked (R.remaining reader.old.inner) result.end
+        (string_bytes result.help) }
+{
+    match keep_lines(alloc, asked.request, reader) {
+        Ok(input) => work_on(rt, alloc, asked, &input, out),
+        Err(fault) => Outcome::alone(alloc, Err(fault)),
+    }
+}
+
 /// Does what is asked, up to the last flush.
 pub(crate) fn work_asked<T: Threads + Wait + Sync, R: Read, W: Write>(
     rt: &T,
@@ -332,9 +385,11 @@ pub(crate) fn work_asked<T: Threads + Wait + Sync, R: Read, W: Write>(
     ensures help { IsHelp asked (R.remaining reader.old.inner) result.end
         (string_bytes result.help) }
 {
-    if asked.reads_whole() {
-        work_whole(rt, alloc, asked, reader, out)
-    } else {
-        Outcome::alone(alloc, work(rt, alloc, asked.request, reader, out))
+    if !asked.reads_whole() {
+        return Outcome::alone(alloc, work(rt, alloc, asked.request, reader, out));
+    }
+    match asked.request.form() {
+        Some(_) => work_whole(rt, alloc, asked, reader, out),
+        None => work_lines(rt, alloc, asked, reader, out),
     }
 }

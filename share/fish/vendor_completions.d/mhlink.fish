@@ -29,6 +29,7 @@ complete -c mhlink -n '__fish_seen_subcommand_from stress; and not __fish_seen_s
 complete -c mhlink -n '__fish_seen_subcommand_from stress; and not __fish_seen_subcommand_from help' -l rounds -x -a '1 10 100 1000 10000 100000 1000000' -d 'How often each worker makes its calls, from 1 to 1000000 [default: 1]'
 complete -c mhlink -n '__fish_seen_subcommand_from stress; and not __fish_seen_subcommand_from help' -l report -d 'Writes what stands then at each point, site and link'
 complete -c mhlink -n '__fish_seen_subcommand_from stress; and not __fish_seen_subcommand_from help' -s h -l help -d 'Print help'
+complete -c mhlink -n '__fish_seen_subcommand_from profile; and not __fish_seen_subcommand_from help' -l explain -d 'Tells of a fault what its line has there and why it is one'
 complete -c mhlink -n '__fish_seen_subcommand_from profile; and not __fish_seen_subcommand_from help' -l workers -x -a '1 2 4 8 16 32 64' -d 'How many workers plan, from 1 to 64 [default: 1]'
 complete -c mhlink -n '__fish_seen_subcommand_from profile; and not __fish_seen_subcommand_from help' -l certificate -d 'Writes the plan as JSON too, by number, with its flow'
 complete -c mhlink -n '__fish_seen_subcommand_from profile; and not __fish_seen_subcommand_from help' -s h -l help -d 'Print help'

@@ -1,0 +1,205 @@
+//! Why a line of a profile has its fault.
+ghost use Rattle.std.specs.Prelude.{string_bytes, IfOk};
+ghost use Rattle.mh_command.specs.Readings.{ExplainsProfile, IsProfileIn, NamesNeed};
+
+use crate::request::Request;
+use mh_core::NoMemory;
+use mh_explain::nearest;
+use mh_profile::{FaultyLine, PointNames, claimed_lines, faulty_line, quoted};
+use mh_text::InputFault;
+use serde_json::Value;
+use std::alloc::Global;
+use std::str;
+
+/// How many characters of a line are shown.
+const MOST_SHOWN: usize = 120;
+
+/// By how many bytes a name may be longer or shorter than one that is asked for.
+const MOST_BYTES: usize = 8;
+
+/// How many pairs of bytes are compared at most.
+const MOST_PAIRS: u64 = 1 << 28;
+
+/// Why an amount is none.
+const AMOUNT: &str = "is a whole number from 0 to 9223372036854775807";
+
+/// The lines of the profile that the input of a request has.
+fn profile_in(request: Request, input: &[u8]) -> &[u8]
+    ensures value { IsProfileIn request input.now result.now }
+{
+    match request {
+        Request::CheckProfile => claimed_lines(input),
+        _ => input,
+    }
+}
+
+/// Text as it is, with `?` for each control character, cut where it is long.
+fn cut(alloc: Global, text: &str) -> Result<String, NoMemory> {
+    let mut shown = String::new(alloc);
+    for (i, character) in text.chars().enumerate() {
+        if i >= MOST_SHOWN {
+            shown.push_str("..")?;
+            break;
+        }
+        shown.push(if character.is_control() {
+            '?'
+        } else {
+            character
+        })?;
+    }
+    Ok(shown)
+}
+
+/// The beginning of a line.
+fn beginning(alloc: Global, bytes: &[u8]) -> Result<String, NoMemory> {
+    match str::from_utf8(bytes) {
+        Ok(text) => cut(alloc, text),
+        Err(_) => Ok(String::from_str(alloc, "bytes that are no UTF-8")?),
+    }
+}
+
+/// The names that may be meant by one: of about its length, and as many as are soon compared.
+fn names_like<'a>(
+    alloc: Global,
+    points: &'a PointNames,
+    name: &str,
+) -> Result<Vec<&'a str>, NoMemory> {
+    let bytes = name.len() as u64;
+    let most = MOST_PAIRS / bytes.saturating_mul(bytes).max(1);
+    let mut names = Vec::new(alloc);
+    for point in 0..points.len() {
+        let other = points.name(point);
+        if (names.len() as u64) < most && other.len().abs_diff(name.len()) <= MOST_BYTES {
+            names.push(other)?;
+        }
+    }
+    Ok(names)
+}
+
+/// The question whether a name that is near is meant, and nothing where none is.
+fn meant(alloc: Global, points: &PointNames, name: &str) -> Result<String, NoMemory> {
+    let names = names_like(alloc, points, name)?;
+    match nearest(alloc, name, names.as_slice())? {
+        Some(near) => {
+            let near = quoted(alloc, near)?;
+            Ok(format!(in alloc; "; is {near} meant?")?)
+        }
+        None => Ok(String::new(alloc)),
+    }
+}
+
+/// The lines for a need that is the name of no earlier point.
+fn unknown_reasons(alloc: Global, line: &FaultyLine) -> Result<String, NoMemory>
+    ensures named { IfOk result (λ text. NamesNeed line.now (string_bytes text)) }
+{
+    let Some(name) = line.unknown_need(alloc) else {
+        return Err(NoMemory);
+    };
+    let found = quoted(alloc, name.as_str())?;
+    let meant = meant(alloc, &line.points, name.as_str())?;
+    Ok(format!(in alloc; "  found: {found}\n  why:   no earlier line has this point{meant}\n")?)
+}
+
+/// Why a line is no JSON.
+fn why_no_json(alloc: Global, bytes: &[u8]) -> Result<String, NoMemory> {
+    match Value::from_slice(alloc, bytes) {
+        Ok(_) => Ok(String::new(alloc)),
+        Err(error) => {
+            let column = error.column();
+            Ok(format!(in alloc; "this is no JSON from column {column} on")?)
+        }
+    }
+}
+
+/// Whether a value has a whole number in range at a key.
+fn is_amount(value: &Value, key: &str) -> bool {
+    match value.get(key) {
+        Some(amount) => matches!(amount.as_u64(), Some(number) if number <= 0x7fff_ffff_ffff_ffff),
+        None => false,
+    }
+}
+
+/// Why the amount at a key is none.
+fn why_no_amount(alloc: Global, value: &Value, key: &str) -> Result<String, NoMemory> {
+    match value.get(key) {
+        Some(_) => Ok(format!(in alloc; "\"{key}\" {AMOUNT}")?),
+        None => Ok(format!(in alloc; "\"{key}\" is missing")?),
+    }
+}
+
+/// Why a line that has a link is of another form.
+fn why_no_link(alloc: Global, value: &Value) -> Result<String, NoMemory> {
+    if !is_amount(value, "gain") {
+        return why_no_amount(alloc, value, "gain");
+    }
+    if value.get("charge").is_some() && !is_amount(value, "charge") {
+        return why_no_amount(alloc, value, "charge");
+    }
+    if let Some(eligible) = value.get("eligible") {
+        if eligible.as_bool().is_none() {
+            return Ok(String::from_str(alloc, "\"eligible\" is true or false")?);
+        }
+    }
+    Ok(String::from_str(alloc, "\"needs\" is a list of names")?)
+}
+
+/// Why a line is of another form.
+fn why_bad(alloc: Global, value: &Value) -> Result<String, NoMemory> {
+    let Some(name) = value.get("point").or(value.get("link")) else {
+        return Ok(String::from_str(alloc, "a line is an object with \"point\" or \"link\"")?);
+    };
+    if name.as_str().is_none() {
+        return Ok(String::from_str(alloc, "a name is a string")?);
+    }
+    match value.get("point") {
+        Some(_) => why_no_amount(alloc, value, "cost"),
+        None => why_no_link(alloc, value),
+    }
+}
+
+/// Why a line has a fault that no name explains.
+fn why(alloc: Global, bytes: &[u8], fault: InputFault) -> Result<String, NoMemory> {
+    match fault {
+        InputFault::NotJson => why_no_json(alloc, bytes),
+        InputFault::BadShape => match Value::from_slice(alloc, bytes) {
+            Ok(value) => why_bad(alloc, &value),
+            Err(_) => Err(NoMemory),
+        },
+        InputFault::PointTwice => Ok(String::from_str(
+            alloc,
+            "an earlier line has a point of this name",
+        )?),
+        InputFault::NeedTwice => Ok(String::from_str(alloc, "it needs a point twice")?),
+        _ => Ok(String::from_str(
+            alloc,
+            "there are 1048576 of these already, the most that may be",
+        )?),
+    }
+}
+
+/// The lines for any other fault of a line.
+fn other_reasons(alloc: Global, bytes: &[u8], fault: InputFault) -> Result<String, NoMemory> {
+    let found = beginning(alloc, bytes)?;
+    let why = why(alloc, bytes, fault)?;
+    Ok(format!(in alloc; "  found: {found}\n  why:   {why}\n")?)
+}
+
+/// The lines that explain the fault of a line of a profile: what the line has there, and why it is
+/// a fault. There are none for a fault of no line of the profile.
+pub(crate) fn line_reasons(
+    alloc: Global,
+    request: Request,
+    input: &[u8],
+    fault: InputFault,
+) -> Result<String, NoMemory>
+    ensures explained { IfOk result (λ text. ExplainsProfile request input.now fault
+        (string_bytes text)) }
+{
+    let Some(line) = faulty_line(alloc, profile_in(request, input), fault) else {
+        return Ok(String::new(alloc));
+    };
+    match fault {
+        InputFault::UnknownPoint => unknown_reasons(alloc, &line),
+        _ => other_reasons(alloc, line.bytes.as_slice(), fault),
+    }
+}
