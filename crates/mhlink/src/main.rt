@@ -1,10 +1,18 @@
 //! The program `mhlink`: scripts of calls, retargetings and invalidations, and checks of plans.
 #![tactic(auto)]
 
+mod progress;
+
+use crate::progress::Progress;
 use mh_command::{COMMAND_LINE, NO_MEMORY, Watched, command};
-use std::io::{BufWriter, ErrorKind};
+use std::io::{BufWriter, ErrorKind, IsTerminal};
 use std::process::ExitCode;
 use std::{env, io};
+
+/// Whether the words ask for a profile, of which the first is the program's name.
+fn asks_profile(words: &[String]) -> bool {
+    matches!(words.get(1), Some(word) if word.as_str() == "profile")
+}
 
 fn main(rt: HostRuntime) -> io::Result<ExitCode> {
     let alloc = rt.alloc();
@@ -21,7 +29,9 @@ fn main(rt: HostRuntime) -> io::Result<ExitCode> {
     let Ok(out) = BufWriter::new(alloc, rt.stdout()) else {
         return Ok(ExitCode::from(NO_MEMORY));
     };
-    let mut reader = Watched::new(rt.stdin());
+    let (input, errors) = (rt.stdin(), rt.stderr());
+    let shows = asks_profile(&words) && errors.is_terminal() && !input.is_terminal();
+    let mut reader = Watched::new(Progress::new(&rt, input, errors, shows));
     let mut out = Watched::new(out);
     let mut err = Watched::new(rt.stderr());
     let status = command(
