@@ -1,5 +1,5 @@
 #!/usr/bin/env python3
-"""planner.py [PROGRAM [FLOW_BENCH]]: times `mhlink plan`, and its greatest flow alone beside LEMON's, on the largest problems.
+"""planner.py [--large] [PROGRAM [FLOW_BENCH]]: times `mhlink plan`, and its greatest flow alone beside LEMON's, on the largest problems.
 
 PROGRAM is ../mhlink where none is named, and FLOW_BENCH is what `rt run` builds in ../crates/flow_bench. LEMON's flow wants
 g++ and LEMON (Debian's liblemon-dev); without them its column is empty. For each problem it prints the phases of the flow,
@@ -14,7 +14,7 @@ A second table has problems past these limits: profiles that VMs logged (../exam
 has what a plan, `max_flow` and LEMON's Preflow took of a processor, the least of several runs, LEMON's time over that of
 `max_flow`, the most memory that FLOW_BENCH had while it made the plan and that LEMON's program had, both with the problem that
 they read, and the ratio of these (what starts them has 14 MiB itself, which count). Where LEMON takes longer than LIMIT it is
-stopped, and its columns are empty.
+stopped, and its columns are empty. With --large only this table is made, and PROGRAM is not run.
 """
 import json, lzma, random, resource, subprocess, sys, tempfile, time
 from pathlib import Path
@@ -228,32 +228,43 @@ def lemon_in(room):
     return None if built.returncode else lemon
 
 
+def first_row(program, flow_bench, lemon, name, given):
+    """A row of the first table."""
+    text = json.dumps(given, separators=(",", ":")).encode()
+    whole, said = least([program, "plan", "--phases"], text)
+    two, four = (least([program, "plan", "--workers", str(count)], text)[0] for count in (2, 4))
+    reading, _ = least([program, "check"], b'{"problem":' + text + b"}")
+    alone, value, rounds = flow_alone(flow_bench, given)
+    plan, phases = said.splitlines()
+    assert plan.endswith(f" flow {value}"), f"{name}: max_flow gives {value}, and the plan is {plan[-60:]}"
+    beside = "-"
+    if lemon:
+        found, seconds = least([lemon], "\n".join(numbers(given)).encode())[1].split()
+        assert found == value, f"{name}: LEMON's flow is {found}, and max_flow gives {value}"
+        beside = f"{float(seconds) * 1000:.2f}"
+    _, count, _, bound = phases.split()
+    row = f"{whole:.1f} | {two:.1f} | {four:.1f} | {reading:.1f} | {whole - reading:.1f} | {rounds} | {alone:.2f} | {beside}"
+    return f"| {name} | {count} | {bound} | {row} |"
+
+
+def first_table(program, flow_bench, lemon):
+    print("| Problem | phases | bound | plan | 2 workers | 4 workers | reading | planning | phases of the whole | max_flow | LEMON |")
+    print("|---|---|---|---|---|---|---|---|---|---|---|")
+    for name, given in PROBLEMS.items():
+        print(first_row(program, flow_bench, lemon, name, given), flush=True)
+    print()
+
+
 def main():
-    program = sys.argv[1] if len(sys.argv) > 1 else str(HERE.parent / "mhlink")
-    flow_bench = sys.argv[2] if len(sys.argv) > 2 else str(HERE.parent / "crates/flow_bench/out/flow_bench")
+    words = [it for it in sys.argv[1:] if it != "--large"]
+    program = words[0] if words else str(HERE.parent / "mhlink")
+    flow_bench = words[1] if len(words) > 1 else str(HERE.parent / "crates/flow_bench/out/flow_bench")
     if not Path(flow_bench).is_file():
         sys.exit(f"{flow_bench} is not built: run `rt run -- flow <stdin` in crates/flow_bench")
     with tempfile.TemporaryDirectory() as room:
         lemon = lemon_in(room)
-        print("| Problem | phases | bound | plan | 2 workers | 4 workers | reading | planning | phases of the whole | max_flow | LEMON |")
-        print("|---|---|---|---|---|---|---|---|---|---|---|")
-        for name, given in PROBLEMS.items():
-            text = json.dumps(given, separators=(",", ":")).encode()
-            whole, said = least([program, "plan", "--phases"], text)
-            two, four = (least([program, "plan", "--workers", str(count)], text)[0] for count in (2, 4))
-            reading, _ = least([program, "check"], b'{"problem":' + text + b"}")
-            alone, value, rounds = flow_alone(flow_bench, given)
-            plan, phases = said.splitlines()
-            assert plan.endswith(f" flow {value}"), f"{name}: max_flow gives {value}, and the plan is {plan[-60:]}"
-            beside = "-"
-            if lemon:
-                found, seconds = least([lemon], "\n".join(numbers(given)).encode())[1].split()
-                assert found == value, f"{name}: LEMON's flow is {found}, and max_flow gives {value}"
-                beside = f"{float(seconds) * 1000:.2f}"
-            _, count, _, bound = phases.split()
-            row = f"{whole:.1f} | {two:.1f} | {four:.1f} | {reading:.1f} | {whole - reading:.1f} | {rounds} | {alone:.2f} | {beside}"
-            print(f"| {name} | {count} | {bound} | {row} |", flush=True)
-        print()
+        if "--large" not in sys.argv[1:]:
+            first_table(program, flow_bench, lemon)
         large_table(flow_bench, lemon)
 
 
