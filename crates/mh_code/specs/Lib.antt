@@ -1,3 +1,4 @@
+pub mod Height
 pub mod KeptCode
 pub mod Laws
 pub mod PieceOf

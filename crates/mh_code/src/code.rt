@@ -2,6 +2,7 @@
 
 ghost use Rattle.std.specs.Prelude.{◌≡◌, IfOk, IfSome};
 ghost use Rattle.std.specs.Arc.{arc_value};
+ghost use Rattle.mh_code.specs.Height.{code_height, height};
 ghost use Rattle.mh_code.specs.PieceOf.{key_source, routine_of, routine_of_code};
 ghost use Rattle.mh_code.specs.Routine.{operation};
 
@@ -155,6 +156,7 @@ impl Code {
     #[inline(always)]
     pub fn entry(&self) -> &Piece
         ensures value { routine_of result.now ≡ routine_of_code self.now }
+        ensures height { height result.now ≡ code_height self.now }
     {
         &self.entry
     }

@@ -1,10 +1,12 @@
-//! Tests of code: the pieces that trees are made into.
+//! Tests of code: the pieces that trees are made into, and their runs.
 
-use crate::deep::largest;
-use crate::examples::{hundred, op, with_one};
+use crate::deep::{deepest, largest};
+use crate::examples::{Given, hundred, int, op, read, with_one};
 use mh_code::{Code, Piece, Prepared};
+use mh_eval::{fits, lawful};
+use mh_run::{Here, Stack, run};
 use mh_tree::Handle;
-use mh_type::Op;
+use mh_type::{Op, Value};
 use std::alloc::Global;
 use std::test::Fail;
 
@@ -47,7 +49,11 @@ fn first_pieces(code: &Code) -> (Kindred, Kindred, Kindred) {
             target,
             fallback,
             ..
-        } => (kindred_of(code.entry()), kindred_of(target), kindred_of(fallback)),
+        } => (
+            kindred_of(code.entry()),
+            kindred_of(target),
+            kindred_of(fallback),
+        ),
         Piece::Let { then, .. } | Piece::Put { then, .. } => {
             (kindred_of(code.entry()), kindred_of(then), Kindred::Other)
         }
@@ -85,6 +91,27 @@ fn negated(alloc: Global) -> Result<Prepared, Fail> {
     Ok(Prepared::new(alloc, &negated)?)
 }
 
+/// What code gives on one int.
+fn ran(alloc: Global, valid: &[bool], code: &Prepared, argument: i32) -> Result<Given, Fail> {
+    let arguments = [Value::Int(argument)];
+    if !fits(code.handle().method_type(), &arguments) {
+        return Err("the argument does not fit".into());
+    }
+    if code.handle().point_bound() > valid.len() {
+        return Err("a point is not there".into());
+    }
+    if !lawful(&[], &[], code.handle()) {
+        return Err("a site is not there".into());
+    }
+    let mut stack = Stack::new(alloc)?;
+    let here = Here {
+        valid,
+        targets: &[],
+    };
+    let (outcome, steps) = run(&mut stack, &here, code, &arguments)?;
+    Ok(read(&outcome, steps))
+}
+
 #[test]
 fn a_guard_on_a_key_is_one_piece(rt: HostRuntime) -> Result<(), Fail> {
     let code = whole_guard(rt.alloc())?;
@@ -118,10 +145,27 @@ fn a_value_becomes_a_local(rt: HostRuntime) -> Result<(), Fail> {
 }
 
 #[test]
-fn the_largest_tree_has_code(rt: HostRuntime) -> Result<(), Fail> {
+fn a_guard_below_a_point_runs(rt: HostRuntime) -> Result<(), Fail> {
+    let alloc = rt.alloc();
+    let code = point_over_parts(alloc)?;
+    assert_eq!(rt; ran(alloc, &[true], &code, 1)?, int(100, 6));
+    assert_eq!(rt; ran(alloc, &[true], &code, 7)?, int(8, 6));
+    assert_eq!(rt; ran(alloc, &[false], &code, 7)?, int(-7, 2));
+    Ok(())
+}
+
+#[test]
+fn the_code_of_the_largest_tree_runs(rt: HostRuntime) -> Result<(), Fail> {
     let alloc = rt.alloc();
     let code = Prepared::new(alloc, &largest(alloc)?)?;
-    let pieces = (Kindred::Let(18), Kindred::Let(1), Kindred::Other);
-    assert_eq!(rt; first_pieces(code.code()), pieces);
+    assert_eq!(rt; ran(alloc, &[], &code, 5)?, int(5, 262143));
+    Ok(())
+}
+
+#[test]
+fn the_code_of_the_deepest_tree_runs(rt: HostRuntime) -> Result<(), Fail> {
+    let alloc = rt.alloc();
+    let code = Prepared::new(alloc, &deepest(alloc)?)?;
+    assert_eq!(rt; ran(alloc, &[], &code, 5)?, int(5, 191));
     Ok(())
 }

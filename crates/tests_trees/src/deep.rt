@@ -17,7 +17,7 @@ pub(crate) fn largest(alloc: Global) -> Result<Handle, Fail> {
 }
 
 /// The negation behind 95 others, one in each of 96 levels.
-fn deepest(alloc: Global) -> Result<Handle, Fail> {
+pub(crate) fn deepest(alloc: Global) -> Result<Handle, Fail> {
     let negation = op(alloc, Op::Ineg)?;
     let mut tree = op(alloc, Op::Ineg)?;
     for _ in 0..95 {

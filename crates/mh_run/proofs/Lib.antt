@@ -1,0 +1,4 @@
+mod Handles
+mod Pieces
+mod Sites
+mod Sources

@@ -1,0 +1,5 @@
+pub mod Laws
+pub mod Levels
+pub mod Picks
+pub mod Quiet
+pub mod Runs

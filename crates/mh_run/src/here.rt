@@ -1,0 +1,12 @@
+//! The context of a call.
+
+use mh_code::Prepared;
+
+/// Which points are valid, and the tree of each site.
+#[derive(Clone, Copy, Debug)]
+pub struct Here<'a> {
+    /// Whether each point is valid.
+    pub valid: &'a [bool],
+    /// The tree of each site.
+    pub targets: &'a [Prepared],
+}

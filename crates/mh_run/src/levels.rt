@@ -1,0 +1,87 @@
+//! The memory of runs, level by level: what a tree invokes runs in a level of its own.
+
+ghost use Rattle.std.specs.Prelude.{◌≡◌, ◌+◌, ◌-◌, ◌≤◌, ℕ, []};
+ghost use Rattle.mh_code.specs.PieceOf.{routine_of_code};
+ghost use Rattle.mh_run.specs.Levels.{IsReady};
+ghost use Rattle.mh_run.specs.Runs.{Ends, MayRun};
+ghost use Rattle.mh_tree.specs.Sites.{setting};
+
+use crate::here::Here;
+use crate::running::run_on;
+use mh_code::Code;
+use mh_eval::Answer;
+use mh_type::Value;
+use std::alloc::Global;
+
+/// The memory of one level, and that of the levels below it.
+#[derive(Drop)]
+pub(crate) struct Level<L: Lower> {
+    /// The locals of the run that is under way.
+    pub(crate) locals: Vec<Value>,
+    /// The arguments of what it invokes.
+    pub(crate) passed: Vec<Value>,
+    /// Where that runs.
+    pub(crate) below: L,
+}
+
+/// Below the lowest level: what runs there invokes nothing.
+#[derive(Drop)]
+pub(crate) struct Bottom;
+
+/// Where the tree of a site runs that is invoked.
+pub(crate) trait Lower: Drop {
+    // how many trees deep invocations may be that run here
+    ghost deep: { ℕ };
+
+    ghost is_ready: { Self → Type 0 };
+
+    /// The answer of code on arguments, and its steps.
+    fn run(
+        &mut self,
+        alloc: Global,
+        here: &Here<'_>,
+        code: &Code,
+        arguments: &[Value],
+    ) -> (Answer, u128)
+        requires deep { 1 ≤ deep }
+        requires ready { is_ready self.old }
+        requires may { MayRun (setting (deep - 1) here.now.valid.now here.now.targets.now)
+            arguments.now [] (routine_of_code code.now) 0 }
+        ensures ends { Ends (setting (deep - 1) here.now.valid.now here.now.targets.now)
+            arguments.now [] (routine_of_code code.now) 0 result.0 result.1 }
+        ensures ready { is_ready self.new };
+}
+
+impl Lower for Bottom {
+    ghost deep = { 0 };
+
+    ghost use Rattle.mh_run.specs.Levels.{Bottomless};
+
+    ghost is_ready = { Bottomless };
+
+    fn run(
+        &mut self,
+        _alloc: Global,
+        _here: &Here<'_>,
+        _code: &Code,
+        _arguments: &[Value],
+    ) -> (Answer, u128) {
+        (Answer::NoMemory, 0)
+    }
+}
+
+impl<L: Lower> Lower for Level<L> {
+    ghost deep = { L.deep + 1 };
+
+    ghost is_ready = { IsReady (L.is_ready) };
+
+    fn run(
+        &mut self,
+        alloc: Global,
+        here: &Here<'_>,
+        code: &Code,
+        arguments: &[Value],
+    ) -> (Answer, u128) {
+        run_on(self, alloc, here, code.entry(), arguments)
+    }
+}
