@@ -43,11 +43,10 @@ pub(crate) trait Lower: Drop {
         code: &Code,
         arguments: &[Value],
     ) -> (Answer, u128)
-        requires deep { 1 ≤ deep }
         requires ready { is_ready self.old }
         requires may { MayRun (setting (deep - 1) here.now.valid.now here.now.targets.now)
             arguments.now [] (routine_of_code code.now) 0 }
-        ensures ends { Ends (setting (deep - 1) here.now.valid.now here.now.targets.now)
+        ensures ends { 1 ≤ deep → Ends (setting (deep - 1) here.now.valid.now here.now.targets.now)
             arguments.now [] (routine_of_code code.now) 0 result.0 result.1 }
         ensures ready { is_ready self.new };
 }

@@ -4,7 +4,7 @@ use Rattle.std.specs.Prelude.{slice_index_or}
 use Rattle.mh_code.specs.PieceOf.{routine_of_code}
 use Rattle.mh_code.specs.RoutineOf.{handle_routine}
 use Rattle.mh_run.specs.Runs.{Ends, MayRun}
-use Rattle.mh_run.proofs.Sites.{leading_are, leading_count, leading_many, site_answers, site_may, site_there}
+use Rattle.mh_run.proofs.Sites.{leading_are, leading_count, leading_many, site_answers, site_deep, site_may, site_there}
 use Rattle.mh_run.proofs.running.forward.Goals as goal
 use Rattle.mh_tree.specs.Handle.{TypedTree, IsSound}
 use Rattle.mh_tree.specs.Prepared.{leading_arguments}
@@ -41,4 +41,4 @@ returns-clause-answers g c =
     let kept : routine_of_code c.code-code.result.now ≡ handle_routine (target_at ts c.args.site) = c.code-code.ensures.value ∙ ap handle_routine same in
     site_answers valid ts c.args.site (length (leading_arguments c.args.count)) (take c.args.count a) (leading_count a c.args.count few) sound d c.requires.scoped.0
     a l (leading_arguments c.args.count) (leading_are a l c.args.count few) c.run.result.0 c.run.result.1
-    (subst (λ r. Ends (setting (d - 1) valid ts) (take c.args.count a) [] r 0 c.run.result.0 c.run.result.1) kept c.run.ensures.ends)
+    (subst (λ r. Ends (setting (d - 1) valid ts) (take c.args.count a) [] r 0 c.run.result.0 c.run.result.1) kept (c.run.ensures.ends (site_deep d valid ts c.args.site _ c.requires.scoped.0)))

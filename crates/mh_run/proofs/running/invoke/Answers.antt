@@ -5,7 +5,7 @@ use Rattle.mh_code.specs.PieceOf.{routine_of_code}
 use Rattle.mh_code.specs.RoutineOf.{handle_routine}
 use Rattle.mh_eval.specs.Quiet.{NoTexts}
 use Rattle.mh_run.specs.Runs.{Ends, MayRun}
-use Rattle.mh_run.proofs.Sites.{site_answers, site_few, site_may, site_there}
+use Rattle.mh_run.proofs.Sites.{site_answers, site_deep, site_few, site_may, site_there}
 use Rattle.mh_run.proofs.running.invoke.Goals as goal
 use Rattle.mh_tree.specs.Handle.{TypedTree, IsSound}
 use Rattle.mh_tree.specs.Running.{value_of}
@@ -57,4 +57,4 @@ returns-clause-answers g c =
     let kept : routine_of_code c.code-code.result.now ≡ handle_routine (target_at ts c.args.site) = c.code-code.ensures.value ∙ ap handle_routine same in
     site_answers valid ts c.args.site (length c.args.operands.now) b many sound d c.requires.scoped.0
     c.args.arguments.now c.args.level.now.locals.items c.args.operands.now is c.run-answer.result.0 c.run-answer.result.1
-    (subst (λ r. Ends (setting (d - 1) valid ts) b [] r 0 c.run-answer.result.0 c.run-answer.result.1) kept c.run-answer.ensures.ends)
+    (subst (λ r. Ends (setting (d - 1) valid ts) b [] r 0 c.run-answer.result.0 c.run-answer.result.1) kept (c.run-answer.ensures.ends (site_deep d valid ts c.args.site _ c.requires.scoped.0)))
