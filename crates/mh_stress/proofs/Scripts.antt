@@ -1,6 +1,6 @@
--- The fault of an input is never that of readers of a published world.
-use Rattle.std.proofs.Common.{◌≡◌, inl, inr, ℕ, ◌+◌, Bool, true, false, List, [], ◌∷◌, Option, Some, None, Result, Ok, Err, IfSome, ap, subst, sym, ◌∙◌}
-use Rattle.std.specs.Prelude.{⊤, codes, if◌then◌else◌, nat_le, length}
+-- The fault of an input is never that of readers of a published world; what is written of a script.
+use Rattle.std.proofs.Common.{◌≡◌, inl, inr, ℕ, ◌+◌, Bool, true, false, List, [], ◌∷◌, Option, Some, None, Result, Ok, Err, IfErr, IfSome, ap, subst, sym, ◌∙◌}
+use Rattle.std.specs.Prelude.{⊤, MatchResult, codes, if◌then◌else◌, nat_le, length}
 use Rattle.mh_text.specs.Bytes.{most_bytes}
 use Rattle.mh_text.specs.Gives.{◌>>=◌, at_place, no_memory}
 use Rattle.mh_text.specs.Inputs.{json_in, json_of_input}
@@ -12,7 +12,10 @@ use Rattle.mh_text.specs.declared.fault.InputFault.{InputFault}
 use Rattle.mh_text.specs.declared.fault.InputFault.TheVariants.{TooLong}
 use Rattle.mh_text.specs.declared.fault.TextFault.TheVariants.{NoReader, ReadFailed}
 use Rattle.mh_text.specs.declared.json.declarations.Declarations.{Declarations}
-use Rattle.mh_stress.specs.Stress.{IsScript}
+use Rattle.mh_text.specs.Planning.{IsCutShort}
+use Rattle.mh_text.specs.declared.json.script.Script.{Script}
+use Rattle.mh_stress.specs.Stress.{FailsStress, IsScript, IsSettledTextOf}
+use Rattle.mh_stress.specs.declared.stress.StressOptions.{StressOptions}
 
 -- a result has no such fault
 abbrev HasNone : {A : Type 0} → Result A Fault → Type 0
@@ -71,3 +74,14 @@ told_of_a_script (Some bytes) A e (inl memory) is = absurd (memory_differs (ap (
 told_of_a_script (Some bytes) A e (inr (inl (read, failed))) is = absurd (read_differs (ap (λ f. f.kind) (sym read ∙ is)))
 told_of_a_script (Some bytes) A e (inr (inr (inl fault))) is = absurd (subst HasNone fault (input_none bytes) (ap (λ f. f.kind) is))
 told_of_a_script (Some bytes) A e (inr (inr (inr (memory, reached)))) is = absurd (memory_differs (sym memory ∙ ap (λ f. f.kind) is))
+
+-- what is written of a script that was read, or a beginning of it
+pub stress_cut_short : (options : StressOptions) (input old new : Option (List ℕ)) (script : Script) (text : List ℕ) (A B : Type 0) (r : Result ⊤ Fault) → IfSome input (λ bytes. script_of_input bytes ≡ Ok script) → IsSettledTextOf options script text
+    → IfErr r (λ e. IsCutShort old new B e text) → IfErr r (λ e. FailsStress options input old new A B e)
+stress_cut_short options input old new script text A B (Ok x) read settled cut = tt
+stress_cut_short options None old new script text A B (Err e) read settled cut = inr (text, tt, cut)
+stress_cut_short options (Some bytes) old new script text A B (Err e) read settled cut = inr (text, (script, read, settled), cut)
+
+pub err_of : {E : Type 0} (r : Result ⊤ E) (P : Type 0) (Q : E → Type 0) → MatchResult r (λ x. P) Q → IfErr r Q
+err_of (Ok x) P Q h = tt
+err_of (Err e) P Q h = h
