@@ -1,3 +1,4 @@
 mod LeadingOperands
+mod NegatedLocals
 mod PlacesBehind
 mod PreparedParts

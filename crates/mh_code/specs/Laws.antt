@@ -4,3 +4,4 @@ pub mod Costs
 pub mod Means
 pub mod Scoped
 pub mod Shifts
+pub mod Truths

@@ -1,6 +1,7 @@
 pub mod Height
 pub mod KeptCode
 pub mod Laws
+pub mod Negations
 pub mod PieceOf
 pub mod PurposeOf
 pub mod Routine

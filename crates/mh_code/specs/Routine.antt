@@ -20,8 +20,10 @@ pub data Routine : Type 0 where
   -- a point's validity chooses one of two
   switch : ℕ → ℕ → Routine → Routine → Routine
 
--- what the value of a part is for: it is the answer, a local that a routine reads, or the truth that chooses one of two
+-- what the value of a part is for: it is the answer, a local that a routine reads, the truth that chooses one of two, or one whose `not`,
+-- with a step of its own, chooses
 pub data Purpose : Type 0 where
   answer : Purpose
   local : ℕ → Routine → Purpose
   truth : Routine → Routine → Purpose
+  untruth : Routine → Routine → Purpose

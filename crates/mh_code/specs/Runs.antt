@@ -4,10 +4,11 @@ use Rattle.mh_type.specs.declared.value.Value.{Value}
 use Rattle.mh_type.specs.declared.outcome.Outcome.{Outcome}
 use Rattle.mh_type.specs.declared.outcome.Outcome.TheVariants as outcome
 use Rattle.mh_type.specs.Operations.{operate}
+use Rattle.mh_type.specs.declared.operation.Op.TheVariants.{Not}
 use Rattle.mh_tree.specs.Meaning.{◌>>=◌, choose, choose_steps, after, is_valid}
 use Rattle.mh_tree.specs.Environment.{Environment, Steps}
 use Rattle.mh_tree.specs.Running.{value_of}
-use Rattle.mh_code.specs.Routine.{Source, operand, operation, invocation, Routine, give, keep, pick, switch, Purpose, answer, local, truth}
+use Rattle.mh_code.specs.Routine.{Source, operand, operation, invocation, Routine, give, keep, pick, switch, Purpose, answer, local, truth, untruth}
 
 abbrev pub source_outcome : Environment → Source → List Value → List Value → Outcome
 source_outcome v (operand o) a l = outcome.Value (value_of a l o)
@@ -47,12 +48,17 @@ abbrev pub purpose_outcome : Environment → Purpose → List Value → List Val
 purpose_outcome v answer a l x = outcome.Value x
 purpose_outcome v (local i r) a l x = run_routine v r a (put l i x)
 purpose_outcome v (truth r q) a l x = choose x (run_routine v r a l) (run_routine v q a l)
+purpose_outcome v (untruth r q) a l x = do
+  b ← operate Not (x ∷ [])
+  choose b (run_routine v r a l) (run_routine v q a l)
 
 -- the steps that this takes
 abbrev pub purpose_steps : Environment → Purpose → List Value → List Value → Value → Steps
 purpose_steps v answer a l x = 0
 purpose_steps v (local i r) a l x = routine_steps v r a (put l i x)
 purpose_steps v (truth r q) a l x = choose_steps x (routine_steps v r a l) (routine_steps v q a l)
+purpose_steps v (untruth r q) a l x =
+    1 + after (operate Not (x ∷ [])) (λ b. choose_steps b (routine_steps v r a l) (routine_steps v q a l))
 
 -- the most steps of a source, where an invocation takes at most n
 abbrev pub source_weight : ℕ → Source → ℕ
@@ -72,3 +78,4 @@ abbrev pub purpose_weight : ℕ → Purpose → ℕ
 purpose_weight n answer = 0
 purpose_weight n (local i r) = weight n r
 purpose_weight n (truth r q) = max (weight n r) (weight n q)
+purpose_weight n (untruth r q) = 1 + max (weight n r) (weight n q)

@@ -1,7 +1,7 @@
 -- Routines that name only what is there.
 use Rattle.std.specs.Prelude.{ℕ, ◌+◌, ◌<◌, ◌≤◌, length}
 use Rattle.mh_tree.specs.Scoped.{IsIn, AllIn}
-use Rattle.mh_code.specs.Routine.{Source, operand, operation, invocation, Routine, give, keep, pick, switch, Purpose, answer, local, truth}
+use Rattle.mh_code.specs.Routine.{Source, operand, operation, invocation, Routine, give, keep, pick, switch, Purpose, answer, local, truth, untruth}
 
 -- A source that names some of n arguments and d locals. It invokes sites as C allows, a site with a number of arguments.
 abbrev pub IsSourceIn : (ℕ → ℕ → Type 0) → ℕ → ℕ → Source → Type 0
@@ -21,3 +21,4 @@ abbrev pub IsPurposeIn : (ℕ → ℕ → Type 0) → ℕ → ℕ → ℕ → Pu
 IsPurposeIn C k n d answer = Unit {0}
 IsPurposeIn C k n d (local i r) = (i ≤ d) × IsRoutineIn C k n (i + 1) r
 IsPurposeIn C k n d (truth r q) = IsRoutineIn C k n d r × IsRoutineIn C k n d q
+IsPurposeIn C k n d (untruth r q) = IsRoutineIn C k n d r × IsRoutineIn C k n d q

@@ -3,6 +3,7 @@
 
 mod code;
 mod made;
+mod negating;
 mod operands;
 mod prepared;
 mod preparing;

@@ -9,7 +9,7 @@ ghost use Rattle.mh_tree.specs.Limits.{size, total_size, most_nodes};
 ghost use Rattle.mh_tree.specs.Tree.{Filters as FiltersData, filters_of};
 ghost use Rattle.mh_tree.specs.TreeOf.{tree_of, filter_trees};
 ghost use Rattle.mh_tree.specs.Code.{Code as CodeData, bind as bind_code, branch as branch_code, switch as switch_code};
-ghost use Rattle.mh_code.specs.Routine.{operand as operand_source, operation as operation_source, local};
+ghost use Rattle.mh_code.specs.Routine.{operand as operand_source, operation as operation_source};
 ghost use Rattle.mh_type.specs.Operations.{op_signature};
 ghost use Rattle.mh_tree.specs.Prepared.{operand_at, prepared, prepared_filters};
 ghost use Rattle.mh_tree.specs.declared.operand.Operand.{Operand as OperandData};
@@ -17,6 +17,7 @@ ghost use Rattle.mh_tree.specs.declared.operand.Operand.TheVariants.{Constant, L
 
 use crate::code::Piece;
 use crate::made::Made;
+use crate::negating::{Filters, Rest, purpose_before};
 use crate::operands::{at, local_first, parts, put_in, reordered, taken_out, with_local};
 use crate::purpose::{Purpose, use_invocation, use_operand, use_operation};
 use mh_base::NoMemory;
@@ -29,13 +30,6 @@ use std::sync::Arc;
 pub(crate) struct Place<'a> {
     pub(crate) operands: &'a [Operand],
     pub(crate) depth: u32,
-}
-
-/// The filters that are left, from a place of the operands on.
-#[derive(Clone, Copy)]
-struct Filters<'a> {
-    position: usize,
-    filters: &'a [Option<Arc<Node>>],
 }
 
 /// The target and the fallback of a branch.
@@ -63,9 +57,11 @@ pub(crate) fn prepare(
     let alloc = made.alloc();
     let steps = before + 1;
     match node {
-        Node::Constant(value) => constant(made, value, steps, purpose),
-        Node::Identity(_) => use_operand(made, at(place.operands, 0)?, steps, purpose),
-        Node::Operation(op) => operation(made, *op, place.operands, steps, purpose),
+        Node::Constant(value) => constant(made, value, place.depth, steps, purpose),
+        Node::Identity(_) => {
+            use_operand(made, at(place.operands, 0)?, place.depth, steps, purpose)
+        }
+        Node::Operation(op) => operation(made, *op, place, steps, purpose),
         Node::Insert {
             target,
             position,
@@ -154,32 +150,42 @@ fn prepare_moved(
 fn constant(
     made: &mut Made,
     value: &Value,
+    depth: u32,
     steps: u32,
     purpose: &Purpose<'_>,
 ) -> Result<Arc<Piece>, NoMemory>
     ensures value { IfOk result (λ p. routine_of (arc_value p)
-        ≡ used steps (operand_source (Constant value.now)) (purpose_of purpose.now)) }
+        ≡ used depth steps (operand_source (Constant value.now)) (purpose_of purpose.now)) }
 {
     let value = value.share().map_err(|_| NoMemory)?;
-    use_operand(made, Operand::Constant(value), steps, purpose)
+    use_operand(made, Operand::Constant(value), depth, steps, purpose)
 }
 
 // An operation on as many of the operands as it has parameters, and what its result is for.
 fn operation(
     made: &mut Made,
     op: Op,
-    operands: &[Operand],
+    place: &Place<'_>,
     steps: u32,
     purpose: &Purpose<'_>,
 ) -> Result<Arc<Piece>, NoMemory>
+    requires few { steps ≤ most_nodes }
     ensures value { IfOk result (λ p. routine_of (arc_value p)
-        ≡ used steps (operation_source op
-        (operand_at (take (length (op_signature op).parameters) operands.now) 0)
-        (operand_at (take (length (op_signature op).parameters) operands.now) 1))
+        ≡ used place.now.depth steps (operation_source op
+        (operand_at (take (length (op_signature op).parameters) place.now.operands.now) 0)
+        (operand_at (take (length (op_signature op).parameters) place.now.operands.now) 1))
         (purpose_of purpose.now)) }
 {
-    let (read, _) = parts(operands, op.op_type().count());
-    use_operation(made, op, at(read, 0)?, at(read, 1)?, steps, purpose)
+    let (read, _) = parts(place.operands, op.op_type().count());
+    use_operation(
+        made,
+        op,
+        at(read, 0)?,
+        at(read, 1)?,
+        place.depth,
+        steps,
+        purpose,
+    )
 }
 
 // The filters, and then the target.
@@ -212,34 +218,71 @@ fn prepare_filters(
         return prepare_filters(made, target, &rest, place, steps, purpose);
     };
     let passed = with_local(made.alloc(), place.operands, left.position, place.depth)?;
-    let below = Place {
+    let rest = Rest {
+        filters: rest,
+        target,
         operands: &passed,
-        depth: place.depth + 1,
     };
-    let then = prepare_filters(made, target, &rest, &below, 0, purpose)?;
-    let argument = [at(place.operands, left.position)?];
-    prepare_local(made, node, &argument, place.depth, steps, &then)
+    let argument = Place {
+        operands: &[at(place.operands, left.position)?],
+        depth: place.depth,
+    };
+    prepare_two(made, node, &argument, &rest, steps, purpose)
 }
 
-// The code of a part whose value becomes the next local.
+// The code of a first part, and of what is left below its value, the next local.
 #[cycle(prepare)]
-fn prepare_local(
+fn prepare_two(
+    made: &mut Made,
+    first: &Node,
+    place: &Place<'_>,
+    rest: &Rest<'_>,
+    steps: u32,
+    purpose: &Purpose<'_>,
+) -> Result<Arc<Piece>, NoMemory>
+    requires few { steps + size (tree_of first.now) ≤ most_nodes }
+    requires low { place.now.depth + (size (tree_of first.now)
+        + (size (tree_of (arc_value rest.now.target.now))
+        + total_size (filters_of (filter_trees rest.now.filters.filters.now)))) ≤ most_nodes }
+    ensures value { IfOk result (λ p. routine_of (arc_value p) ≡ routine (bind_code steps
+        (prepared (tree_of first.now) place.now.operands.now place.now.depth 0)
+        (prepared_filters (filters_of (filter_trees rest.now.filters.filters.now))
+        rest.now.filters.position rest.now.operands.now (place.now.depth + 1) 0
+        (prepared (tree_of (arc_value rest.now.target.now))))) place.now.depth 0
+        (purpose_of purpose.now)) }
+{
+    let local = place.depth;
+    if let Some(purpose) = purpose_before(rest, local, purpose) {
+        return prepare_for(made, first, place, steps, &purpose);
+    }
+    let below = Place {
+        operands: rest.operands,
+        depth: local + 1,
+    };
+    let then = prepare_filters(made, rest.target, &rest.filters, &below, 0, purpose)?;
+    let purpose = Purpose::Local {
+        place: local,
+        then: &then,
+    };
+    prepare_for(made, first, place, steps, &purpose)
+}
+
+// The code of a part, and of what its value is for.
+#[cycle(prepare)]
+fn prepare_for(
     made: &mut Made,
     node: &Node,
-    operands: &[Operand],
-    depth: u32,
+    place: &Place<'_>,
     steps: u32,
-    then: &Arc<Piece>,
+    purpose: &Purpose<'_>,
 ) -> Result<Arc<Piece>, NoMemory>
     requires few { steps + size (tree_of node.now) ≤ most_nodes }
-    requires low { depth + size (tree_of node.now) ≤ most_nodes }
+    requires low { place.now.depth + size (tree_of node.now) ≤ most_nodes }
     ensures value { IfOk result (λ p. routine_of (arc_value p) ≡ routine
-        (prepared (tree_of node.now) operands.now depth 0) depth steps
-        (local depth (routine_of (arc_value then.now)))) }
+        (prepared (tree_of node.now) place.now.operands.now place.now.depth 0)
+        place.now.depth steps (purpose_of purpose.now)) }
 {
-    let place = Place { operands, depth };
-    let purpose = Purpose::Local { place: depth, then };
-    prepare(made, node, &place, steps, &purpose)
+    prepare(made, node, place, steps, purpose)
 }
 
 // The next place. Behind the last operand one place is as another: none has an operand there.
@@ -273,12 +316,15 @@ fn prepare_return(
         (prepared (tree_of (arc_value last.now)) (Local place.now.depth ∷ [])
         (place.now.depth + 1) 0)) place.now.depth 0 (purpose_of purpose.now)) }
 {
-    let below = Place {
+    let rest = Rest {
+        filters: Filters {
+            position: 0,
+            filters: &[],
+        },
+        target: last,
         operands: &[Operand::Local(place.depth)],
-        depth: place.depth + 1,
     };
-    let then = prepare(made, last, &below, 0, purpose)?;
-    prepare_local(made, target, place.operands, place.depth, steps, &then)
+    prepare_two(made, target, place, &rest, steps, purpose)
 }
 
 // The target, on the combiner's result and the operands.
@@ -301,12 +347,15 @@ fn prepare_fold(
         (place.now.depth + 1) 0)) place.now.depth 0 (purpose_of purpose.now)) }
 {
     let inner = local_first(made.alloc(), place.depth, place.operands)?;
-    let below = Place {
+    let rest = Rest {
+        filters: Filters {
+            position: 0,
+            filters: &[],
+        },
+        target,
         operands: &inner,
-        depth: place.depth + 1,
     };
-    let then = prepare(made, target, &below, 0, purpose)?;
-    prepare_local(made, combiner, place.operands, place.depth, steps, &then)
+    prepare_two(made, combiner, place, &rest, steps, purpose)
 }
 
 // The branches, and their test.

@@ -1,22 +1,24 @@
 //! What the value of a part is for.
 
-ghost use Rattle.std.specs.Prelude.{◌≡◌, IfOk};
+ghost use Rattle.std.specs.Prelude.{◌≡◌, ◌≤◌, IfOk};
 ghost use Rattle.std.specs.Arc.{arc_value};
 ghost use Rattle.mh_code.specs.PieceOf.{routine_of, routine_of_code};
 ghost use Rattle.mh_code.specs.PurposeOf.{purpose_of};
 ghost use Rattle.mh_code.specs.Routine.{operand as operand_source, operation, invocation, give, pick};
-ghost use Rattle.mh_code.specs.RoutineOf.{used, invoked, after_steps};
+ghost use Rattle.mh_code.specs.RoutineOf.{used, negated_local as negated_local_routine};
+ghost use Rattle.mh_code.specs.RoutineOf.{gives_truth as op_gives_truth, after_steps};
+ghost use Rattle.mh_tree.specs.Limits.{most_nodes};
 
 use crate::code::{Code, KeyTest, Piece};
 use crate::made::Made;
 use crate::operands::{copied, leading};
 use mh_base::NoMemory;
 use mh_tree::Operand;
-use mh_type::Op;
+use mh_type::{Kind, Op};
 use std::sync::Arc;
 
-/// What the value of a part is for: it is the answer, a local that a piece reads, or the truth that
-/// chooses one of two pieces.
+/// What the value of a part is for: it is the answer, a local that a piece reads, the truth that
+/// chooses one of two pieces, or one whose `not`, which takes a step, chooses.
 #[derive(Clone, Copy)]
 pub(crate) enum Purpose<'a> {
     Answer,
@@ -25,6 +27,10 @@ pub(crate) enum Purpose<'a> {
         then: &'a Arc<Piece>,
     },
     Truth {
+        target: &'a Arc<Piece>,
+        fallback: &'a Arc<Piece>,
+    },
+    Untruth {
         target: &'a Arc<Piece>,
         fallback: &'a Arc<Piece>,
     },
@@ -37,15 +43,16 @@ fn owner(piece: &Arc<Piece>) -> Result<Arc<Piece>, NoMemory>
     Arc::try_clone(piece).map_err(|_| NoMemory)
 }
 
-// An operand's value, and what it is for.
+// An operand's value, below so many locals, and what it is for. It is kept before it is negated.
 pub(crate) fn use_operand(
     made: &mut Made,
     operand: Operand,
+    depth: u32,
     steps: u32,
     purpose: &Purpose<'_>,
 ) -> Result<Arc<Piece>, NoMemory>
     ensures value { IfOk result (λ p. routine_of (arc_value p)
-        ≡ used steps (operand_source operand) (purpose_of purpose.now)) }
+        ≡ used depth steps (operand_source operand) (purpose_of purpose.now)) }
 {
     let piece = match purpose {
         Purpose::Answer => Piece::Leaf { operand, steps },
@@ -61,21 +68,57 @@ pub(crate) fn use_operand(
             fallback: owner(fallback)?,
             steps,
         },
+        Purpose::Untruth { target, fallback } => Piece::Put {
+            operand,
+            local: depth,
+            then: negated_local(made, depth, target, fallback)?,
+            steps,
+        },
     };
     made.add(piece)
 }
 
-// The result of an operation on two operands, and what it is for.
+// One of two pieces, by the `not` of a local.
+fn negated_local(
+    made: &mut Made,
+    place: u32,
+    target: &Arc<Piece>,
+    fallback: &Arc<Piece>,
+) -> Result<Arc<Piece>, NoMemory>
+    ensures value { IfOk result (λ p. routine_of (arc_value p) ≡ negated_local_routine place
+        (routine_of (arc_value target.now)) (routine_of (arc_value fallback.now))) }
+{
+    made.add(Piece::Test {
+        op: Op::Not,
+        first: Operand::Local(place),
+        second: Operand::Local(place),
+        target: owner(target)?,
+        fallback: owner(fallback)?,
+        steps: 1,
+    })
+}
+
+// Whether an operation gives a truth, which it then does on any operands.
+fn gives_truth(op: Op) -> bool
+    ensures value { result ≡ op_gives_truth op }
+{
+    op.op_type().ret().is(Kind::Boolean)
+}
+
+// The result of an operation on two operands, below so many locals, and what it is for. One that
+// gives a truth throws nothing, and chooses the other piece where its `not` chooses one.
 pub(crate) fn use_operation(
     made: &mut Made,
     op: Op,
     first: Operand,
     second: Operand,
+    depth: u32,
     steps: u32,
     purpose: &Purpose<'_>,
 ) -> Result<Arc<Piece>, NoMemory>
+    requires few { steps ≤ most_nodes }
     ensures value { IfOk result (λ p. routine_of (arc_value p)
-        ≡ used steps (operation op first second) (purpose_of purpose.now)) }
+        ≡ used depth steps (operation op first second) (purpose_of purpose.now)) }
 {
     let piece = match purpose {
         Purpose::Answer => Piece::Apply {
@@ -95,6 +138,24 @@ pub(crate) fn use_operation(
         Purpose::Truth { target, fallback } => {
             test(op, first, second, owner(target)?, owner(fallback)?, steps)
         }
+        Purpose::Untruth { target, fallback } if gives_truth(op) => {
+            test(
+                op,
+                first,
+                second,
+                owner(fallback)?,
+                owner(target)?,
+                steps + 1,
+            )
+        }
+        Purpose::Untruth { target, fallback } => Piece::Let {
+            op,
+            first,
+            second,
+            local: depth,
+            then: negated_local(made, depth, target, fallback)?,
+            steps,
+        },
     };
     made.add(piece)
 }
@@ -130,7 +191,7 @@ fn test(
 }
 
 // What a site gives on operands, below so many locals, and what it is for. A truth is kept before it
-// chooses.
+// or its `not` chooses.
 pub(crate) fn use_invocation(
     made: &mut Made,
     site: u32,
@@ -140,12 +201,18 @@ pub(crate) fn use_invocation(
     purpose: &Purpose<'_>,
 ) -> Result<Arc<Piece>, NoMemory>
     ensures value { IfOk result (λ p. routine_of (arc_value p)
-        ≡ invoked depth steps site operands.now (purpose_of purpose.now)) }
+        ≡ used depth steps (invocation site operands.now) (purpose_of purpose.now)) }
 {
     let (local, then) = match purpose {
         Purpose::Answer => return answer_invocation(made, site, operands, steps),
         Purpose::Local { place, then } => (*place, owner(then)?),
-        Purpose::Truth { .. } => (depth, use_operand(made, Operand::Local(depth), 0, purpose)?),
+        Purpose::Truth { .. } => {
+            let read = Operand::Local(depth);
+            (depth, use_operand(made, read, depth, 0, purpose)?)
+        }
+        Purpose::Untruth { target, fallback } => {
+            (depth, negated_local(made, depth, target, fallback)?)
+        }
     };
     let operands = copied(made.alloc(), operands)?;
     made.add(Piece::Call {

@@ -1,6 +1,6 @@
 -- Routines that run with no further memory: what runs gives no text, and joins none.
-use Rattle.std.specs.Prelude.{◌≡◌, ℕ, ◌+◌, max, List, map}
-use Rattle.mh_code.specs.Routine.{Source, operand, operation, invocation, Routine, give, keep, pick, switch, Purpose, answer, local, truth}
+use Rattle.std.specs.Prelude.{◌≡◌, ℕ, ◌+◌, max, List, [], ◌∷◌, map}
+use Rattle.mh_code.specs.Routine.{Source, operand, operation, invocation, Routine, give, keep, pick, switch, Purpose, answer, local, truth, untruth}
 use Rattle.mh_code.specs.Runs.{source_outcome, put}
 use Rattle.mh_eval.specs.Entered.{WithValue, Chosen, OneOf, plain_below}
 use Rattle.mh_eval.specs.Quiet.{NoTexts}
@@ -9,7 +9,8 @@ use Rattle.mh_tree.specs.Running.{value_of}
 use Rattle.mh_tree.specs.Sites.{Setting, env}
 use Rattle.mh_type.specs.Kinds.{kind_of}
 use Rattle.mh_type.specs.declared.kind.Kind.TheVariants as kind
-use Rattle.mh_type.specs.declared.operation.Op.TheVariants.{Concat}
+use Rattle.mh_type.specs.Operations.{operate}
+use Rattle.mh_type.specs.declared.operation.Op.TheVariants.{Concat, Not}
 use Rattle.mh_type.specs.declared.value.Value.{Value}
 
 abbrev pub IsSourceQuiet : Setting → Source → List Value → List Value → Type 0
@@ -37,6 +38,7 @@ abbrev pub IsPurposeQuiet : Setting → Purpose → List Value → List Value �
 IsPurposeQuiet v answer a l x = Unit {0}
 IsPurposeQuiet v (local i r) a l x = IsRoutineQuiet v r a (put l i x)
 IsPurposeQuiet v (truth r q) a l x = Chosen x (IsRoutineQuiet v r a l) (IsRoutineQuiet v q a l)
+IsPurposeQuiet v (untruth r q) a l x = WithValue (operate Not (x ∷ [])) (λ b. Chosen b (IsRoutineQuiet v r a l) (IsRoutineQuiet v q a l))
 
 -- the places that its locals take
 abbrev pub slots : Routine → ℕ
@@ -49,3 +51,4 @@ abbrev pub purpose_slots : Purpose → ℕ
 purpose_slots answer = 0
 purpose_slots (local i r) = max (i + 1) (slots r)
 purpose_slots (truth r q) = max (slots r) (slots q)
+purpose_slots (untruth r q) = max (slots r) (slots q)

@@ -69,6 +69,15 @@ fn whole_guard(alloc: Global) -> Result<Prepared, Fail> {
     Ok(Prepared::new(alloc, &guard)?)
 }
 
+/// The `not` of whether an int is 1, as a filter of the result and as one of the argument.
+fn others(alloc: Global) -> Result<[Handle; 2], Fail> {
+    let test = with_one(alloc, Op::Ieq)?;
+    let not = op(alloc, Op::Not)?;
+    let of_result = Handle::filter_return(alloc, &test, &not)?;
+    let of_argument = Handle::filter(alloc, &not, 0, &[Some(test)])?;
+    Ok([of_result, of_argument])
+}
+
 /// The same over parts that were prepared before.
 fn guard_over_parts(alloc: Global) -> Result<Prepared, Fail> {
     let test = Prepared::new(alloc, &with_one(alloc, Op::Ieq)?)?;
@@ -117,6 +126,21 @@ fn a_guard_on_a_key_is_one_piece(rt: HostRuntime) -> Result<(), Fail> {
     let code = whole_guard(rt.alloc())?;
     let pieces = (Kindred::Case(1, 3), Kindred::Leaf(2), Kindred::Apply(2));
     assert_eq!(rt; first_pieces(code.code()), pieces);
+    Ok(())
+}
+
+#[test]
+fn a_guard_on_a_not_exchanges_its_branches(rt: HostRuntime) -> Result<(), Fail> {
+    let alloc = rt.alloc();
+    for test in others(alloc)? {
+        let next = with_one(alloc, Op::Iadd)?;
+        let guard = Handle::guard(alloc, &test, &hundred(alloc)?, &next)?;
+        let code = Prepared::new(alloc, &guard)?;
+        let pieces = (Kindred::Case(1, 5), Kindred::Apply(2), Kindred::Leaf(2));
+        assert_eq!(rt; first_pieces(code.code()), pieces);
+        assert_eq!(rt; ran(alloc, &[], &code, 1)?, int(2, 7));
+        assert_eq!(rt; ran(alloc, &[], &code, 7)?, int(100, 7));
+    }
     Ok(())
 }
 

@@ -3,6 +3,7 @@ use Rattle.std.proofs.Common.{◌≡◌, ℕ, ◌+◌, ◌≤◌, refl, ap, List
 use Rattle.std.proofs.lemmas.List.{take-append-le}
 use Rattle.mh_type.specs.declared.value.Value.{Value}
 use Rattle.mh_type.specs.Operations.{operate}
+use Rattle.mh_type.specs.declared.operation.Op.TheVariants.{Not}
 use Rattle.mh_tree.specs.Environment.{Environment}
 use Rattle.mh_tree.specs.Laws.{argument_more}
 use Rattle.mh_tree.specs.Meaning.{◌>>=◌, choose, choose_steps, after, is_valid}
@@ -10,7 +11,7 @@ use Rattle.mh_tree.specs.Running.{value_of}
 use Rattle.mh_tree.specs.Scoped.{IsIn, AllIn}
 use Rattle.mh_tree.specs.declared.operand.Operand.{Operand}
 use Rattle.mh_tree.specs.declared.operand.Operand.TheVariants.{Argument, Local, Constant}
-use Rattle.mh_code.specs.Routine.{Source, operand, operation, invocation, Routine, give, keep, pick, switch, Purpose, answer, local, truth}
+use Rattle.mh_code.specs.Routine.{Source, operand, operation, invocation, Routine, give, keep, pick, switch, Purpose, answer, local, truth, untruth}
 use Rattle.mh_code.specs.Runs.{source_outcome, source_steps, put, run_routine, routine_steps, purpose_outcome, purpose_steps}
 use Rattle.mh_code.specs.Scope.{IsSourceIn, IsRoutineIn, IsPurposeIn}
 
@@ -55,8 +56,11 @@ module _ (C : ℕ → ℕ → Type 0) (k n d : ℕ) (v : Environment) (a l m : L
   purpose_above answer x h = refl
   purpose_above (local i r) x h = ap (run_routine v r a) (put_above i x h.0)
   purpose_above (truth r q) x h = λ j. choose x (routine_above r h.0 j) (routine_above q h.1 j)
+  purpose_above (untruth r q) x h = λ j. operate Not (x ∷ []) >>= (λ b. choose b (routine_above r h.0 j) (routine_above q h.1 j))
 
   pub purpose_steps_above : (u : Purpose) (x : Value) → IsPurposeIn C k n d u → purpose_steps v u a (l ++ m) x ≡ purpose_steps v u a l x
   purpose_steps_above answer x h = refl
   purpose_steps_above (local i r) x h = ap (routine_steps v r a) (put_above i x h.0)
   purpose_steps_above (truth r q) x h = λ j. choose_steps x (routine_steps_above r h.0 j) (routine_steps_above q h.1 j)
+  purpose_steps_above (untruth r q) x h =
+      λ j. 1 + after (operate Not (x ∷ [])) (λ b. choose_steps b (routine_steps_above r h.0 j) (routine_steps_above q h.1 j))

@@ -1,25 +1,27 @@
 -- The routine of quiet code is quiet, where what its value is for is.
-use Rattle.std.proofs.Common.{◌≡◌, Bool, true, false, ℕ, ◌+◌, ◌≤◌, sym, subst, List, [], ◌∷◌, ◌++◌, length, length-append, arith, if◌then◌else◌}
+use Rattle.std.proofs.Common.{◌≡◌, Bool, true, false, ℕ, ◌+◌, ◌≤◌, refl, sym, subst, List, [], ◌∷◌, ◌++◌, length, length-append, arith, if◌then◌else◌}
 use Rattle.std.specs.Prelude.{max}
-use Rattle.mh_code.specs.Routine.{Source, operand, operation, invocation, Routine, give, keep, pick, switch, Purpose, answer, local, truth}
-use Rattle.mh_code.specs.RoutineOf.{used, invoked, routine}
+use Rattle.mh_code.specs.Routine.{Source, operand, operation, invocation, Routine, give, keep, pick, switch, Purpose, answer, local, truth, untruth}
+use Rattle.mh_code.specs.RoutineOf.{gives_truth, tested, negated_local, negated, used, bound, routine}
 use Rattle.mh_code.specs.Runs.{source_outcome, put}
 use Rattle.mh_code.specs.Scope.{IsSourceIn, IsRoutineIn, IsPurposeIn}
 use Rattle.mh_code.specs.Laws.Above.{put_above, source_above, value_above, values_above}
 use Rattle.mh_code.specs.Laws.Means.{newest, put_last}
-use Rattle.mh_code.specs.Laws.Scoped.{routine_in, purpose_more}
+use Rattle.mh_code.specs.Laws.Scoped.{bound_in, routine_in, purpose_more}
+use Rattle.mh_code.specs.Laws.Truths.{bound_by, last_local, true_or_false}
 use Rattle.mh_eval.specs.Entered.{WithValue, Chosen, OneOf, plain_below}
 use Rattle.mh_eval.specs.Quiet.{IsQuiet, NoTexts, deep}
 use Rattle.mh_run.specs.Quiet.{IsSourceQuiet, IsTestQuiet, IsRoutineQuiet, IsPurposeQuiet, slots, purpose_slots}
 use Rattle.mh_tree.specs.Code.{Code, leaf, apply, bind, branch, switch as switch_code, call}
 use Rattle.mh_tree.specs.Meaning.{◌>>=◌, choose, is_valid}
-use Rattle.mh_tree.specs.Running.{run_code}
+use Rattle.mh_tree.specs.Running.{run_code, value_of}
 use Rattle.mh_tree.specs.Scoped.{IsScoped}
 use Rattle.mh_tree.specs.Sites.{Setting, env}
-use Rattle.mh_tree.specs.declared.operand.Operand.{Operand}
 use Rattle.mh_tree.specs.declared.operand.Operand.TheVariants.{Local}
 use Rattle.mh_type.specs.Kinds.{kind_of}
 use Rattle.mh_type.specs.declared.kind.Kind.TheVariants as kind
+use Rattle.mh_type.specs.Operations.{operate}
+use Rattle.mh_type.specs.declared.operation.Op.TheVariants.{Concat, Not}
 use Rattle.mh_type.specs.declared.outcome.Outcome.{Outcome}
 use Rattle.mh_type.specs.declared.outcome.Outcome.TheVariants as outcome
 use Rattle.mh_type.specs.declared.value.Value.{Value}
@@ -57,6 +59,14 @@ one_map : (b : Bool) (E F G H : Type 0) → (E → G) → (F → H) → OneOf b 
 one_map true E F G H j k h = j h
 one_map false E F G H j k h = k h
 
+-- a truth chooses the other way where its `not` does
+denied : (b : Bool) (E F : Type 0) → WithValue (operate Not (value.Boolean b ∷ [])) (λ c. Chosen c E F) → Chosen (value.Boolean b) F E
+denied true E F h = h
+denied false E F h = h
+
+not_concat : Not ≡ Concat → ⊥
+not_concat h = cc
+
 -- what is quiet is so below more locals
 module _ (C : ℕ → ℕ → Type 0) (k n d : ℕ) (v : Setting) (a l m : List Value) (deep_enough : d ≤ length l) where
   source_still : (x : Source) → IsSourceIn C n d x → IsSourceQuiet v x a l → IsSourceQuiet v x a (l ++ m)
@@ -91,6 +101,8 @@ module _ (C : ℕ → ℕ → Type 0) (k n d : ℕ) (v : Setting) (a l m : List 
   purpose_still answer x h q = tt
   purpose_still (local i r) x h q = put_still i h.0 r x q
   purpose_still (truth r r') x h q = chosen_map x _ _ _ _ (routine_still r h.0) (routine_still r' h.1) q
+  purpose_still (untruth r r') x h q =
+      with_map (operate Not (x ∷ [])) _ _ (λ b. chosen_map b _ _ _ _ (routine_still r h.0) (routine_still r' h.1)) q
 
 module _ (C : ℕ → ℕ → Type 0) (k n : ℕ) (v : Setting) (a : List Value) where
   test_quiet : (x : Source) (l : List Value) → IsSourceQuiet v x a l → IsTestQuiet v x a l
@@ -98,15 +110,10 @@ module _ (C : ℕ → ℕ → Type 0) (k n : ℕ) (v : Setting) (a : List Value)
   test_quiet (operation op x y) l q = q
   test_quiet (invocation s os) l q = q
 
-  used_quiet : (s : ℕ) (x : Source) (u : Purpose) (l : List Value) → IsSourceQuiet v x a l → WithValue (source_outcome (env v) x a l) (IsPurposeQuiet v u a l) → IsRoutineQuiet v (used s x u) a l
-  used_quiet s x answer l q p = q
-  used_quiet s x (local i r) l q p = (q, p)
-  used_quiet s x (truth r r') l q p = (test_quiet x l q, p)
-
-  invoked_quiet : (d s site : ℕ) (os : List Operand) (u : Purpose) (l : List Value) → IsPurposeIn C k n d u → d ≡ length l → IsSourceQuiet v (invocation site os) a l → WithValue (source_outcome (env v) (invocation site os) a l) (IsPurposeQuiet v u a l) → IsRoutineQuiet v (invoked d s site os u) a l
-  invoked_quiet d s site os answer l h deep_enough q p = q
-  invoked_quiet d s site os (local i r) l h deep_enough q p = (q, p)
-  invoked_quiet d s site os (truth r r') l h deep_enough q p = (
+  tested_quiet : (d s : ℕ) (x : Source) (r r' : Routine) (l : List Value) → IsPurposeIn C k n d (truth r r') → d ≡ length l → IsSourceQuiet v x a l → WithValue (source_outcome (env v) x a l) (IsPurposeQuiet v (truth r r') a l) → IsRoutineQuiet v (tested d s x r r') a l
+  tested_quiet d s (operand o) r r' l h deep_enough q p = (test_quiet (operand o) l q, p)
+  tested_quiet d s (operation op x y) r r' l h deep_enough q p = (q, p)
+  tested_quiet d s (invocation site os) r r' l h deep_enough q p = (
     q,
     with_map _ _ (λ x. IsRoutineQuiet v (pick 0 (operand (Local d)) r r') a (put l d x))
         (λ x e. (
@@ -118,39 +125,91 @@ module _ (C : ℕ → ℕ → Type 0) (k n : ℕ) (v : Setting) (a : List Value)
         p,
   )
 
+  -- a value that is kept and then negated
+  kept_quiet : (d s : ℕ) (x : Source) (r r' : Routine) (l : List Value) → IsPurposeIn C k n d (untruth r r') → d ≡ length l → IsSourceQuiet v x a l → WithValue (source_outcome (env v) x a l) (IsPurposeQuiet v (untruth r r') a l) → IsRoutineQuiet v (keep s x d (negated_local d r r')) a l
+  kept_quiet d s x r r' l h deep_enough q p = (
+    q,
+    with_map _ _ (λ z. IsRoutineQuiet v (negated_local d r r') a (put l d z))
+        (λ z e. (
+          not_concat,
+          subst (λ y. WithValue (operate Not (y ∷ [])) (λ b. Chosen b (IsRoutineQuiet v r a (put l d z)) (IsRoutineQuiet v r' a (put l d z)))) (sym (newest a l d z deep_enough))
+              (subst (λ t. WithValue (operate Not (z ∷ [])) (λ b. Chosen b (IsRoutineQuiet v r a t) (IsRoutineQuiet v r' a t))) (sym (put_last l d z deep_enough))
+              (purpose_still C k n d v a l (z ∷ []) (omega (arith, deep_enough)) (untruth r r') z h e)),
+        ))
+        p,
+  )
+
+  negated_quiet : (d s : ℕ) (x : Source) (r r' : Routine) (l : List Value) → IsPurposeIn C k n d (untruth r r') → d ≡ length l → IsSourceQuiet v x a l → WithValue (source_outcome (env v) x a l) (IsPurposeQuiet v (untruth r r') a l) → IsRoutineQuiet v (negated d s x r r') a l
+  negated_quiet d s (operand o) r r' l h deep_enough q p = kept_quiet d s (operand o) r r' l h deep_enough q p
+  negated_quiet d s (operation op x y) r r' l h deep_enough q p = by (gives_truth op) refl
+    where
+      by : (b : Bool) → gives_truth op ≡ b → IsRoutineQuiet v (if b then pick (s + 1) (operation op x y) r' r else keep s (operation op x y) d (negated_local d r r')) a l
+      by true is =
+          let it = true_or_false op (value_of a l x) (value_of a l y) is in
+          let E : Outcome → Type 0 = λ o. WithValue o (λ b. Chosen b (IsRoutineQuiet v r' a l) (IsRoutineQuiet v r a l)) in
+          (q, subst E (sym it.1) (denied it.0 _ _ (subst (λ o. WithValue o (IsPurposeQuiet v (untruth r r') a l)) it.1 p)))
+      by false is = kept_quiet d s (operation op x y) r r' l h deep_enough q p
+  negated_quiet d s (invocation site os) r r' l h deep_enough q p = kept_quiet d s (invocation site os) r r' l h deep_enough q p
+
+  used_quiet : (d s : ℕ) (x : Source) (u : Purpose) (l : List Value) → IsPurposeIn C k n d u → d ≡ length l → IsSourceQuiet v x a l → WithValue (source_outcome (env v) x a l) (IsPurposeQuiet v u a l) → IsRoutineQuiet v (used d s x u) a l
+  used_quiet d s x answer l h deep_enough q p = q
+  used_quiet d s x (local i r) l h deep_enough q p = (q, p)
+  used_quiet d s x (truth r r') l h deep_enough q p = tested_quiet d s x r r' l h deep_enough q p
+  used_quiet d s x (untruth r r') l h deep_enough q p = negated_quiet d s x r r' l h deep_enough q p
+
+  -- what follows the first of two parts is quiet where it is so as a local
+  bound_quiet : (c : Code) (d : ℕ) (u : Purpose) (r : Routine) (l : List Value) (x : Value) → d ≡ length l → IsRoutineQuiet v r a (put l d x) → WithValue (run_code (env v) c a (l ++ x ∷ [])) (IsPurposeQuiet v u a l) → IsPurposeQuiet v (bound d c u r) a l x
+  bound_quiet c d u r l x deep_enough h w =
+      bound_by (λ e u' z. WithValue (run_code (env v) e a (l ++ x ∷ [])) (IsPurposeQuiet v u' a l) → IsPurposeQuiet v z a l x) d c u r (λ w'. h)
+      (λ y y' o. subst (λ z. WithValue (operate Not (z ∷ [])) (λ b. Chosen b (IsRoutineQuiet v y a l) (IsRoutineQuiet v y' a l))) (last_local l d x deep_enough)) w
+
   pub quiet : (c : Code) (d s : ℕ) (u : Purpose) (l : List Value) → IsScoped C k n d c → IsPurposeIn C k n d u → d ≡ length l → IsQuiet v c a l → WithValue (run_code (env v) c a l) (IsPurposeQuiet v u a l) → IsRoutineQuiet v (routine c d s u) a l
-  quiet (leaf m o) d s u l h g e q p = used_quiet (s + m) (operand o) u l q p
-  quiet (apply m op x y) d s u l h g e q p = used_quiet (s + m) (operation op x y) u l q p
+  quiet (leaf m o) d s u l h g e q p = used_quiet d (s + m) (operand o) u l g e q p
+  quiet (apply m op x y) d s u l h g e q p = used_quiet d (s + m) (operation op x y) u l g e q p
   quiet (bind m f c) d s u l h g e q p =
-      quiet f d (s + m) (local d (routine c (d + 1) 0 u)) l h.0 (omega arith, routine_in C k n c (d + 1) 0 u h.1 (purpose_more C k n d u g)) e q.0
+      quiet f d (s + m) (bound d c u (routine c (d + 1) 0 u)) l h.0 (bound_in C k n d c u _ (routine_in C k n c (d + 1) 0 u h.1 (purpose_more C k n d u g)) g) e q.0
       (in_turn (run_code (env v) f a l) (λ x. run_code (env v) c a (l ++ x ∷ [])) (λ x. IsQuiet v c a (l ++ x ∷ [])) (IsPurposeQuiet v u a l) _ q.1 p
-      (λ x e' w. subst (λ t. IsRoutineQuiet v (routine c (d + 1) 0 u) a t) (sym (put_last l d x e))
+      (λ x e' w. bound_quiet c d u (routine c (d + 1) 0 u) l x e (subst (λ t. IsRoutineQuiet v (routine c (d + 1) 0 u) a t) (sym (put_last l d x e))
       (quiet c (d + 1) 0 u (l ++ x ∷ []) h.1 (purpose_more C k n d u g) (simp length-append (omega (arith, e))) e'
-      (with_map _ _ _ (λ y. purpose_still C k n d v a l (x ∷ []) (omega (arith, e)) u y g) w))))
+      (with_map _ _ _ (λ y. purpose_still C k n d v a l (x ∷ []) (omega (arith, e)) u y g) w))) w))
   quiet (branch m c x y) d s u l h g e q p =
       quiet c d (s + m) (truth (routine x d 0 u) (routine y d 0 u)) l h.0 (routine_in C k n x d 0 u h.1 g, routine_in C k n y d 0 u h.2 g) e q.0
       (in_turn (run_code (env v) c a l) (λ b. choose b (run_code (env v) x a l) (run_code (env v) y a l)) (λ b. Chosen b (IsQuiet v x a l) (IsQuiet v y a l)) (IsPurposeQuiet v u a l) _ q.1 p
       (λ b e' w. chosen b (run_code (env v) x a l) (run_code (env v) y a l) _ _ _ _ _ e' w (quiet x d 0 u l h.1 g e) (quiet y d 0 u l h.2 g e)))
   quiet (switch_code m j x y) d s u l h g e q p =
       one (is_valid (env v) j) (run_code (env v) x a l) (run_code (env v) y a l) _ _ _ _ _ q p (quiet x d 0 u l h.1 g e) (quiet y d 0 u l h.2 g e)
-  quiet (call m site os) d s u l h g e q p = invoked_quiet d (s + m) site os u l g e q p
+  quiet (call m site os) d s u l h g e q p = used_quiet d (s + m) (invocation site os) u l g e q p
 
 -- it takes one place more than the code has locals at once
-used_slots : (s : ℕ) (x : Source) (u : Purpose) → slots (used s x u) ≤ purpose_slots u
-used_slots s x answer = omega arith
-used_slots s x (local i r) = omega arith
-used_slots s x (truth r q) = omega arith
+tested_slots : (d s : ℕ) (x : Source) (r q : Routine) → slots (tested d s x r q) ≤ max (d + 1) (max (slots r) (slots q))
+tested_slots d s (operand o) r q = omega arith
+tested_slots d s (operation op x y) r q = omega arith
+tested_slots d s (invocation site os) r q = omega arith
 
-invoked_slots : (d s site : ℕ) (os : List Operand) (u : Purpose) → slots (invoked d s site os u) ≤ max (d + 1) (purpose_slots u)
-invoked_slots d s site os answer = omega arith
-invoked_slots d s site os (local i r) = omega arith
-invoked_slots d s site os (truth r q) = omega arith
+negated_slots : (d s : ℕ) (x : Source) (r q : Routine) → slots (negated d s x r q) ≤ max (d + 1) (max (slots r) (slots q))
+negated_slots d s (operand o) r q = omega arith
+negated_slots d s (operation op x y) r q = by (gives_truth op)
+  where
+    by : (b : Bool) → slots (if b then pick (s + 1) (operation op x y) q r else keep s (operation op x y) d (negated_local d r q)) ≤ max (d + 1) (max (slots r) (slots q))
+    by true = omega arith
+    by false = omega arith
+negated_slots d s (invocation site os) r q = omega arith
+
+used_slots : (d s : ℕ) (x : Source) (u : Purpose) → slots (used d s x u) ≤ max (d + 1) (purpose_slots u)
+used_slots d s x answer = omega arith
+used_slots d s x (local i r) = omega arith
+used_slots d s x (truth r q) = tested_slots d s x r q
+used_slots d s x (untruth r q) = negated_slots d s x r q
+
+bound_slots : (d : ℕ) (c : Code) (u : Purpose) (r : Routine) → purpose_slots (bound d c u r) ≤ max (max (d + 1) (slots r)) (purpose_slots u)
+bound_slots d c u r = bound_by (λ e w z. purpose_slots z ≤ max (max (d + 1) (slots r)) (purpose_slots w)) d c u r (omega arith) (λ x q y. omega arith)
 
 pub few_slots : (c : Code) (d s : ℕ) (u : Purpose) → slots (routine c d s u) ≤ max (d + 1 + deep c) (purpose_slots u)
-few_slots (leaf m o) d s u = omega (arith, used_slots (s + m) (operand o) u)
-few_slots (apply m op x y) d s u = omega (arith, used_slots (s + m) (operation op x y) u)
-few_slots (bind m f c) d s u = omega (arith, few_slots f d (s + m) (local d (routine c (d + 1) 0 u)), few_slots c (d + 1) 0 u)
+few_slots (leaf m o) d s u = omega (arith, used_slots d (s + m) (operand o) u)
+few_slots (apply m op x y) d s u = omega (arith, used_slots d (s + m) (operation op x y) u)
+few_slots (bind m f c) d s u =
+    omega (arith, few_slots f d (s + m) (bound d c u (routine c (d + 1) 0 u)), bound_slots d c u (routine c (d + 1) 0 u), few_slots c (d + 1) 0 u)
 few_slots (branch m c x y) d s u =
     omega (arith, few_slots c d (s + m) (truth (routine x d 0 u) (routine y d 0 u)), few_slots x d 0 u, few_slots y d 0 u)
 few_slots (switch_code m j x y) d s u = omega (arith, few_slots x d 0 u, few_slots y d 0 u)
-few_slots (call m site os) d s u = omega (arith, invoked_slots d (s + m) site os u)
+few_slots (call m site os) d s u = omega (arith, used_slots d (s + m) (invocation site os) u)

@@ -1,19 +1,24 @@
-use Rattle.std.proofs.Common.{◌≡◌, ◌+◌, ap, ◌∙◌, arith, List, Option, IfOk, subst, zero-add}
+use Rattle.std.proofs.Common.{◌≡◌, ◌+◌, ap, sym, ◌∙◌, arith, List, Option, IfOk, length, subst, take, zero-add}
 use Rattle.std.specs.Arc.{arc_value}
 use Rattle.std.specs.declared.alloc.Global.{Global}
 use Rattle.std.specs.declared.sync.Arc.{Arc}
 use Rattle.mh_code.specs.Laws.Shifts.{shifts}
 use Rattle.mh_code.specs.PieceOf.{routine_of}
 use Rattle.mh_code.specs.PurposeOf.{purpose_of}
-use Rattle.mh_code.specs.Routine.{Routine, local, truth}
-use Rattle.mh_code.specs.RoutineOf.{routine}
+use Rattle.mh_code.specs.Routine.{Routine, operand, operation, invocation, truth}
+use Rattle.mh_code.specs.RoutineOf.{routine, used}
+use Rattle.mh_type.specs.Operations.{op_signature}
 use Rattle.mh_tree.specs.Code.{Code}
 use Rattle.mh_tree.specs.Laws.{effort, total_effort, tree_of_filter}
 use Rattle.mh_tree.specs.Limits.{size, total_size}
-use Rattle.mh_tree.specs.Prepared.{prepared}
-use Rattle.mh_tree.specs.Tree.{filter, filters_of}
-use Rattle.mh_tree.specs.TreeOf.{tree_of, filter_trees}
+use Rattle.mh_tree.specs.Prepared.{operand_at, prepared}
+use Rattle.mh_tree.specs.Tree.{Tree, constant, filter, filters_of, invoke, operation as operation_tree}
+use Rattle.mh_tree.specs.TreeOf.{tree_of, tree_step, filter_trees}
 use Rattle.mh_tree.specs.declared.node.Node.{Node}
+use Rattle.mh_tree.specs.declared.node.Node.TheFolds.{fold-roll-Node}
+use Rattle.mh_tree.specs.declared.node.Node.TheOpen as open_node
+use Rattle.mh_tree.specs.declared.node.Node.TheVariants.{rolls-Constant, rolls-Invoke, rolls-Operation}
+use Rattle.mh_tree.specs.declared.operand.Operand.TheVariants.{Constant}
 use Rattle.mh_code.proofs.preparing.+prepare.Goals as goal
 
 pub prepare-prepare_filters-requires : goal.prepare-prepare_filters-requires
@@ -32,6 +37,54 @@ prepare-returns-in-Filter t c =
     ap (λ (fs : List (Option (Arc Node Global))). filters_of (filter_trees fs)) c.deref-in-Filter.ensures.value in
     record { value = rw e (rw f at c.prepare_filters.ensures.value) }
 
+pub prepare-returns-in-Constant : goal.prepare-returns-in-Constant
+prepare-returns-in-Constant t c =
+    let d = c.args.place.now.depth in
+    let u = purpose_of c.args.purpose.now in
+    let tree : tree_of c.args.node.now ≡ constant c.in-Constant.value =
+    ap tree_of (c.in-Constant.is ∙ sym (rolls-Constant c.in-Constant.value)) ∙ fold-roll-Node Tree tree_step (open_node.Constant c.in-Constant.value) in
+    let P : Routine → Type 0 = λ r. IfOk c.constant.result (λ p. routine_of (arc_value p) ≡ r) in
+    record {
+      value = subst P
+          (ap (λ i. used d i (operand (Constant c.in-Constant.value)) u) (sym (zero-add (c.args.before + 1)))
+          ∙ sym (ap (λ n. routine (prepared n c.args.place.now.operands.now d c.args.before) d 0 u) tree))
+          c.constant.ensures.value;
+    }
+
+pub prepare-returns-in-Operation : goal.prepare-returns-in-Operation
+prepare-returns-in-Operation t c =
+    let d = c.args.place.now.depth in
+    let u = purpose_of c.args.purpose.now in
+    let op = c.in-Operation.op in
+    let read = take (length (op_signature op).parameters) c.args.place.now.operands.now in
+    let tree : tree_of c.args.node.now ≡ operation_tree op =
+    ap tree_of (c.in-Operation.is ∙ sym (rolls-Operation op)) ∙ fold-roll-Node Tree tree_step (open_node.Operation op) in
+    let P : Routine → Type 0 = λ r. IfOk c.operation.result (λ p. routine_of (arc_value p) ≡ r) in
+    record {
+      value = subst P
+          (ap (λ i. used d i (operation op (operand_at read 0) (operand_at read 1)) u) (sym (zero-add (c.args.before + 1)))
+          ∙ sym (ap (λ n. routine (prepared n c.args.place.now.operands.now d c.args.before) d 0 u) tree))
+          c.operation.ensures.value;
+    }
+
+pub prepare-returns-in-Invoke : goal.prepare-returns-in-Invoke
+prepare-returns-in-Invoke t c =
+    let d = c.args.place.now.depth in
+    let u = purpose_of c.args.purpose.now in
+    let env = c.args.place.now.operands.now in
+    let site = c.in-Invoke.site in
+    let m = c.in-Invoke.method_type in
+    let read : c.parts.result.0.now ≡ take (length m.parameters) env = c.parts.ensures.before ∙ ap (λ n. take n env) c.count.ensures.value in
+    let tree : tree_of c.args.node.now ≡ invoke site m =
+    ap tree_of (c.in-Invoke.is ∙ sym (rolls-Invoke site m)) ∙ fold-roll-Node Tree tree_step (open_node.Invoke site m) in
+    let P : Routine → Type 0 = λ r. IfOk c.use_invocation.result (λ p. routine_of (arc_value p) ≡ r) in
+    record {
+      value = subst P
+          ((λ i. used d (sym (zero-add (c.args.before + 1)) i) (invocation site (read i)) u)
+          ∙ sym (ap (λ n. routine (prepared n env d c.args.before) d 0 u) tree))
+          c.use_invocation.ensures.value;
+    }
+
 pub prepare_guard-returns : goal.prepare_guard-returns
 prepare_guard-returns t c =
     let env = c.args.place.now.operands.now in
@@ -47,14 +100,15 @@ prepare_guard-returns t c =
           c.prepare-3.ensures.value;
     }
 
-pub prepare_local-returns : goal.prepare_local-returns
-prepare_local-returns t c =
+pub prepare_for-returns : goal.prepare_for-returns
+prepare_for-returns t c =
     let tree = tree_of c.args.node.now in
-    let next = local c.args.depth (routine_of (arc_value c.args.then.now)) in
+    let env = c.args.place.now.operands.now in
+    let d = c.args.place.now.depth in
+    let u = purpose_of c.args.purpose.now in
     let P : Routine → Type 0 = λ r. IfOk c.prepare.result (λ p. routine_of (arc_value p) ≡ r) in
     record {
       value = subst P
-          (shifts tree c.args.operands.now c.args.depth c.args.steps 0 next
-          ∙ ap (λ i. routine (prepared tree c.args.operands.now c.args.depth 0) c.args.depth i next) (zero-add c.args.steps))
+          (shifts tree env d c.args.steps 0 u ∙ ap (λ i. routine (prepared tree env d 0) d i u) (zero-add c.args.steps))
           c.prepare.ensures.value;
     }

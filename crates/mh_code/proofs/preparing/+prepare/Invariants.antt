@@ -12,11 +12,14 @@ decreases-prepare l = 4 * effort (tree_of l.node.now)
 abbrev pub decreases-prepare_moved : goal.decreases-prepare_moved
 decreases-prepare_moved l = 4 * effort (tree_of l.target.now) + 1
 
-abbrev pub decreases-prepare_local : goal.decreases-prepare_local
-decreases-prepare_local l = 4 * effort (tree_of l.node.now) + 1
+abbrev pub decreases-prepare_two : goal.decreases-prepare_two
+decreases-prepare_two l = 4 * (effort (tree_of l.first.now) + (effort (tree_of (arc_value l.rest.now.target.now)) + total_effort (filters_of (filter_trees l.rest.now.filters.filters.now)))) + 2
+
+abbrev pub decreases-prepare_for : goal.decreases-prepare_for
+decreases-prepare_for l = 4 * effort (tree_of l.node.now) + 1
 
 abbrev pub decreases-prepare_filters : goal.decreases-prepare_filters
-decreases-prepare_filters l = 4 * (effort (tree_of (arc_value l.target.now)) + total_effort (filters_of (filter_trees l.left.now.filters.now))) + 3
+decreases-prepare_filters l = 4 * (effort (tree_of (arc_value l.target.now)) + total_effort (filters_of (filter_trees l.left.now.filters.now))) + 1
 
 abbrev pub decreases-prepare_return : goal.decreases-prepare_return
 decreases-prepare_return l = 4 * (effort (tree_of (arc_value l.target.now)) + effort (tree_of (arc_value l.last.now))) + 3
