@@ -1,4 +1,5 @@
 mod Handles
 mod Pieces
+mod Reaching
 mod Sites
 mod Sources

@@ -9,7 +9,7 @@ use Rattle.mh_code.specs.declared.code.Code.{Code}
 use Rattle.mh_code.specs.declared.code.Piece.{Piece}
 use Rattle.mh_code.specs.declared.code.Piece.TheFolds.{fold-roll-Piece}
 use Rattle.mh_code.specs.declared.code.Piece.TheOpen as open_piece
-use Rattle.mh_code.specs.declared.code.Piece.TheVariants.{Put, rolls-Put, Let, rolls-Let, Call, rolls-Call, Forward, rolls-Forward, Go, rolls-Go}
+use Rattle.mh_code.specs.declared.code.Piece.TheVariants.{Apply, rolls-Apply, Put, rolls-Put, Let, rolls-Let, Call, rolls-Call, Forward, rolls-Forward, Go, rolls-Go}
 use Rattle.mh_code.specs.Height.{code_height, height, height_step, entry_height}
 use Rattle.mh_tree.specs.Prepared.{leading_arguments}
 use Rattle.mh_tree.specs.declared.operand.Operand.{Operand}
@@ -23,6 +23,9 @@ routine_of_let op x y i then s = ap routine_of (sym (rolls-Let op x y i then s))
 
 pub routine_of_call : (site : ℕ) (os : Vec Operand Global) (i : ℕ) (then : Arc Piece Global) (s : ℕ) → routine_of (Call site os i then s) ≡ keep s (invocation site os.items) i (routine_of (arc_value then))
 routine_of_call site os i then s = ap routine_of (sym (rolls-Call site os i then s)) ∙ fold-roll-Piece Routine Routine piece_step entry_step (open_piece.Call site os i then s)
+
+pub routine_of_apply : (op : Op) (x y : Operand) (s : ℕ) → routine_of (Apply op x y s) ≡ give s (operation op x y)
+routine_of_apply op x y s = ap routine_of (sym (rolls-Apply op x y s)) ∙ fold-roll-Piece Routine Routine piece_step entry_step (open_piece.Apply op x y s)
 
 pub routine_of_forward : (site count s : ℕ) → routine_of (Forward site count s) ≡ give s (invocation site (leading_arguments count))
 routine_of_forward site count s = ap routine_of (sym (rolls-Forward site count s)) ∙ fold-roll-Piece Routine Routine piece_step entry_step (open_piece.Forward site count s)

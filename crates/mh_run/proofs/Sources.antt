@@ -1,6 +1,6 @@
 -- What a piece leads to, from what its source answers.
 use Rattle.std.proofs.Common.{◌≡◌, Bool, true, false, ℕ, ◌+◌, ◌≤◌, ◌<◌, refl, ap, sym, subst, ◌∙◌, List, [], ◌∷◌, take, length, length-append, length-take, arith, if◌then◌else◌}
-use Rattle.std.specs.Prelude.{max}
+use Rattle.std.specs.Prelude.{max, Result, IfOk, IsOk}
 use Rattle.mh_code.specs.Routine.{Source, Routine, give, keep, pick, switch}
 use Rattle.mh_code.specs.RoutineOf.{after_steps}
 use Rattle.mh_code.specs.Runs.{source_outcome, source_steps, source_weight, put, run_routine, routine_steps, weight}
@@ -12,9 +12,9 @@ use Rattle.mh_eval.specs.Quiet.{IsAnswered}
 use Rattle.mh_eval.proofs.AnswersGiven.{gives_ran}
 use Rattle.mh_eval.specs.declared.answer.Answer.{Answer}
 use Rattle.mh_eval.specs.declared.answer.Answer.TheVariants.{Int, Long, Boolean, Text, Thrown, NoMemory}
-use Rattle.mh_run.specs.Picks.{is_truth, picked}
+use Rattle.mh_run.specs.Picks.{is_truth, picked, IsPut}
 use Rattle.mh_run.specs.Quiet.{IsSourceQuiet, IsTestQuiet, IsRoutineQuiet, slots}
-use Rattle.mh_run.specs.Runs.{Answers, Ends, Leaves, MayRun, Stops}
+use Rattle.mh_run.specs.Runs.{Answers, Ends, Goes, Leaves, MayGo, MayRun, Stops, Told}
 use Rattle.mh_tree.specs.Meaning.{◌>>=◌, after, choose, choose_steps, is_valid}
 use Rattle.mh_tree.specs.Sites.{Setting, env, MayCall, most_at}
 use Rattle.mh_type.specs.declared.outcome.Outcome.{Outcome}
@@ -113,6 +113,9 @@ module _ (v : Setting) (a l : List Value) (x : Source) (s m : ℕ) where
       let light : weight (most_at v.level) p ≤ max (weight (most_at v.level) q) (weight (most_at v.level) w) =
       subst (λ r. weight (most_at v.level) r ≤ max (weight (most_at v.level) q) (weight (most_at v.level) w)) (sym at)
       (either_one (λ r. weight (most_at v.level) r ≤ max (weight (most_at v.level) q) (weight (most_at v.level) w)) z q w (omega arith) (omega arith)) in
+      let own_light : weight 0 p ≤ max (weight 0 q) (weight 0 w) =
+      subst (λ r. weight 0 r ≤ max (weight 0 q) (weight 0 w)) (sym at)
+      (either_one (λ r. weight 0 r ≤ max (weight 0 q) (weight 0 w)) z q w (omega arith) (omega arith)) in
       let less : j + weight (most_at v.level) p ≤ m + weight (most_at v.level) (pick s x q w) = omega (arith, total, small, light) in
       let inside = λ (r : Routine). IsRoutineIn (MayCall v.level v.targets (length v.valid)) (length v.valid) (length a) (length l) r in
       record {
@@ -126,6 +129,7 @@ module _ (v : Setting) (a l : List Value) (x : Source) (s m : ℕ) where
         };
         quiet = λ e. subst (λ r. IsRoutineQuiet v r a l) (sym at)
             (pick_chosen z (λ r. IsRoutineQuiet v r a l) q w (of_value o z (λ b. Chosen b (IsRoutineQuiet v q a l) (IsRoutineQuiet v w a l)) is e.1));
+        own = omega (arith, own_light);
       }
 
 module _ (v : Setting) (a l : List Value) (x : Source) (s m : ℕ) (r : Answer) (n j : ℕ) (total : j ≡ (m + s) + n) (h : Answers v a l x r n) where
@@ -157,6 +161,7 @@ module _ (v : Setting) (a l : List Value) (x : Source) (s m : ℕ) (r : Answer) 
             room = omega (arith, may.room);
           };
           quiet = λ e. subst (λ t. IsRoutineQuiet v q a t) (sym at) (of_value o y (λ z. IsRoutineQuiet v q a (put l i z)) is e.1);
+          own = omega arith;
         }
 
     pub keep_ends : (t : Answer) (c : ℕ) → lower_room ≤ c → ((o : Outcome) → Gives r o → Stops t o) → (i < c → IsAnswered r → IsAnswered t) → Ends v a l (keep s x i q) m t j
@@ -193,6 +198,7 @@ switches v a l s m j total p q w r may true is at = record {
     room = omega (arith, ap slots at, may.room);
   };
   quiet = λ e. subst (λ g. IsRoutineQuiet v g a l) (sym at) (subst (λ b. OneOf b (IsRoutineQuiet v q a l) (IsRoutineQuiet v w a l)) (sym is) e);
+  own = omega (arith, ap (weight 0) at);
 }
 switches v a l s m j total p q w r may false is at = record {
   outcome = ap (λ e. run_routine (env v) e a l) at ∙ ap (λ b. if b then run_routine (env v) q a l else run_routine (env v) w a l) is;
@@ -204,6 +210,7 @@ switches v a l s m j total p q w r may false is at = record {
     room = omega (arith, ap slots at, may.room);
   };
   quiet = λ e. subst (λ g. IsRoutineQuiet v g a l) (sym at) (subst (λ b. OneOf b (IsRoutineQuiet v q a l) (IsRoutineQuiet v w a l)) (sym is) e);
+  own = omega (arith, ap (weight 0) at);
 }
 
 -- other code goes on
@@ -214,6 +221,7 @@ goes_on v a l s m j total (give n x) may = record {
   few = omega (arith, total);
   may = record { scoped = may.scoped; few = omega (arith, total, may.few); room = may.room };
   quiet = λ e. e;
+  own = omega arith;
 }
 goes_on v a l s m j total (keep n x i r) may = record {
   outcome = refl;
@@ -221,6 +229,7 @@ goes_on v a l s m j total (keep n x i r) may = record {
   few = omega (arith, total);
   may = record { scoped = may.scoped; few = omega (arith, total, may.few); room = may.room };
   quiet = λ e. e;
+  own = omega arith;
 }
 goes_on v a l s m j total (pick n x r q) may = record {
   outcome = refl;
@@ -228,6 +237,7 @@ goes_on v a l s m j total (pick n x r q) may = record {
   few = omega (arith, total);
   may = record { scoped = may.scoped; few = omega (arith, total, may.few); room = may.room };
   quiet = λ e. e;
+  own = omega arith;
 }
 goes_on v a l s m j total (switch n p r q) may = record {
   outcome = refl;
@@ -235,6 +245,7 @@ goes_on v a l s m j total (switch n p r q) may = record {
   few = omega (arith, total);
   may = record { scoped = may.scoped; few = omega (arith, total, may.few); room = may.room };
   quiet = λ e. e;
+  own = omega arith;
 }
 
 -- one piece after another
@@ -246,6 +257,7 @@ module _ (v : Setting) (a l k : List Value) (r q : Routine) (m n : ℕ) (first :
     few = omega (arith, h.few, first.few);
     may = h.may;
     quiet = λ e. h.quiet (first.quiet e);
+    own = omega (arith, h.own, first.own);
   }
 
   pub ends_more : (t : Answer) (j : ℕ) → Ends v a k q n t j → Ends v a l r m t j
@@ -257,7 +269,7 @@ module _ (v : Setting) (a l k : List Value) (r q : Routine) (m n : ℕ) (first :
 
 -- nothing is done yet
 pub leaves_all : (v : Setting) (a l : List Value) (r : Routine) (m : ℕ) → MayRun v a l r m → Leaves v a l r m l r m
-leaves_all v a l r m may = record { outcome = refl; steps = refl; few = omega arith; may = may; quiet = λ e. e }
+leaves_all v a l r m may = record { outcome = refl; steps = refl; few = omega arith; may = may; quiet = λ e. e; own = omega arith }
 
 -- the answer of an operand, and of an operation
 pub plain_answers : (v : Setting) (a l : List Value) (x : Source) (r : Answer) (o : Outcome) → Gives r o → o ≡ source_outcome (env v) x a l → 0 ≡ source_steps (env v) x a l → (IsSourceQuiet v x a l → IsAnswered r) → Answers v a l x r 0
@@ -265,4 +277,59 @@ plain_answers v a l x r o given is none answers = record {
   ran = subst (λ n. Ran r 0 (source_outcome (env v) x a l) n) none (subst (λ w. Ran r 0 w 0) is (gives_ran r o 0 given));
   few = omega arith;
   quiet = answers;
+}
+
+-- a value as an answer
+abbrev answered : Value → Answer
+answered (value.Int x) = Int x
+answered (value.Long x) = Long x
+answered (value.Boolean x) = Boolean x
+answered (value.Text x) = Text x
+
+answered_gives : (y : Value) → Gives (answered y) (outcome.Value y)
+answered_gives (value.Int x) = refl
+answered_gives (value.Long x) = refl
+answered_gives (value.Boolean x) = refl
+answered_gives (value.Text x) = refl
+
+answered_is : (y : Value) (o : Outcome) → Gives (answered y) o → o ≡ outcome.Value y
+answered_is (value.Int x) o h = h
+answered_is (value.Long x) o h = h
+answered_is (value.Boolean x) o h = h
+answered_is (value.Text x) o h = h
+
+is_answered : (y : Value) → IsAnswered (answered y)
+is_answered (value.Int x) = tt
+is_answered (value.Long x) = tt
+is_answered (value.Boolean x) = tt
+is_answered (value.Text x) = tt
+
+-- a value that was put
+pub goes_put : (v : Setting) (a l : List Value) (x : Source) (s m i : ℕ) (q : Routine) (k : List Value) (j : ℕ) → j ≡ m + s → 0 ≡ source_steps (env v) x a l → (o : Outcome) → o ≡ source_outcome (env v) x a l → IsPut o l i k → MayGo v a l (keep s x i q) m → Goes v a l (keep s x i q) m k q j
+goes_put v a l x s m i q k j total none (outcome.Value y) is put may = record {
+  leaves = keeps v a l x s m (answered y) 0 j (omega (arith, total)) (plain_answers v a l x (answered y) (outcome.Value y) (answered_gives y) is none (λ e. is_answered y)) i q may.run k (λ o h. (y, answered_is y o h, put));
+  own = omega (arith, total);
+}
+goes_put v a l x s m i q k j total none (outcome.Thrown t) is put may = absurd put
+
+-- one after another
+pub goes_all : (v : Setting) (a l : List Value) (r : Routine) (m : ℕ) → MayGo v a l r m → Goes v a l r m l r m
+goes_all v a l r m may = record { leaves = leaves_all v a l r m may.run; own = omega arith }
+
+pub goes_may : (v : Setting) (a l k : List Value) (r q : Routine) (m n : ℕ) → MayGo v a l r m → Goes v a l r m k q n → MayGo v a k q n
+goes_may v a l k r q m n may h = record { run = h.leaves.may; own = omega (arith, h.own, may.own) }
+
+pub goes_more : (v : Setting) (a l k z : List Value) (r q p : Routine) (m n j : ℕ) → Goes v a l r m k q n → Goes v a k q n z p j → Goes v a l r m z p j
+goes_more v a l k z r q p m n j first h = record {
+  leaves = leaves_more v a l k r q m n first.leaves z p j h.leaves;
+  own = omega (arith, h.own, first.own);
+}
+
+-- an answer as a result
+pub told_ends : {E : Type 0} (x : Result (Outcome × ℕ) E) (v : Setting) (a : List Value) (r : Routine) (m : ℕ) (t : Answer) (j : ℕ) → Ends v a [] r m t j → ((o : Outcome) (k : ℕ) → Ran t j o k → IfOk x (λ y. y.0 ≡ o)) → ((o : Outcome) (k : ℕ) → Ran t j o k → IfOk x (λ y. y.1 ≡ k)) → ((k : ℕ) → j ≤ k → IfOk x (λ y. y.1 ≤ k)) → (IsAnswered t → IsOk x) → Told x v a r m
+told_ends x v a r m t j h outcome steps few memory = record {
+  outcome = outcome _ _ h.ran;
+  steps = steps _ _ h.ran;
+  few = few _ h.few;
+  quiet = λ q. memory (h.quiet q);
 }

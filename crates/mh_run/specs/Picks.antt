@@ -1,5 +1,8 @@
--- One of two by a value, the first by true alone.
-use Rattle.std.specs.Prelude.{Bool, true, false}
+-- What becomes of a value: it chooses one of two, the first by true alone, or it is put as the local of a place.
+use Rattle.std.specs.Prelude.{◌≡◌, ℕ, Bool, true, false, List}
+use Rattle.mh_code.specs.Runs.{put}
+use Rattle.mh_type.specs.declared.outcome.Outcome.{Outcome}
+use Rattle.mh_type.specs.declared.outcome.Outcome.TheVariants as outcome
 use Rattle.mh_type.specs.declared.value.Value.{Value}
 use Rattle.mh_type.specs.declared.value.Value.TheVariants.{Boolean}
 
@@ -10,3 +13,8 @@ is_truth _ = false
 abbrev pub picked : {A : Type 0} → Value → A → A → A
 picked (Boolean true) x y = x
 picked _ x y = y
+
+-- an outcome is a value, and locals k are locals l with it at place i
+abbrev pub IsPut : Outcome → List Value → ℕ → List Value → Type 0
+IsPut (outcome.Value x) l i k = k ≡ put l i x
+IsPut (outcome.Thrown t) l i k = ⊥

@@ -1,5 +1,5 @@
 -- What running a routine r on arguments a, with locals l and after m steps, leads to.
-use Rattle.std.specs.Prelude.{◌≡◌, ℕ, ◌+◌, ◌≤◌, List, length}
+use Rattle.std.specs.Prelude.{◌≡◌, ℕ, ◌+◌, ◌≤◌, List, [], length, Result, IfOk, IsOk}
 use Rattle.mh_code.specs.Routine.{Source, Routine}
 use Rattle.mh_code.specs.Runs.{source_outcome, source_steps, source_weight, run_routine, routine_steps, weight}
 use Rattle.mh_code.specs.Scope.{IsRoutineIn}
@@ -45,3 +45,33 @@ pub record Leaves (v : Setting) (a l : List Value) (r : Routine) (m : ℕ) (k : 
   pub few : n + weight (most_at v.level) q ≤ m + weight (most_at v.level) r
   pub may : MayRun v a k q n
   pub quiet : IsRoutineQuiet v r a l → IsRoutineQuiet v q a k
+  pub own : weight 0 q ≤ weight 0 r
+
+-- the most nodes of the trees that are entered one after another, each in the place of the one before
+abbrev pub most_own : ℕ
+most_own = 1310720
+
+-- the same as MayRun after m steps of its own alone, which a word counts
+pub record MayGo (v : Setting) (a l : List Value) (r : Routine) (m : ℕ) : Type 0 where
+  pub run : MayRun v a l r m
+  pub own : m + weight 0 r ≤ most_own
+
+-- the same as Leaves, with no step of an invocation
+pub record Goes (v : Setting) (a l : List Value) (r : Routine) (m : ℕ) (k : List Value) (q : Routine) (n : ℕ) : Type 0 where
+  pub leaves : Leaves v a l r m k q n
+  pub own : n + weight 0 q ≤ m + weight 0 r
+
+-- running routine q in w on arguments b, after n steps, does what running r in v on a does after m
+pub record GoesOn (v : Setting) (a : List Value) (r : Routine) (m : ℕ) (w : Setting) (b : List Value) (q : Routine) (n : ℕ) : Type 0 where
+  pub outcome : run_routine (env w) q b [] ≡ run_routine (env v) r a []
+  pub steps : n + routine_steps (env w) q b [] ≡ m + routine_steps (env v) r a []
+  pub few : n + weight (most_at w.level) q ≤ m + weight (most_at v.level) r
+  pub may : MayGo w b [] q n
+  pub quiet : IsRoutineQuiet v r a [] → IsRoutineQuiet w q b []
+
+-- a routine's outcome and all steps; where it is quiet it is not refused memory
+pub record Told {E : Type 0} (x : Result (Outcome × ℕ) E) (v : Setting) (a : List Value) (r : Routine) (m : ℕ) : Type 0 where
+  pub outcome : IfOk x (λ y. y.0 ≡ run_routine (env v) r a [])
+  pub steps : IfOk x (λ y. y.1 ≡ m + routine_steps (env v) r a [])
+  pub few : IfOk x (λ y. y.1 ≤ m + weight (most_at v.level) r)
+  pub quiet : IsRoutineQuiet v r a [] → IsOk x

@@ -1,18 +1,24 @@
 //! Calls of prepared handles.
 
-ghost use Rattle.std.specs.Prelude.{◌≡◌, ◌≤◌, ℕ, List, length, IfOk, IsOk};
+ghost use Rattle.std.specs.Prelude.{◌≡◌, ◌-◌, ◌≤◌, ℕ, List, [], length, IfOk, IsOk};
+ghost use Rattle.mh_code.specs.PieceOf.{routine_of};
+ghost use Rattle.mh_run.specs.Runs.{Ends, MayGo, Told};
 ghost use Rattle.mh_eval.specs.Entered.{EntersPlain};
 ghost use Rattle.mh_tree.specs.Limits.{point_bound};
 ghost use Rattle.mh_tree.specs.Meaning.{mean, steps};
-ghost use Rattle.mh_tree.specs.Sites.{IsLawful, HavePoints, with_sites, sites, greatest_steps};
+ghost use Rattle.mh_tree.specs.Sites.{IsLawful, HavePoints, with_sites, setting, sites, greatest_steps};
 ghost use Rattle.mh_type.specs.Fits.{Fits};
 
+use crate::forwarding::{Reached, reach};
 use crate::here::Here;
+use crate::levels::Lower;
+use crate::locals::read;
 use crate::outcome::outcome_of;
 use crate::running::run_on;
 use crate::stack::Stack;
 use mh_base::NoMemory;
-use mh_code::Prepared;
+use mh_code::{Piece, Prepared};
+use mh_eval::{Answer, operate, outcome_of_number};
 use mh_type::{Outcome, Value};
 
 /// The outcome of a prepared handle's tree on arguments, and the number of its nodes entered, where
@@ -23,6 +29,7 @@ use mh_type::{Outcome, Value};
 /// parameters. A throw of any part that runs is the outcome, and nothing after it runs. Fails only
 /// with `NoMemory`, and not where no node that is entered, in the trees of sites too, has String in
 /// its type; the stack is as before.
+#[inline(always)]
 pub fn run(
     stack: &mut Stack,
     here: &Here<'_>,
@@ -44,7 +51,167 @@ pub fn run(
         arguments.now
         → IsOk result }
 {
-    let entry = handle.code().entry();
-    let (answer, steps) = run_on(&mut stack.levels, stack.alloc, here, entry, arguments);
+    let reached = reach(here, handle.code().entry(), arguments);
+    run_piece(stack, here, reached)
+}
+
+// Runs the piece that was reached. Whether this is inlined is left to the compiler, which then
+// simplifies it first, so that the result is written by few stores.
+#[inline]
+fn run_piece(
+    stack: &mut Stack,
+    here: &Here<'_>,
+    reached: Reached<'_>,
+) -> Result<(Outcome, u128), NoMemory>
+    requires deep { reached.depth ≤ 4 }
+    requires may { MayGo (setting (4 - reached.depth) here.now.valid.now here.now.targets.now)
+        reached.arguments.now [] (routine_of reached.piece.now) reached.total }
+    ensures told { Told result (setting (4 - reached.entry.depth) here.now.valid.now
+        here.now.targets.now) reached.entry.arguments.now (routine_of reached.entry.piece.now) reached.entry.total }
+    ensures stack { stack.new ≡ stack.old }
+{
+    if let Piece::Leaf { operand, steps } = reached.piece {
+        let value = read(reached.arguments, &[], operand);
+        if let Some(outcome) = outcome_of_number(value) {
+            return Ok((outcome, u128::from(reached.total + u64::from(*steps))));
+        }
+    }
+    run_by_call(stack, here, reached)
+}
+
+// Runs it by a call. Kept apart so that its result slot is zeroed only when it is called.
+#[inline(always)]
+fn run_by_call(
+    stack: &mut Stack,
+    here: &Here<'_>,
+    reached: Reached<'_>,
+) -> Result<(Outcome, u128), NoMemory>
+    requires deep { reached.depth ≤ 4 }
+    requires may { MayGo (setting (4 - reached.depth) here.now.valid.now here.now.targets.now)
+        reached.arguments.now [] (routine_of reached.piece.now) reached.total }
+    ensures told { Told result (setting (4 - reached.entry.depth) here.now.valid.now
+        here.now.targets.now) reached.entry.arguments.now (routine_of reached.entry.piece.now) reached.entry.total }
+    ensures stack { stack.new ≡ stack.old }
+{
+    let Reached {
+        depth,
+        piece,
+        arguments,
+        total,
+    } = reached;
+    run_any(stack, here, piece, arguments, total, depth)
+}
+
+// Runs any piece. An operation's int returns first, with no result slot zeroed for other answers.
+#[inline(never)]
+fn run_any(
+    stack: &mut Stack,
+    here: &Here<'_>,
+    piece: &Piece,
+    arguments: &[Value],
+    before: u64,
+    depth: u8,
+) -> Result<(Outcome, u128), NoMemory>
+    requires deep { depth ≤ 4 }
+    requires may { MayGo (setting (4 - depth) here.now.valid.now here.now.targets.now)
+        arguments.now [] (routine_of piece.now) before }
+    ensures told { Told result (setting (4 - depth) here.now.valid.now here.now.targets.now)
+        arguments.now (routine_of piece.now) before }
+    ensures stack { stack.new ≡ stack.old }
+{
+    if let Piece::Apply {
+        op,
+        first,
+        second,
+        steps,
+    } = piece
+    {
+        let first = read(arguments, &[], first);
+        let second = read(arguments, &[], second);
+        let answer = operate(stack.alloc, *op, first, second);
+        let total = u128::from(before + u64::from(*steps));
+        if let Answer::Int(number) = answer {
+            return Ok((Outcome::Value(Value::Int(number)), total));
+        }
+        return outcome_of(answer, total);
+    }
+    run_other(stack, here, piece, arguments, before, depth)
+}
+
+// Runs a piece that is no operation. Kept apart as above.
+#[inline(always)]
+fn run_other(
+    stack: &mut Stack,
+    here: &Here<'_>,
+    piece: &Piece,
+    arguments: &[Value],
+    before: u64,
+    depth: u8,
+) -> Result<(Outcome, u128), NoMemory>
+    requires deep { depth ≤ 4 }
+    requires may { MayGo (setting (4 - depth) here.now.valid.now here.now.targets.now)
+        arguments.now [] (routine_of piece.now) before }
+    ensures told { Told result (setting (4 - depth) here.now.valid.now here.now.targets.now)
+        arguments.now (routine_of piece.now) before }
+    ensures stack { stack.new ≡ stack.old }
+{
+    run_whole(stack, here, piece, arguments, before, depth)
+}
+
+// Runs a piece on the level of its tree.
+#[inline(never)]
+fn run_whole(
+    stack: &mut Stack,
+    here: &Here<'_>,
+    piece: &Piece,
+    arguments: &[Value],
+    before: u64,
+    depth: u8,
+) -> Result<(Outcome, u128), NoMemory>
+    requires deep { depth ≤ 4 }
+    requires may { MayGo (setting (4 - depth) here.now.valid.now here.now.targets.now)
+        arguments.now [] (routine_of piece.now) before }
+    ensures told { Told result (setting (4 - depth) here.now.valid.now here.now.targets.now)
+        arguments.now (routine_of piece.now) before }
+    ensures stack { stack.new ≡ stack.old }
+{
+    let (answer, steps) = run_at(stack, here, piece, arguments, before, depth);
     outcome_of(answer, steps)
+}
+
+// The answer of a piece on the level of its tree, and the steps.
+#[inline(always)]
+fn run_at(
+    stack: &mut Stack,
+    here: &Here<'_>,
+    piece: &Piece,
+    arguments: &[Value],
+    before: u64,
+    depth: u8,
+) -> (Answer, u128)
+    requires deep { depth ≤ 4 }
+    requires may { MayGo (setting (4 - depth) here.now.valid.now here.now.targets.now)
+        arguments.now [] (routine_of piece.now) before }
+    ensures ends { Ends (setting (4 - depth) here.now.valid.now here.now.targets.now)
+        arguments.now [] (routine_of piece.now) before result.0 result.1 }
+    ensures stack { stack.new ≡ stack.old }
+{
+    let alloc = stack.alloc;
+    let first = &mut stack.levels;
+    match depth {
+        0 => run_on(first, alloc, here, piece, arguments, before),
+        1 => first.below.run(alloc, here, piece, arguments, before),
+        2 => first.below.below.run(alloc, here, piece, arguments, before),
+        3 => first
+            .below
+            .below
+            .below
+            .run(alloc, here, piece, arguments, before),
+        _ => first
+            .below
+            .below
+            .below
+            .below
+            .run(alloc, here, piece, arguments, before),
+    }
 }

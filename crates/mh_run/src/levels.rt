@@ -1,14 +1,14 @@
 //! The memory of runs, level by level: what a tree invokes runs in a level of its own.
 
 ghost use Rattle.std.specs.Prelude.{◌≡◌, ◌+◌, ◌-◌, ◌≤◌, ℕ, []};
-ghost use Rattle.mh_code.specs.PieceOf.{routine_of_code};
+ghost use Rattle.mh_code.specs.PieceOf.{routine_of};
 ghost use Rattle.mh_run.specs.Levels.{IsReady};
-ghost use Rattle.mh_run.specs.Runs.{Ends, MayRun};
+ghost use Rattle.mh_run.specs.Runs.{Ends, MayGo};
 ghost use Rattle.mh_tree.specs.Sites.{setting};
 
 use crate::here::Here;
 use crate::running::run_on;
-use mh_code::Code;
+use mh_code::Piece;
 use mh_eval::Answer;
 use mh_type::Value;
 use std::alloc::Global;
@@ -35,19 +35,20 @@ pub(crate) trait Lower: Drop {
 
     ghost is_ready: { Self → Type 0 };
 
-    /// The answer of code on arguments, and its steps.
+    /// The answer of a piece on arguments, after so many steps, and all steps.
     fn run(
         &mut self,
         alloc: Global,
         here: &Here<'_>,
-        code: &Code,
+        piece: &Piece,
         arguments: &[Value],
+        before: u64,
     ) -> (Answer, u128)
         requires ready { is_ready self.old }
-        requires may { MayRun (setting (deep - 1) here.now.valid.now here.now.targets.now)
-            arguments.now [] (routine_of_code code.now) 0 }
+        requires may { MayGo (setting (deep - 1) here.now.valid.now here.now.targets.now)
+            arguments.now [] (routine_of piece.now) before }
         ensures ends { 1 ≤ deep → Ends (setting (deep - 1) here.now.valid.now here.now.targets.now)
-            arguments.now [] (routine_of_code code.now) 0 result.0 result.1 }
+            arguments.now [] (routine_of piece.now) before result.0 result.1 }
         ensures ready { is_ready self.new };
 }
 
@@ -62,8 +63,9 @@ impl Lower for Bottom {
         &mut self,
         _alloc: Global,
         _here: &Here<'_>,
-        _code: &Code,
+        _piece: &Piece,
         _arguments: &[Value],
+        _before: u64,
     ) -> (Answer, u128) {
         (Answer::NoMemory, 0)
     }
@@ -78,9 +80,10 @@ impl<L: Lower> Lower for Level<L> {
         &mut self,
         alloc: Global,
         here: &Here<'_>,
-        code: &Code,
+        piece: &Piece,
         arguments: &[Value],
+        before: u64,
     ) -> (Answer, u128) {
-        run_on(self, alloc, here, code.entry(), arguments)
+        run_on(self, alloc, here, piece, arguments, before)
     }
 }

@@ -13,10 +13,13 @@
 //! ```
 #![tactic(auto)]
 
+mod advancing;
 mod calls;
+mod forwarding;
 mod here;
 mod levels;
 mod locals;
+mod numbers;
 mod outcome;
 mod running;
 mod stack;

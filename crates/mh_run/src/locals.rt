@@ -1,6 +1,6 @@
 //! The locals of a run, and the values of operands.
 
-ghost use Rattle.std.specs.Prelude.{◌≡◌, ◌<◌, ◌≤◌, length, map, vec_capacity, IfErr, OnOk, IsOk};
+ghost use Rattle.std.specs.Prelude.{◌≡◌, ◌<◌, ◌≤◌, [], length, map, take, vec_capacity, IfErr, OnOk, IsOk};
 ghost use Rattle.mh_code.specs.Runs.{put as put_in_place};
 ghost use Rattle.mh_eval.specs.Answers.{Gives};
 ghost use Rattle.mh_eval.specs.Frames.{Extends};
@@ -35,14 +35,48 @@ pub(crate) fn read<'a>(
 
 // Puts a value as the local of a place; those behind it are let go.
 #[inline(always)]
-fn put(locals: &mut Vec<Value>, place: u32, value: Value) -> Result<(), NoMemory>
+pub(crate) fn put(locals: &mut Vec<Value>, place: u32, value: Value) -> Result<(), NoMemory>
     requires inside { place ≤ length locals.old.items }
     ensures value { OnOk result (locals.new.items ≡ put_in_place locals.old.items place value) }
     ensures room { vec_capacity locals.old ≤ vec_capacity locals.new }
     ensures memory { place < vec_capacity locals.old → IsOk result }
 {
-    locals.truncate(place as usize);
-    locals.push(value).map_err(|_| NoMemory)
+    let place = place as usize;
+    if locals.len() == place {
+        return locals.push(value).map_err(|_| NoMemory);
+    }
+    cut(locals, place + 1);
+    locals[place] = value;
+    Ok(())
+}
+
+// Lets go of all locals but so many.
+#[inline(always)]
+fn cut(locals: &mut Vec<Value>, count: usize)
+    ensures rest { locals.new.items ≡ take count locals.old.items }
+    ensures room { vec_capacity locals.old ≤ vec_capacity locals.new }
+{
+    if locals.len() > count {
+        cut_by_call(locals, count);
+    }
+}
+
+// The same by a call.
+#[inline(never)]
+fn cut_by_call(locals: &mut Vec<Value>, count: usize)
+    ensures rest { locals.new.items ≡ take count locals.old.items }
+    ensures room { vec_capacity locals.old ≤ vec_capacity locals.new }
+{
+    locals.truncate(count);
+}
+
+// Lets go of all locals, the last first.
+#[inline(always)]
+pub(crate) fn clear(locals: &mut Vec<Value>)
+    ensures empty { locals.new.items ≡ [] }
+    ensures room { vec_capacity locals.old ≤ vec_capacity locals.new }
+{
+    while let Some(_) = locals.pop() {}
 }
 
 // Puts the value of an answer as the local of a place. What is no value ends the run.

@@ -1,6 +1,6 @@
 //! Running code, piece after piece.
 
-ghost use Rattle.std.specs.Prelude.{◌≡◌, ◌+◌, ◌<◌, ◌≤◌, ◌∷◌, ℕ, List, [], length, vec_capacity, IfOk, IfErr};
+ghost use Rattle.std.specs.Prelude.{◌≡◌, ◌+◌, ◌<◌, ◌≤◌, ◌∷◌, ℕ, List, [], length, vec_capacity, IfOk, IfErr, IfSome};
 ghost use Rattle.mh_code.specs.PieceOf.{routine_of};
 ghost use Rattle.mh_code.specs.Routine.{invocation};
 ghost use Rattle.mh_code.specs.Runs.{put};
@@ -9,56 +9,132 @@ ghost use Rattle.mh_eval.specs.Answers.{Gives};
 ghost use Rattle.mh_eval.specs.Quiet.{IsAnswered};
 ghost use Rattle.mh_code.specs.Height.{height};
 ghost use Rattle.mh_run.specs.Levels.{IsOpen, IsReady};
-ghost use Rattle.mh_run.specs.Picks.{is_truth, picked};
-ghost use Rattle.mh_run.specs.Runs.{Answers, Ends, Leaves, MayRun, Stops};
-ghost use Rattle.mh_tree.specs.Meaning.{argument};
+ghost use Rattle.mh_eval.specs.Limits.{lower_room};
+ghost use Rattle.mh_run.specs.Picks.{picked};
+ghost use Rattle.mh_run.specs.Runs.{Answers, Ends, Goes, Leaves, MayGo, MayRun, Stops};
 ghost use Rattle.mh_tree.specs.Prepared.{leading_arguments};
 ghost use Rattle.mh_tree.specs.Sites.{setting, MayCall, most_at, greatest_steps};
 ghost use Rattle.mh_type.specs.Operations.{operate as operated};
 ghost use Rattle.mh_type.specs.declared.outcome.Outcome.{Outcome as OutcomeData};
 ghost use Rattle.mh_type.specs.declared.value.Value.{Value as ValueData};
 
+use crate::advancing::{advance, is_key, is_true};
 use crate::here::Here;
 use crate::levels::{Level, Lower};
-use crate::locals::{keep, pass, read};
-use mh_code::{KeyTest, Piece};
+use crate::locals::{clear, keep, pass, read};
+use mh_code::Piece;
 use mh_eval::{Answer, operate, share, truth};
 use mh_tree::Operand;
 use mh_type::{Op, Value};
 use std::alloc::Global;
 
-// The answer of a piece's code on a level without locals, and the steps.
+// The answer of a piece on a level without locals, after so many steps, and all steps.
+#[inline(always)]
 pub(crate) fn run_on<L: Lower>(
     level: &mut Level<L>,
     alloc: Global,
     here: &Here<'_>,
     piece: &Piece,
     arguments: &[Value],
+    before: u64,
 ) -> (Answer, u128)
     requires ready { IsReady (L.is_ready) level.old }
-    requires may { MayRun (setting L.deep here.now.valid.now here.now.targets.now)
-        arguments.now [] (routine_of piece.now) 0 }
+    requires may { MayGo (setting L.deep here.now.valid.now here.now.targets.now)
+        arguments.now [] (routine_of piece.now) before }
     ensures ends { Ends (setting L.deep here.now.valid.now here.now.targets.now)
-        arguments.now [] (routine_of piece.now) 0 result.0 result.1 }
+        arguments.now [] (routine_of piece.now) before result.0 result.1 }
     ensures ready { IsReady (L.is_ready) level.new }
 {
     let mut node = piece;
-    let mut total = 0;
+    let mut own = before;
+    let mut more = 0;
     loop {
-        let (next, after) = enter(level, alloc, here, node, arguments, total);
-        total = after;
+        let (last, after) = go_on(&mut level.locals, here, node, arguments, own);
+        let total = more + u128::from(after);
+        let locals = level.locals.as_slice();
+        if let Some((answer, steps)) = finish(alloc, here, last, arguments, locals, total) {
+            clear(&mut level.locals);
+            return (answer, steps);
+        }
+        let (next, sum) = enter(level, alloc, here, last, arguments, total);
         match next {
             Ok(next) => node = next,
             Err(answer) => {
-                level.locals.truncate(0);
-                return (answer, total);
+                clear(&mut level.locals);
+                return (answer, sum);
             }
         }
+        own = 0;
+        more = sum;
+    }
+}
+
+// The piece behind those that take no memory, and the steps of its tree.
+#[inline(always)]
+fn go_on<'a>(
+    locals: &mut Vec<Value>,
+    here: &Here<'_>,
+    piece: &'a Piece,
+    arguments: &[Value],
+    before: u64,
+) -> (&'a Piece, u64)
+    ghost level: { ℕ }
+    requires may { MayGo (setting level here.now.valid.now here.now.targets.now) arguments.now
+        locals.old.items (routine_of piece.now) before }
+    requires room { lower_room ≤ vec_capacity locals.old }
+    ensures on { Goes (setting level here.now.valid.now here.now.targets.now) arguments.now
+        locals.old.items (routine_of piece.now) before locals.new.items (routine_of result.0.now)
+        result.1 }
+    ensures lower { height result.0.now ≤ height piece.now }
+    ensures room { vec_capacity locals.old ≤ vec_capacity locals.new }
+{
+    let mut node = piece;
+    let mut total = before;
+    while let Some((next, after)) = advance(locals, here, node, arguments, total) {
+        node = next;
+        total = after;
+    }
+    (node, total)
+}
+
+// The answer of a leaf or of an operation, and all steps.
+#[inline(always)]
+fn finish(
+    alloc: Global,
+    here: &Here<'_>,
+    piece: &Piece,
+    arguments: &[Value],
+    locals: &[Value],
+    before: u128,
+) -> Option<(Answer, u128)>
+    ghost level: { ℕ }
+    requires may { MayRun (setting level here.now.valid.now here.now.targets.now) arguments.now
+        locals.now (routine_of piece.now) before }
+    ensures ends { IfSome result (λ r. Ends (setting level here.now.valid.now
+        here.now.targets.now) arguments.now locals.now (routine_of piece.now) before r.0 r.1) }
+{
+    match piece {
+        Piece::Leaf { operand, steps } => {
+            let answer = share(read(arguments, locals, operand));
+            Some((answer, before + u128::from(*steps)))
+        }
+        Piece::Apply {
+            op,
+            first,
+            second,
+            steps,
+        } => {
+            let first = read(arguments, locals, first);
+            let second = read(arguments, locals, second);
+            let answer = operate(alloc, *op, first, second);
+            Some((answer, before + u128::from(*steps)))
+        }
+        _ => None,
     }
 }
 
 // The piece that is left to run once a piece is entered, or the answer that ends it, and the steps.
-#[inline(always)]
+#[inline(never)]
 fn enter<'a, L: Lower>(
     level: &mut Level<L>,
     alloc: Global,
@@ -243,30 +319,6 @@ fn tested(alloc: Global, op: Op, first: &Value, second: &Value) -> Answer
     }
 }
 
-// Whether a value is true.
-#[inline(always)]
-fn is_true(value: &Value) -> bool
-    ensures value { result ≡ is_truth value.now }
-{
-    match value {
-        Value::Boolean(truth) => *truth,
-        _ => false,
-    }
-}
-
-// Whether the argument of a key's test is the key.
-#[inline(always)]
-fn is_key(arguments: &[Value], test: &KeyTest) -> bool
-    requires inside { test.now.place < length arguments.now }
-    ensures value { operated Op.Ieq (argument arguments.now test.now.place
-        ∷ ValueData.Int test.now.key ∷ []) ≡ OutcomeData.Value (ValueData.Boolean result) }
-{
-    match &arguments[test.place as usize] {
-        Value::Int(number) => *number == test.key,
-        _ => false,
-    }
-}
-
 // The answer of a site's tree on the values of operands, and its steps.
 #[inline(never)]
 fn invoke<L: Lower>(
@@ -292,9 +344,9 @@ fn invoke<L: Lower>(
         level.passed.truncate(0);
         return (Answer::NoMemory, 0);
     };
-    let code = here.targets[site as usize].code();
+    let entry = here.targets[site as usize].code().entry();
     let passed = level.passed.as_slice();
-    let (answer, steps) = level.below.run(alloc, here, code, passed);
+    let (answer, steps) = level.below.run(alloc, here, entry, passed, 0);
     level.passed.truncate(0);
     (answer, steps)
 }
@@ -319,6 +371,6 @@ fn forward<L: Lower>(
         result.0 result.1 }
     ensures ready { L.is_ready below.new }
 {
-    let code = here.targets[site as usize].code();
-    below.run(alloc, here, code, &arguments[..count as usize])
+    let entry = here.targets[site as usize].code().entry();
+    below.run(alloc, here, entry, &arguments[..count as usize], 0)
 }

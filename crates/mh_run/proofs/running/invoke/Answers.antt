@@ -1,11 +1,11 @@
 use Rattle.std.proofs.Common.{◌≡◌, ◌-◌, ◌∙◌, ap, sym, subst, arith, List, [], ◌++◌, length, map}
 use Rattle.std.specs.Prelude.{IsOk, OnOk, slice_index_or}
 use Rattle.std.proofs.lemmas.List.{get_or_default, length-map}
-use Rattle.mh_code.specs.PieceOf.{routine_of_code}
+use Rattle.mh_code.specs.PieceOf.{routine_of}
 use Rattle.mh_code.specs.RoutineOf.{handle_routine}
 use Rattle.mh_eval.specs.Quiet.{NoTexts}
-use Rattle.mh_run.specs.Runs.{Ends, MayRun}
-use Rattle.mh_run.proofs.Sites.{site_answers, site_deep, site_few, site_may, site_there}
+use Rattle.mh_run.specs.Runs.{Ends, MayGo}
+use Rattle.mh_run.proofs.Sites.{site_answers, site_deep, site_few, site_go, site_there}
 use Rattle.mh_run.proofs.running.invoke.Goals as goal
 use Rattle.mh_tree.specs.Handle.{TypedTree, IsSound}
 use Rattle.mh_tree.specs.Running.{value_of}
@@ -36,10 +36,10 @@ run-answer-requires-clause-may g c =
     ∙ (λ i. c.requires.open.passed i ++ map (value_of c.args.arguments.now (c.as_slice-locals.ensures.value i)) c.args.operands.now) in
     let many : length b ≡ length c.args.operands.now = ap (λ (l : List Value). length l) is ∙ length-map c.args.operands.now (value_of c.args.arguments.now c.args.level.now.locals.items) in
     let same : slice_index_or ts c.args.site c.index-here-site.result ≡ target_at ts c.args.site = get_or_default ts c.args.site c.index-here-site.result _ (site_there d valid ts c.args.site _ c.requires.scoped.0) in
-    let sound = subst (λ (h : TypedTree). IsSound h.tree h.signature) same c.code-code.ensures.sound in
-    let kept : routine_of_code c.code-code.result.now ≡ handle_routine (target_at ts c.args.site) = c.code-code.ensures.value ∙ ap handle_routine same in
-    subst (λ r. MayRun (setting (d - 1) valid ts) b [] r 0) (sym kept)
-    (site_may valid ts c.args.site (length c.args.operands.now) b many sound d c.requires.scoped.0 c.requires.few)
+    let sound = subst (λ (h : TypedTree). IsSound h.tree h.signature) same c.code.ensures.sound in
+    let kept : routine_of c.entry-entry.result.now ≡ handle_routine (target_at ts c.args.site) = c.entry-entry.ensures.value ∙ c.code.ensures.value ∙ ap handle_routine same in
+    subst (λ r. MayGo (setting (d - 1) valid ts) b [] r 0) (sym kept)
+    (site_go valid ts c.args.site (length c.args.operands.now) b many sound d c.requires.scoped.0 0 (omega (arith, c.requires.few)) (omega arith))
 
 pub returns-clause-answers : goal.returns-clause-answers
 returns-clause-answers g c =
@@ -53,8 +53,8 @@ returns-clause-answers g c =
     ∙ (λ i. c.requires.open.passed i ++ map (value_of c.args.arguments.now (c.as_slice-locals.ensures.value i)) c.args.operands.now) in
     let many : length b ≡ length c.args.operands.now = ap (λ (l : List Value). length l) is ∙ length-map c.args.operands.now (value_of c.args.arguments.now c.args.level.now.locals.items) in
     let same : slice_index_or ts c.args.site c.index-here-site.result ≡ target_at ts c.args.site = get_or_default ts c.args.site c.index-here-site.result _ (site_there d valid ts c.args.site _ c.requires.scoped.0) in
-    let sound = subst (λ (h : TypedTree). IsSound h.tree h.signature) same c.code-code.ensures.sound in
-    let kept : routine_of_code c.code-code.result.now ≡ handle_routine (target_at ts c.args.site) = c.code-code.ensures.value ∙ ap handle_routine same in
+    let sound = subst (λ (h : TypedTree). IsSound h.tree h.signature) same c.code.ensures.sound in
+    let kept : routine_of c.entry-entry.result.now ≡ handle_routine (target_at ts c.args.site) = c.entry-entry.ensures.value ∙ c.code.ensures.value ∙ ap handle_routine same in
     site_answers valid ts c.args.site (length c.args.operands.now) b many sound d c.requires.scoped.0
     c.args.arguments.now c.args.level.now.locals.items c.args.operands.now is c.run-answer.result.0 c.run-answer.result.1
     (subst (λ r. Ends (setting (d - 1) valid ts) b [] r 0 c.run-answer.result.0 c.run-answer.result.1) kept (c.run-answer.ensures.ends (site_deep d valid ts c.args.site _ c.requires.scoped.0)))

@@ -1,0 +1,164 @@
+//! Pieces that take no memory, one after another.
+
+ghost use Rattle.std.specs.Prelude.{◌≡◌, ◌-◌, ◌<◌, ◌≤◌, ◌∷◌, ℕ, [], length, vec_capacity, IfSome, IfNone};
+ghost use Rattle.mh_code.specs.Height.{height};
+ghost use Rattle.mh_code.specs.PieceOf.{routine_of};
+ghost use Rattle.mh_eval.specs.Limits.{lower_room};
+ghost use Rattle.mh_run.specs.Picks.{is_truth};
+ghost use Rattle.mh_run.specs.Runs.{Goes, MayGo};
+ghost use Rattle.mh_tree.specs.Meaning.{argument};
+ghost use Rattle.mh_tree.specs.Sites.{setting};
+ghost use Rattle.mh_type.specs.Operations.{operate as operated};
+ghost use Rattle.mh_type.specs.declared.outcome.Outcome.{Outcome as OutcomeData};
+ghost use Rattle.mh_type.specs.declared.value.Value.{Value as ValueData};
+
+use crate::forwarding::Reached;
+use crate::here::Here;
+use crate::locals::read;
+use crate::numbers::{calculate, copy, truth};
+use mh_code::{KeyTest, Piece};
+use mh_type::{Op, Value};
+
+// The piece that follows one, and the steps: of choices, and of the further arms that are given.
+macro_rules! following {
+    (
+        $here:expr, $piece:expr, $arguments:expr, $locals:expr, $before:expr,
+        { $($others:tt)* }
+    ) => {
+        match $piece {
+            Piece::Point {
+                point,
+                target,
+                fallback,
+                steps,
+            } => {
+                let is_valid = $here.valid[*point as usize];
+                let next = if is_valid { target } else { fallback };
+                Some((next, $before + u64::from(*steps)))
+            }
+            Piece::Case {
+                test,
+                target,
+                fallback,
+                steps,
+            } => {
+                let is_key = is_key($arguments, test);
+                let next = if is_key { target } else { fallback };
+                Some((next, $before + u64::from(*steps)))
+            }
+            Piece::Truth {
+                operand,
+                target,
+                fallback,
+                steps,
+            } => {
+                let is_true = is_true(read($arguments, $locals, operand));
+                let next = if is_true { target } else { fallback };
+                Some((next, $before + u64::from(*steps)))
+            }
+            Piece::Test {
+                op,
+                first,
+                second,
+                target,
+                fallback,
+                steps,
+            } => {
+                let first = read($arguments, $locals, first);
+                let second = read($arguments, $locals, second);
+                let holds = truth(*op, first, second)?;
+                let next = if holds { target } else { fallback };
+                Some((next, $before + u64::from(*steps)))
+            }
+            Piece::Go { code, steps } => Some((code.entry(), $before + u64::from(*steps))),
+            $($others)*
+            _ => None,
+        }
+    };
+}
+
+// The piece that a choice on numbers or truths leads to, where no local is kept, and the steps.
+#[inline(always)]
+pub(crate) fn choose<'a>(here: &Here<'_>, reached: Reached<'a>) -> Option<(&'a Piece, u64)>
+    requires may { MayGo (setting (4 - reached.depth) here.now.valid.now here.now.targets.now)
+        reached.arguments.now [] (routine_of reached.piece.now) reached.total }
+    ensures on { IfSome result (λ r. Goes (setting (4 - reached.entry.depth) here.now.valid.now
+        here.now.targets.now) reached.entry.arguments.now [] (routine_of reached.entry.piece.now) reached.entry.total
+        [] (routine_of r.0.now) r.1) }
+    ensures lower { IfSome result (λ r. height r.0.now < height reached.entry.piece.now) }
+{
+    let arguments = reached.arguments;
+    following!(here, reached.piece, arguments, &[], reached.total, {})
+}
+
+// The piece that follows a choice on numbers or truths, or one that puts one, and the steps.
+#[inline(always)]
+pub(crate) fn advance<'a>(
+    locals: &mut Vec<Value>,
+    here: &Here<'_>,
+    piece: &'a Piece,
+    arguments: &[Value],
+    before: u64,
+) -> Option<(&'a Piece, u64)>
+    ghost level: { ℕ }
+    requires may { MayGo (setting level here.now.valid.now here.now.targets.now) arguments.now
+        locals.old.items (routine_of piece.now) before }
+    requires room { lower_room ≤ vec_capacity locals.old }
+    ensures on { IfSome result (λ r. Goes (setting level here.now.valid.now here.now.targets.now)
+        arguments.now locals.old.items (routine_of piece.now) before locals.new.items
+        (routine_of r.0.now) r.1) }
+    ensures lower { IfSome result (λ r. height r.0.now < height piece.now) }
+    ensures kept { IfNone result (locals.new ≡ locals.old) }
+    ensures room { vec_capacity locals.old ≤ vec_capacity locals.new }
+{
+    following!(here, piece, arguments, locals.as_slice(), before, {
+        Piece::Put {
+            operand,
+            local,
+            then,
+            steps,
+        } => {
+            if !copy(locals, arguments, operand, *local) {
+                return None;
+            }
+            Some((then, before + u64::from(*steps)))
+        }
+        Piece::Let {
+            op,
+            first,
+            second,
+            local,
+            then,
+            steps,
+        } => {
+            if !calculate(locals, arguments, *op, first, second, *local) {
+                return None;
+            }
+            Some((then, before + u64::from(*steps)))
+        }
+    })
+}
+
+// Whether a value is true.
+#[inline(always)]
+pub(crate) fn is_true(value: &Value) -> bool
+    ensures value { result ≡ is_truth value.now }
+{
+    match value {
+        Value::Boolean(truth) => *truth,
+        _ => false,
+    }
+}
+
+// Whether the argument of a key's test is the key.
+#[inline(always)]
+pub(crate) fn is_key(arguments: &[Value], test: &KeyTest) -> bool
+    requires inside { test.now.place < length arguments.now }
+    ensures value { operated Op.Ieq (argument arguments.now test.now.place
+        ∷ ValueData.Int test.now.key ∷ []) ≡ OutcomeData.Value (ValueData.Boolean result) }
+{
+    match &arguments[test.place as usize] {
+        Value::Int(number) => *number == test.key,
+        _ => false,
+    }
+}

@@ -1,0 +1,202 @@
+//! Results that are numbers or truths, and take no memory.
+
+ghost use Rattle.std.specs.Prelude.{◌≡◌, ◌<◌, ◌≤◌, ◌∷◌, [], length, vec_capacity, IfSome, IsTrue, IsFalse};
+ghost use Rattle.mh_code.specs.Runs.{put as put_in_place};
+ghost use Rattle.mh_run.specs.Picks.{IsPut};
+ghost use Rattle.mh_tree.specs.Running.{value_of};
+ghost use Rattle.mh_tree.specs.Scoped.{IsIn};
+ghost use Rattle.mh_type.specs.Operations.{operate as operated};
+ghost use Rattle.mh_type.specs.declared.outcome.Outcome.{Outcome};
+ghost use Rattle.mh_type.specs.declared.value.Value.{Value as ValueData};
+
+use crate::locals::{put, read};
+use mh_tree::Operand;
+use mh_type::{Op, Value};
+
+// What is done with a result of two operands of a kind, and what with others.
+macro_rules! two {
+    (
+        $kind:ident, $some:expr, $more:expr,
+        ($x:ident, $y:ident) => $result:expr, $value:ident => $done:expr, $other:expr
+    ) => {
+        match ($some, $more) {
+            (Value::$kind($x), Value::$kind($y)) => {
+                let $value = $result;
+                $done
+            }
+            _ => $other,
+        }
+    };
+}
+
+// The same of one operand.
+macro_rules! one {
+    (
+        $kind:ident, $operand:expr,
+        $x:ident => $result:expr, $value:ident => $done:expr, $other:expr
+    ) => {
+        match $operand {
+            Value::$kind($x) => {
+                let $value = $result;
+                $done
+            }
+            _ => $other,
+        }
+    };
+}
+
+// The truth that an operation on numbers or truths gives.
+#[inline(always)]
+pub(crate) fn truth(op: Op, first: &Value, second: &Value) -> Option<bool>
+    ensures value { IfSome result (λ b. operated op (first.now ∷ second.now ∷ [])
+        ≡ Outcome.Value (ValueData.Boolean b)) }
+{
+    match op {
+        Op::Ieq => two!(Int, first, second, (x, y) => *x == *y, b => Some(b), None),
+        Op::Ilt => two!(Int, first, second, (x, y) => *x < *y, b => Some(b), None),
+        Op::Leq => two!(Long, first, second, (x, y) => *x == *y, b => Some(b), None),
+        Op::Llt => two!(Long, first, second, (x, y) => *x < *y, b => Some(b), None),
+        Op::Not => one!(Boolean, first, x => !*x, b => Some(b), None),
+        Op::Beq => two!(Boolean, first, second, (x, y) => *x == *y, b => Some(b), None),
+        _ => None,
+    }
+}
+
+// Puts the result of an operation on numbers or truths as the local of a place. One on texts, and a
+// throw, puts nothing.
+#[inline(always)]
+#[tactic(auto, using(std::proofs::lemmas::Int::wraps))]
+pub(crate) fn calculate(
+    locals: &mut Vec<Value>,
+    arguments: &[Value],
+    op: Op,
+    first: &Operand,
+    second: &Operand,
+    place: u32,
+) -> bool
+    requires first { IsIn (length arguments.now) (length locals.old.items) first.now }
+    requires second { IsIn (length arguments.now) (length locals.old.items) second.now }
+    requires inside { place ≤ length locals.old.items }
+    requires room { place < vec_capacity locals.old }
+    ensures value { IsTrue result → IsPut (operated op
+        (value_of arguments.now locals.old.items first.now
+        ∷ value_of arguments.now locals.old.items second.now ∷ []))
+        locals.old.items place locals.new.items }
+    ensures kept { IsFalse result → locals.new ≡ locals.old }
+    ensures room { vec_capacity locals.old ≤ vec_capacity locals.new }
+{
+    let some = read(arguments, locals.as_slice(), first);
+    let more = read(arguments, locals.as_slice(), second);
+    match op {
+        Op::Iadd => two!(Int, some, more, (x, y) => x.wrapping_add(*y), n => int(locals, place, n), false),
+        Op::Isub => two!(Int, some, more, (x, y) => x.wrapping_sub(*y), n => int(locals, place, n), false),
+        Op::Imul => two!(Int, some, more, (x, y) => x.wrapping_mul(*y), n => int(locals, place, n), false),
+        Op::Idiv => two!(Int, some, more, (x, y) => {
+            if *y == 0 {
+                return false;
+            }
+            x.wrapping_div(*y)
+        }, n => int(locals, place, n), false),
+        Op::Irem => two!(Int, some, more, (x, y) => {
+            if *y == 0 {
+                return false;
+            }
+            x.wrapping_rem(*y)
+        }, n => int(locals, place, n), false),
+        Op::Ineg => one!(Int, some, x => x.wrapping_neg(), n => int(locals, place, n), false),
+        Op::Ladd => two!(Long, some, more, (x, y) => x.wrapping_add(*y), n => long(locals, place, n), false),
+        Op::Lsub => two!(Long, some, more, (x, y) => x.wrapping_sub(*y), n => long(locals, place, n), false),
+        Op::Lmul => two!(Long, some, more, (x, y) => x.wrapping_mul(*y), n => long(locals, place, n), false),
+        Op::Ldiv => two!(Long, some, more, (x, y) => {
+            if *y == 0 {
+                return false;
+            }
+            x.wrapping_div(*y)
+        }, n => long(locals, place, n), false),
+        Op::Lrem => two!(Long, some, more, (x, y) => {
+            if *y == 0 {
+                return false;
+            }
+            x.wrapping_rem(*y)
+        }, n => long(locals, place, n), false),
+        Op::Lneg => one!(Long, some, x => x.wrapping_neg(), n => long(locals, place, n), false),
+        Op::I2l => one!(Int, some, x => i64::from(*x), n => long(locals, place, n), false),
+        Op::Ieq => two!(Int, some, more, (x, y) => *x == *y, n => boolean(locals, place, n), false),
+        Op::Ilt => two!(Int, some, more, (x, y) => *x < *y, n => boolean(locals, place, n), false),
+        Op::Leq => two!(Long, some, more, (x, y) => *x == *y, n => boolean(locals, place, n), false),
+        Op::Llt => two!(Long, some, more, (x, y) => *x < *y, n => boolean(locals, place, n), false),
+        Op::Not => one!(Boolean, some, x => !*x, n => boolean(locals, place, n), false),
+        Op::Beq => two!(Boolean, some, more, (x, y) => *x == *y, n => boolean(locals, place, n), false),
+        Op::L2i | Op::Concat | Op::Seq | Op::Len => false,
+    }
+}
+
+// Puts the value of an operand, where it is no text, as the local of a place.
+#[inline(always)]
+pub(crate) fn copy(
+    locals: &mut Vec<Value>,
+    arguments: &[Value],
+    operand: &Operand,
+    place: u32,
+) -> bool
+    requires operand { IsIn (length arguments.now) (length locals.old.items) operand.now }
+    requires inside { place ≤ length locals.old.items }
+    requires room { place < vec_capacity locals.old }
+    ensures value { IsTrue result → locals.new.items ≡ put_in_place locals.old.items place
+        (value_of arguments.now locals.old.items operand.now) }
+    ensures kept { IsFalse result → locals.new ≡ locals.old }
+    ensures room { vec_capacity locals.old ≤ vec_capacity locals.new }
+{
+    match read(arguments, locals.as_slice(), operand) {
+        Value::Int(number) => {
+            let number = *number;
+            int(locals, place, number)
+        }
+        Value::Long(number) => {
+            let number = *number;
+            long(locals, place, number)
+        }
+        Value::Boolean(truth) => {
+            let truth = *truth;
+            boolean(locals, place, truth)
+        }
+        Value::Text(_) => false,
+    }
+}
+
+// Puts an int.
+#[inline(always)]
+fn int(locals: &mut Vec<Value>, place: u32, number: i32) -> bool
+    requires inside { place ≤ length locals.old.items }
+    requires room { place < vec_capacity locals.old }
+    ensures put { IsTrue result }
+    ensures value { locals.new.items ≡ put_in_place locals.old.items place (ValueData.Int number) }
+    ensures room { vec_capacity locals.old ≤ vec_capacity locals.new }
+{
+    put(locals, place, Value::Int(number)).is_ok()
+}
+
+// Puts a long.
+#[inline(always)]
+fn long(locals: &mut Vec<Value>, place: u32, number: i64) -> bool
+    requires inside { place ≤ length locals.old.items }
+    requires room { place < vec_capacity locals.old }
+    ensures put { IsTrue result }
+    ensures value { locals.new.items ≡ put_in_place locals.old.items place (ValueData.Long number) }
+    ensures room { vec_capacity locals.old ≤ vec_capacity locals.new }
+{
+    put(locals, place, Value::Long(number)).is_ok()
+}
+
+// Puts a truth.
+#[inline(always)]
+fn boolean(locals: &mut Vec<Value>, place: u32, truth: bool) -> bool
+    requires inside { place ≤ length locals.old.items }
+    requires room { place < vec_capacity locals.old }
+    ensures put { IsTrue result }
+    ensures value { locals.new.items ≡ put_in_place locals.old.items place
+        (ValueData.Boolean truth) }
+    ensures room { vec_capacity locals.old ≤ vec_capacity locals.new }
+{
+    put(locals, place, Value::Boolean(truth)).is_ok()
+}
