@@ -83,8 +83,8 @@ pub(crate) fn choose<'a>(here: &Here<'_>, reached: Reached<'a>) -> Option<(&'a P
     requires may { MayGo (setting (4 - reached.depth) here.now.valid.now here.now.targets.now)
         reached.arguments.now [] (routine_of reached.piece.now) reached.total }
     ensures on { IfSome result (λ r. Goes (setting (4 - reached.entry.depth) here.now.valid.now
-        here.now.targets.now) reached.entry.arguments.now [] (routine_of reached.entry.piece.now) reached.entry.total
-        [] (routine_of r.0.now) r.1) }
+        here.now.targets.now) reached.entry.arguments.now [] (routine_of reached.entry.piece.now)
+        reached.entry.total [] (routine_of r.0.now) r.1) }
     ensures lower { IfSome result (λ r. height r.0.now < height reached.entry.piece.now) }
 {
     let arguments = reached.arguments;

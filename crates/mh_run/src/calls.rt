@@ -67,7 +67,8 @@ fn run_piece(
     requires may { MayGo (setting (4 - reached.depth) here.now.valid.now here.now.targets.now)
         reached.arguments.now [] (routine_of reached.piece.now) reached.total }
     ensures told { Told result (setting (4 - reached.entry.depth) here.now.valid.now
-        here.now.targets.now) reached.entry.arguments.now (routine_of reached.entry.piece.now) reached.entry.total }
+        here.now.targets.now) reached.entry.arguments.now (routine_of reached.entry.piece.now)
+        reached.entry.total }
     ensures stack { stack.new ≡ stack.old }
 {
     if let Piece::Leaf { operand, steps } = reached.piece {
@@ -90,7 +91,8 @@ fn run_by_call(
     requires may { MayGo (setting (4 - reached.depth) here.now.valid.now here.now.targets.now)
         reached.arguments.now [] (routine_of reached.piece.now) reached.total }
     ensures told { Told result (setting (4 - reached.entry.depth) here.now.valid.now
-        here.now.targets.now) reached.entry.arguments.now (routine_of reached.entry.piece.now) reached.entry.total }
+        here.now.targets.now) reached.entry.arguments.now (routine_of reached.entry.piece.now)
+        reached.entry.total }
     ensures stack { stack.new ≡ stack.old }
 {
     let Reached {

@@ -16,29 +16,29 @@ use mh_type::{Op, Value};
 // What is done with a result of two operands of a kind, and what with others.
 macro_rules! two {
     (
-        $kind:ident, $some:expr, $more:expr,
-        ($x:ident, $y:ident) => $result:expr, $value:ident => $done:expr, $other:expr
+        $kind:ident, $pair:expr,
+        ($x:ident, $y:ident) => $result:expr, $use:ident($($given:expr),*), $other:expr
     ) => {
-        match ($some, $more) {
+        match $pair {
             (Value::$kind($x), Value::$kind($y)) => {
-                let $value = $result;
-                $done
+                let value = $result;
+                $use($($given,)* value)
             }
             _ => $other,
         }
     };
 }
 
-// The same of one operand.
+// The same of the first operand alone.
 macro_rules! one {
     (
-        $kind:ident, $operand:expr,
-        $x:ident => $result:expr, $value:ident => $done:expr, $other:expr
+        $kind:ident, $pair:expr,
+        $x:ident => $result:expr, $use:ident($($given:expr),*), $other:expr
     ) => {
-        match $operand {
-            Value::$kind($x) => {
-                let $value = $result;
-                $done
+        match $pair {
+            (Value::$kind($x), _) => {
+                let value = $result;
+                $use($($given,)* value)
             }
             _ => $other,
         }
@@ -51,13 +51,14 @@ pub(crate) fn truth(op: Op, first: &Value, second: &Value) -> Option<bool>
     ensures value { IfSome result (λ b. operated op (first.now ∷ second.now ∷ [])
         ≡ Outcome.Value (ValueData.Boolean b)) }
 {
+    let pair = (first, second);
     match op {
-        Op::Ieq => two!(Int, first, second, (x, y) => *x == *y, b => Some(b), None),
-        Op::Ilt => two!(Int, first, second, (x, y) => *x < *y, b => Some(b), None),
-        Op::Leq => two!(Long, first, second, (x, y) => *x == *y, b => Some(b), None),
-        Op::Llt => two!(Long, first, second, (x, y) => *x < *y, b => Some(b), None),
-        Op::Not => one!(Boolean, first, x => !*x, b => Some(b), None),
-        Op::Beq => two!(Boolean, first, second, (x, y) => *x == *y, b => Some(b), None),
+        Op::Ieq => two!(Int, pair, (x, y) => *x == *y, Some(), None),
+        Op::Ilt => two!(Int, pair, (x, y) => *x < *y, Some(), None),
+        Op::Leq => two!(Long, pair, (x, y) => *x == *y, Some(), None),
+        Op::Llt => two!(Long, pair, (x, y) => *x < *y, Some(), None),
+        Op::Not => one!(Boolean, pair, x => !*x, Some(), None),
+        Op::Beq => two!(Boolean, pair, (x, y) => *x == *y, Some(), None),
         _ => None,
     }
 }
@@ -85,48 +86,50 @@ pub(crate) fn calculate(
     ensures kept { IsFalse result → locals.new ≡ locals.old }
     ensures room { vec_capacity locals.old ≤ vec_capacity locals.new }
 {
-    let some = read(arguments, locals.as_slice(), first);
-    let more = read(arguments, locals.as_slice(), second);
+    let pair = (
+        read(arguments, locals.as_slice(), first),
+        read(arguments, locals.as_slice(), second),
+    );
     match op {
-        Op::Iadd => two!(Int, some, more, (x, y) => x.wrapping_add(*y), n => int(locals, place, n), false),
-        Op::Isub => two!(Int, some, more, (x, y) => x.wrapping_sub(*y), n => int(locals, place, n), false),
-        Op::Imul => two!(Int, some, more, (x, y) => x.wrapping_mul(*y), n => int(locals, place, n), false),
-        Op::Idiv => two!(Int, some, more, (x, y) => {
+        Op::Iadd => two!(Int, pair, (x, y) => x.wrapping_add(*y), int(locals, place), false),
+        Op::Isub => two!(Int, pair, (x, y) => x.wrapping_sub(*y), int(locals, place), false),
+        Op::Imul => two!(Int, pair, (x, y) => x.wrapping_mul(*y), int(locals, place), false),
+        Op::Idiv => two!(Int, pair, (x, y) => {
             if *y == 0 {
                 return false;
             }
             x.wrapping_div(*y)
-        }, n => int(locals, place, n), false),
-        Op::Irem => two!(Int, some, more, (x, y) => {
+        }, int(locals, place), false),
+        Op::Irem => two!(Int, pair, (x, y) => {
             if *y == 0 {
                 return false;
             }
             x.wrapping_rem(*y)
-        }, n => int(locals, place, n), false),
-        Op::Ineg => one!(Int, some, x => x.wrapping_neg(), n => int(locals, place, n), false),
-        Op::Ladd => two!(Long, some, more, (x, y) => x.wrapping_add(*y), n => long(locals, place, n), false),
-        Op::Lsub => two!(Long, some, more, (x, y) => x.wrapping_sub(*y), n => long(locals, place, n), false),
-        Op::Lmul => two!(Long, some, more, (x, y) => x.wrapping_mul(*y), n => long(locals, place, n), false),
-        Op::Ldiv => two!(Long, some, more, (x, y) => {
+        }, int(locals, place), false),
+        Op::Ineg => one!(Int, pair, x => x.wrapping_neg(), int(locals, place), false),
+        Op::Ladd => two!(Long, pair, (x, y) => x.wrapping_add(*y), long(locals, place), false),
+        Op::Lsub => two!(Long, pair, (x, y) => x.wrapping_sub(*y), long(locals, place), false),
+        Op::Lmul => two!(Long, pair, (x, y) => x.wrapping_mul(*y), long(locals, place), false),
+        Op::Ldiv => two!(Long, pair, (x, y) => {
             if *y == 0 {
                 return false;
             }
             x.wrapping_div(*y)
-        }, n => long(locals, place, n), false),
-        Op::Lrem => two!(Long, some, more, (x, y) => {
+        }, long(locals, place), false),
+        Op::Lrem => two!(Long, pair, (x, y) => {
             if *y == 0 {
                 return false;
             }
             x.wrapping_rem(*y)
-        }, n => long(locals, place, n), false),
-        Op::Lneg => one!(Long, some, x => x.wrapping_neg(), n => long(locals, place, n), false),
-        Op::I2l => one!(Int, some, x => i64::from(*x), n => long(locals, place, n), false),
-        Op::Ieq => two!(Int, some, more, (x, y) => *x == *y, n => boolean(locals, place, n), false),
-        Op::Ilt => two!(Int, some, more, (x, y) => *x < *y, n => boolean(locals, place, n), false),
-        Op::Leq => two!(Long, some, more, (x, y) => *x == *y, n => boolean(locals, place, n), false),
-        Op::Llt => two!(Long, some, more, (x, y) => *x < *y, n => boolean(locals, place, n), false),
-        Op::Not => one!(Boolean, some, x => !*x, n => boolean(locals, place, n), false),
-        Op::Beq => two!(Boolean, some, more, (x, y) => *x == *y, n => boolean(locals, place, n), false),
+        }, long(locals, place), false),
+        Op::Lneg => one!(Long, pair, x => x.wrapping_neg(), long(locals, place), false),
+        Op::I2l => one!(Int, pair, x => i64::from(*x), long(locals, place), false),
+        Op::Ieq => two!(Int, pair, (x, y) => *x == *y, boolean(locals, place), false),
+        Op::Ilt => two!(Int, pair, (x, y) => *x < *y, boolean(locals, place), false),
+        Op::Leq => two!(Long, pair, (x, y) => *x == *y, boolean(locals, place), false),
+        Op::Llt => two!(Long, pair, (x, y) => *x < *y, boolean(locals, place), false),
+        Op::Not => one!(Boolean, pair, x => !*x, boolean(locals, place), false),
+        Op::Beq => two!(Boolean, pair, (x, y) => *x == *y, boolean(locals, place), false),
         Op::L2i | Op::Concat | Op::Seq | Op::Len => false,
     }
 }
