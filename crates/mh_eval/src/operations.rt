@@ -5,6 +5,7 @@ ghost use Rattle.std.specs.Int.{int_wrap, int_wrapping_div, w32, w64};
 ghost use Rattle.std.specs.Int.RustNames.{int_rem};
 ghost use Rattle.mh_type.specs.Operations.{operate as outcome_of, divided, joined};
 ghost use Rattle.mh_type.specs.declared.outcome.Outcome.{Outcome};
+ghost use Rattle.mh_type.specs.declared.outcome.Throw.{Throw as ThrowOf};
 ghost use Rattle.mh_type.specs.Kinds.{kind_of};
 ghost use Rattle.mh_type.specs.declared.kind.Kind.{Kind};
 ghost use Rattle.mh_eval.specs.Answers.{Gives};
@@ -160,12 +161,14 @@ macro_rules! one {
 }
 
 /// The answer of an operation on two operands, of which some read the first alone. Only joining two
-/// texts takes memory.
+/// texts takes memory, and not where the joined text is too long.
 #[inline(always)]
 #[tactic(auto, using(std::proofs::lemmas::Int::wraps))]
 pub fn operate(alloc: Global, op: Op, first: &Value, second: &Value) -> Answer
     ensures value { Gives result (outcome_of op (first.now ∷ second.now ∷ [])) }
     ensures quiet { (op ≡ Op.Concat → ⊥) → IsAnswered result }
+    ensures thrown { (t : ThrowOf) → outcome_of op (first.now ∷ second.now ∷ []) ≡ Outcome.Thrown t
+        → IsAnswered result }
 {
     match op {
         Op::Iadd => two!(Int, first, second, (x, y) => Answer::Int(x.wrapping_add(*y))),
@@ -259,6 +262,7 @@ fn length(text: &Text) -> Answer
 #[inline(never)]
 fn concat(alloc: Global, some: &Text, more: &Text) -> Answer
     ensures value { Gives result (joined some.now more.now) }
+    ensures long { (t : ThrowOf) → joined some.now more.now ≡ Outcome.Thrown t → IsAnswered result }
 {
     match Text::concat(alloc, some, more) {
         Ok(text) => Answer::Text(text),
