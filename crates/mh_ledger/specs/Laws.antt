@@ -1,5 +1,7 @@
 -- Laws of the definitions, for the proofs of crates above. Each is proved: nothing here is to be believed.
 pub mod Added
 pub mod Flushes
+pub mod Renewing
 pub use Rattle.mh_ledger.specs.Laws.Added.{length-added}
 pub use Rattle.mh_ledger.specs.Laws.Flushes.{held_links}
+pub use Rattle.mh_ledger.specs.Laws.Renewing.{at-left, left_most, left_total, renewed_held}

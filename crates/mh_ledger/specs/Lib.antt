@@ -2,4 +2,5 @@ pub mod Codes
 pub mod Laws
 pub mod Ledgers
 pub mod Limits
+pub mod Renewals
 pub mod TotalsViews

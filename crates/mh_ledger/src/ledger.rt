@@ -3,7 +3,9 @@
 ghost use Rattle.std.specs.Prelude.{◌≡◌, ◌+◌, ◌<◌, ◌≤◌, ◌^◌, ◌↔◌, ℕ, List, length, replicate, slice_set, IfOk, OnOk, OnErr, IsTrue};
 ghost use Rattle.mh_ledger.specs.Ledgers.{at, made, with_hit, settled, opened_ledger, AreHeld, Holds, IsLedger, LedgerState, TotalsState};
 ghost use Rattle.mh_ledger.specs.Limits.{greatest_limit};
+ghost use Rattle.mh_ledger.specs.Renewals.{renewed_ledger};
 
+use crate::old_hits::{OldHits, lessen};
 use crate::sums::{add, clear};
 use mh_base::NoMemory;
 use std::alloc::Global;
@@ -166,6 +168,13 @@ impl Ledger {
     {
         add(&mut self.flushed, &self.unflushed);
         clear(&mut self.unflushed);
+    }
+
+    // Goes over into a new history, with what goes on counting of the flushed hits.
+    pub(crate) fn renew(&mut self, hits: OldHits)
+        ensures value { self.new ≡ renewed_ledger hits self.old }
+    {
+        lessen(&mut self.flushed, hits);
     }
 }
 

@@ -10,9 +10,11 @@
 #![tactic(auto)]
 
 mod ledger;
+mod old_hits;
 mod sums;
 mod totals;
 
 pub use ledger::{LARGEST_LIMIT, Ledger, LedgerFull};
 pub use mh_base::NoMemory;
+pub use old_hits::OldHits;
 pub use totals::{TotalTooLarge, Totals};

@@ -33,6 +33,18 @@ pub(crate) fn add(sums: &mut Vec<u64>, more: &[u64])
     }
 }
 
+// Takes from each number the one at its place.
+pub(crate) fn subtract(sums: &mut Vec<u64>, less: &[u64])
+    requires lengths { length sums.old.items ≡ length less.now }
+    requires parts { (j : ℕ) → j < length less.now → at less.now j ≤ at sums.old.items j }
+    ensures count { length sums.new.items ≡ length sums.old.items }
+    ensures value { (j : ℕ) → at sums.new.items j + at less.now j ≡ at sums.old.items j }
+{
+    for place in 0..sums.len() {
+        sums[place] -= less[place];
+    }
+}
+
 // Makes each number 0.
 pub(crate) fn clear(numbers: &mut Vec<u64>)
     ensures value { numbers.new.items ≡ replicate (length numbers.old.items) 0 }

@@ -4,9 +4,11 @@ ghost use Rattle.std.specs.Prelude.{◌≡◌, ◌≢◌, ◌+◌, ◌<◌, ◌�
 ghost use Rattle.std.specs.List.{range_with_len, sum_by};
 ghost use Rattle.mh_ledger.specs.Ledgers.{at, ledger_at, made, opened_ledger, opened_totals, settled, flushed_into, share_of, AreHeld, HasRoom, Holds, IsLedger, IsTotals, LedgerState};
 ghost use Rattle.mh_ledger.specs.Limits.{greatest_limit};
+ghost use Rattle.mh_ledger.specs.Renewals.{left_of, renewed_ledger, renewed_totals};
 
 use crate::ledger::{Ledger, zeros};
-use crate::sums::{add, all_fit};
+use crate::old_hits::{OldHits, lessen};
+use crate::sums::{add, all_fit, subtract};
 use mh_base::NoMemory;
 use std::alloc::Global;
 use std::marker::Model;
@@ -184,6 +186,58 @@ impl Totals {
         let hits = ledger.unflushed_hits();
         add(&mut self.totals, hits);
         add(&mut self.shares[ledger.worker()], hits);
+    }
+
+    /// Goes over into a new history, with held ledgers of all workers: of each share, and of what
+    /// its ledger has flushed, what is to go on counting is left, and each total is the sum of the
+    /// shares again. What the ledgers have not flushed stays. It takes no memory.
+    /// O(links * workers).
+    pub fn renew(&mut self, ledgers: &mut Vec<Ledger>, hits: OldHits)
+        requires held { AreHeld self.old ledgers.old.items }
+        ensures totals { self.new ≡ renewed_totals hits self.old }
+        ensures ledgers { ledgers.new.items ≡ map (renewed_ledger hits) ledgers.old.items }
+        ensures held { AreHeld self.new ledgers.new.items }
+        ensures left { (j : ℕ) → at self.new.total j
+            ≡ sum_by (λ share. left_of hits (at share j)) self.old.shares }
+        ensures kept { hits ≡ OldHits.Keep
+            → (self.new ≡ self.old) × (ledgers.new.items ≡ ledgers.old.items) }
+    {
+        self.lessen(hits);
+        renew_all(ledgers, hits);
+    }
+
+    // Leaves of each share what is to go on counting, and makes the totals their sums again.
+    fn lessen(&mut self, hits: OldHits)
+        ensures value { self.new ≡ renewed_totals hits self.old }
+        ensures totals { IsTotals self.old }
+    {
+        for worker in 0..self.shares.len() {
+            self.lessen_share(worker, hits);
+        }
+    }
+
+    // Leaves of a worker's share what is to go on counting, and takes the rest from the totals.
+    fn lessen_share(&mut self, worker: usize, hits: OldHits)
+        requires worker { worker < length self.old.shares }
+        ensures limit { self.new.limit ≡ self.old.limit }
+        ensures links { length self.new.total ≡ length self.old.total }
+        ensures shares { self.new.shares ≡ slice_set self.old.shares worker
+            (map (left_of hits) (share_of self.old worker)) }
+        ensures totals { IsTotals self.new }
+    {
+        let share = &mut self.shares[worker];
+        subtract(&mut self.totals, share);
+        lessen(share, hits);
+        add(&mut self.totals, share);
+    }
+}
+
+// Has each ledger go over into a new history.
+fn renew_all(ledgers: &mut Vec<Ledger>, hits: OldHits)
+    ensures value { ledgers.new.items ≡ map (renewed_ledger hits) ledgers.old.items }
+{
+    for worker in 0..ledgers.len() {
+        ledgers[worker].renew(hits);
     }
 }
 
