@@ -13,4 +13,5 @@ pub mod Names
 pub mod NamesInOrder
 pub mod Rules
 pub mod SiteStates
+pub mod Targets
 pub mod Worlds

@@ -98,6 +98,25 @@ impl Definition {
         Ok(Definition { parts })
     }
 
+    // The definition of parts that fit together, the needs of each link in ascending order.
+    pub(crate) fn of(
+        alloc: Global,
+        points: Listing<Point>,
+        sites: Listing<Site>,
+    ) -> Result<Definition, NoMemory>
+        requires lawful { IsDefinition record { points = points; sites = sites } }
+        ensures value { IfOk result (λ d. d ≡ record { points = points; sites = sites }) }
+    {
+        let numbering = number_links(alloc, sites.as_slice())?;
+        let parts = Parts {
+            points,
+            sites,
+            numbering,
+        };
+        let parts = own(alloc, parts)?;
+        Ok(Definition { parts })
+    }
+
     /// Another owner of the definition. Refused where no more owners can be counted.
     pub fn share(&self) -> Result<Definition, NoMemory>
         ensures value { IfOk result (λ d. d ≡ self.now) }

@@ -25,6 +25,7 @@ mod point;
 mod point_rules;
 mod site;
 mod site_rules;
+mod targets;
 mod version;
 mod world;
 
