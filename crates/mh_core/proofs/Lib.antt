@@ -13,6 +13,7 @@ mod Ledgered
 mod Machines
 mod PlanLinks
 mod PlanTests
+mod Renewed
 mod Runs
 mod Runtimes
 mod Standing

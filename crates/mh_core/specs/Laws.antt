@@ -8,6 +8,7 @@ pub mod Numbered
 pub mod PastSnapshots
 pub mod PlanTables
 pub mod ProblemRows
+pub mod Renewing
 pub mod StandingTrees
 pub mod Worlds
 pub use Rattle.mh_core.specs.Laws.Changes.{change_of}
@@ -15,5 +16,6 @@ pub use Rattle.mh_core.specs.Laws.InvokedTrees.{levels_of, links_known, links_la
 pub use Rattle.mh_core.specs.Laws.LawfulLinks.{few_links}
 pub use Rattle.mh_core.specs.Laws.PastSnapshots.{snapshots_count}
 pub use Rattle.mh_core.specs.Laws.PlanTables.{plans_count}
+pub use Rattle.mh_core.specs.Laws.Renewing.{means_the_same, renewed_links}
 pub use Rattle.mh_core.specs.Laws.StandingTrees.{stands}
 pub use Rattle.mh_core.specs.Laws.Worlds.{oldest_push, world_front, world_push}

@@ -19,6 +19,7 @@ pub mod Pending
 pub mod Standing
 pub mod State
 pub mod Runtimes
+pub mod Renewals
 pub mod Machines
 pub mod ArgumentViews
 pub mod Pasts

@@ -33,11 +33,13 @@ mod plan;
 mod problem;
 mod record;
 mod refusal;
+mod renewing;
 mod reply;
 mod runtime;
 mod snapshot;
 mod state;
 mod testing;
+mod used;
 
 pub use arguments::Arguments;
 pub use book::Book;
@@ -52,7 +54,7 @@ pub use limits::{
 pub use machine::Machine;
 pub use mh_base::{Listing, NoMemory};
 pub use mh_cert::{CheckFault, Plan};
-pub use mh_ledger::{Ledger, Totals};
+pub use mh_ledger::{Ledger, OldHits, Totals};
 pub use mh_network::{LinkRow, Problem, ProblemFault};
 pub use mh_site::{
     Control, Definition, DefinitionFault, GREATEST_CHARGE, GREATEST_COST, GREATEST_WEIGHT,
@@ -70,3 +72,4 @@ pub use record::Record;
 pub use refusal::Refusal;
 pub use reply::Reply;
 pub use runtime::Runtime;
+pub use used::Used;

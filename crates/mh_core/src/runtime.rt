@@ -1,9 +1,11 @@
 //! Runtimes: a book with the ledgers of its workers, for one thread, whose calls are in no history.
 
-ghost use Rattle.std.specs.Prelude.{◌≡◌, ◌⊎◌, ◌<◌, ◌+◌, false, true, length, slice_set, IfErr, IfOk, IfSome, IfNone, OnErr, OnOk};
+ghost use Rattle.std.specs.Prelude.{◌≡◌, ◌⊎◌, ◌<◌, ◌+◌, false, true, length, map, slice_set, IfErr, IfOk, IfSome, IfNone, OnErr, OnOk};
 ghost use Rattle.mh_base.specs.Tests.{Passes, Refuses, no_more, nothing};
 ghost use Rattle.mh_cert.specs.Plans.{Matches};
 ghost use Rattle.mh_ledger.specs.Ledgers.{ledger_at, settled};
+ghost use Rattle.mh_ledger.specs.Renewals.{renewed_ledger};
+ghost use Rattle.mh_site.specs.Links.{links as links_of};
 ghost use Rattle.mh_core.specs.Books.{Rejects, Takes, reply_to};
 ghost use Rattle.mh_core.specs.Callers.{IsCallable};
 ghost use Rattle.mh_core.specs.Hits.{IsHitLink};
@@ -11,6 +13,7 @@ ghost use Rattle.mh_core.specs.Installations.{report};
 ghost use Rattle.mh_core.specs.Legal.{answer_of_call, callee_tests};
 ghost use Rattle.mh_core.specs.Pending.{IsNoFlush};
 ghost use Rattle.mh_core.specs.Problems.{IsTaken, problem_at};
+ghost use Rattle.mh_core.specs.Renewals.{MeansTheSame, Renews, renewal_tests};
 ghost use Rattle.mh_core.specs.Runtimes.{CountsHit, HasRoom, IsRuntime, RefusesFlush, TakesNoMemory, call_tests, flush_of, opened_runtime, room_tests};
 ghost use Rattle.mh_core.specs.declared.record.Record.TheVariants.{Targeted, Invalidated, Snapped, Published, Installed};
 ghost use Rattle.mh_core.specs.declared.reply.Reply.TheVariants.{Called};
@@ -25,7 +28,7 @@ use crate::refusal::Refusal;
 use crate::reply::Reply;
 use mh_base::NoMemory;
 use mh_eval::Stack;
-use mh_ledger::Ledger;
+use mh_ledger::{Ledger, OldHits};
 use mh_site::{Definition, Listing};
 use mh_tree::Declared;
 use mh_type::{Outcome, Value};
@@ -342,5 +345,31 @@ impl Runtime {
             (λ told. Rejects self.old.book 0 (Installed plan) told self.new.book) }
     {
         self.book.install(plan)
+    }
+
+    /// Begins a new history, so that nothing of a history is used up any more. Its definition is
+    /// that of now, where each site has its base tree as its target; its first records invalidate
+    /// the points that are invalid, and flush of each worker's hits what is to go on counting.
+    /// Each site's calls mean what they meant, the same points are valid, and sites, points and
+    /// links keep their numbers. Hits that were not flushed stay so. No site holds a link, and
+    /// snapshots and plans are numbered from 1 again.
+    /// O(points + sites + links * workers), beside the code of each base tree.
+    ///
+    /// Refused with `HistoryFull` where the limit of events is not above the number of workers, and
+    /// then with `NoMemory`; nothing changes.
+    pub fn renew(&mut self, hits: OldHits) -> Result<(), Refusal>
+        ensures passes { OnOk result (length self.old.ledgers < self.old.book.limits.history) }
+        ensures renewed { OnOk result (Renews hits self.old.book self.new.book) }
+        ensures means { OnOk result (MeansTheSame self.old.book self.new.book) }
+        ensures links { OnOk result (links_of self.new.book.definition
+            ≡ links_of self.old.book.definition) }
+        ensures ledgers { OnOk result (self.new.ledgers
+            ≡ map (renewed_ledger hits) self.old.ledgers) }
+        ensures refused { IfErr result (λ told. Refuses
+            (renewal_tests self.old.book.limits (length self.old.ledgers)) told) }
+        ensures kept { OnErr result (self.new ≡ self.old) }
+    {
+        self.book.renew(&mut self.ledgers, hits)?;
+        Ok(())
     }
 }
