@@ -2,7 +2,7 @@
 ghost use Rattle.std.specs.Prelude.{◌≡◌, ◌⊎◌, ◌<◌, ◌≤◌, ℕ, List, string_bytes, length, IfOk, IfErr, IfSome, IsErrOf, OnOk};
 ghost use Rattle.std.specs.Io.KnownBytes.{Appends};
 ghost use Rattle.mh_text.specs.Bytes.{HasFailed};
-ghost use Rattle.mh_text.specs.Gives.{no_memory, IsHonest};
+ghost use Rattle.mh_text.specs.Gives.{no_memory, IsHonest, NoOtherFailed};
 ghost use Rattle.mh_text.specs.Output.{outside};
 ghost use Rattle.mh_text.specs.declared.fault.TextFault.TheVariants.{NoReader};
 ghost use Rattle.mh_live.specs.Limits.{most_workers};
@@ -167,6 +167,8 @@ pub fn stress_bytes<T: Threads + Wait + Sync, R: Read, W: Write>(
         IsScript }
     ensures honest { IsHonest result reader.old.failures reader.new.failures
         writer.old.failures writer.new.failures }
+    ensures others { IfErr result (λ e. NoOtherFailed e.kind reader.old.failures
+        reader.new.failures writer.old.failures writer.new.failures) }
 {
     let script = read_script_from(alloc, reader)?;
     let lines = stress_script(rt, alloc, options, script)?;
