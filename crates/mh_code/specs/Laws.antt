@@ -1,6 +1,7 @@
 -- Laws of the definitions, for the proofs of crates above. Each is proved: nothing here is to be believed.
 pub mod Above
 pub mod Costs
+pub mod Crossing
 pub mod Means
 pub mod Scoped
 pub mod Shifts

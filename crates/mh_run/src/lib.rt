@@ -15,6 +15,7 @@
 
 mod advancing;
 mod calls;
+mod crossing;
 mod forwarding;
 mod here;
 mod levels;
@@ -25,5 +26,6 @@ mod running;
 mod stack;
 
 pub use calls::run;
+pub use crossing::stacks_cross_threads;
 pub use here::Here;
 pub use stack::Stack;

@@ -2,7 +2,7 @@
 
 use crate::deep::{deepest, largest};
 use crate::examples::{Given, hundred, int, op, read, with_one};
-use mh_code::{Code, Piece, Prepared};
+use mh_code::{Code, CodeCache, Piece, Prepared};
 use mh_eval::{fits, lawful};
 use mh_run::{Here, Stack, run};
 use mh_tree::Handle;
@@ -175,6 +175,21 @@ fn a_guard_below_a_point_runs(rt: HostRuntime) -> Result<(), Fail> {
     assert_eq!(rt; ran(alloc, &[true], &code, 1)?, int(100, 6));
     assert_eq!(rt; ran(alloc, &[true], &code, 7)?, int(8, 6));
     assert_eq!(rt; ran(alloc, &[false], &code, 7)?, int(-7, 2));
+    Ok(())
+}
+
+/// What a guard that a cache prepares gives on 1, and what an equal one gives on 7 that has its code
+/// from there.
+fn both_cached_give(alloc: Global) -> Result<(Given, Given), Fail> {
+    let mut cache = CodeCache::new(alloc);
+    let first = cache.prepare(whole_guard(alloc)?.handle())?;
+    let second = cache.prepare(whole_guard(alloc)?.handle())?;
+    Ok((ran(alloc, &[], &first, 1)?, ran(alloc, &[], &second, 7)?))
+}
+
+#[test]
+fn equal_handles_of_a_cache_run(rt: HostRuntime) -> Result<(), Fail> {
+    assert_eq!(rt; both_cached_give(rt.alloc())?, (int(100, 5), int(8, 5)));
     Ok(())
 }
 

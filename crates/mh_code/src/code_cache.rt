@@ -1,0 +1,85 @@
+//! Code that was made lately.
+
+ghost use Rattle.std.specs.Prelude.{◌≡◌, IfErr, IfOk, IfSome};
+
+use crate::comparing::same_handle;
+use crate::prepared::Prepared;
+use mh_tree::{Handle, TreeFault};
+use std::alloc::Global;
+use std::fmt;
+
+/// How many handles a cache keeps.
+const MOST_KEPT: usize = 32;
+
+/// The handles that were prepared last: equal ones that are prepared by one cache share their code.
+/// It keeps the last 32, and finds one in time linear in its tree's size.
+#[derive(Drop)]
+pub struct CodeCache {
+    alloc: Global,
+    kept: Vec<Prepared>,
+    next: usize,
+}
+
+/// How many handles it keeps.
+impl fmt::Debug for CodeCache {
+    fn fmt<W: fmt::Write>(&self, f: &mut fmt::Formatter<W>) -> fmt::Result {
+        write!(f, "CodeCache({} kept)", self.kept.len())
+    }
+}
+
+impl CodeCache {
+    /// An empty cache, whose code will stand in this allocator's room.
+    pub fn new(alloc: Global) -> CodeCache {
+        CodeCache {
+            alloc,
+            kept: Vec::new(alloc),
+            next: 0,
+        }
+    }
+
+    /// The handle with its code: that of an equal handle, where the cache keeps one, and else made
+    /// as by `Prepared::new`, and kept. Fails only with `NoMemory`.
+    pub fn prepare(&mut self, handle: &Handle) -> Result<Prepared, TreeFault>
+        ensures value { IfOk result (λ p. p ≡ handle.now) }
+        ensures refused { IfErr result (λ e. e ≡ TreeFault.NoMemory) }
+    {
+        if let Some(prepared) = self.find(handle) {
+            return Ok(prepared);
+        }
+        let prepared = Prepared::new(self.alloc, handle)?;
+        self.keep(&prepared);
+        Ok(prepared)
+    }
+
+    // Another owner of an equal handle with its code, where it is kept and can be shared.
+    fn find(&self, handle: &Handle) -> Option<Prepared>
+        ensures value { IfSome result (λ p. p ≡ handle.now) }
+    {
+        for kept in &self.kept {
+            if same_handle(kept.handle(), handle) {
+                return kept.share().ok();
+            }
+        }
+        None
+    }
+
+    // Keeps a handle, in the room of the oldest where there is no more. Where there is no memory to
+    // keep it, it is not kept.
+    fn keep(&mut self, prepared: &Prepared) {
+        let Ok(kept) = prepared.share() else {
+            return;
+        };
+        if self.kept.len() < MOST_KEPT {
+            let _kept = self.kept.push(kept);
+            return;
+        }
+        if let Some(oldest) = self.kept.get_mut(self.next) {
+            *oldest = kept;
+        }
+        self.next = if self.next < MOST_KEPT - 1 {
+            self.next + 1
+        } else {
+            0
+        };
+    }
+}

@@ -1,0 +1,12 @@
+//! Laws of what crosses threads.
+
+ghost use Rattle.mh_run.specs.Laws.Crossing.{StacksCross};
+
+use mh_type::values_cross_threads;
+
+/// A stack may go to another thread.
+pub fn stacks_cross_threads()
+    ensures stacks { StacksCross }
+{
+    values_cross_threads();
+}
