@@ -9,10 +9,11 @@
    numbers: the first three from 0 in the order of the definition, links through all sites; the last two from 1.
 
    A history ends: after 1,024 snapshots or plans, or as many records as its limit allows, changes are refused with
-   MHLINK_HISTORY_FULL, and the machine is opened anew. After an invalidation or a retargeting that was refused the sites
-   that it concerns answer as before, so a host that relies on the change makes no call of them. Each flush, retargeting and
-   snapshot keeps some memory until mhlink_close. docs/EMBEDDING.md, "From C", has the figures, and how a site dispatches to
-   methods of the host. */
+   MHLINK_HISTORY_FULL. A host renews the machine before that, when mhlink_used says that records, snapshots or plans near
+   their limits: mhlink_renew begins a new history, and a machine need never end. After an invalidation or a retargeting that
+   was refused the sites that it concerns answer as before, so a host that relies on the change makes no call of them. Each
+   flush, retargeting and snapshot keeps some memory until mhlink_renew or mhlink_close. docs/EMBEDDING.md, "From C", has the
+   figures, and how a site dispatches to methods of the host. */
 #ifndef MHLINK_H
 #define MHLINK_H
 
@@ -57,6 +58,18 @@ typedef struct mhlink_limits {
 } mhlink_limits;
 
 #define MHLINK_WIDEST_LIMITS {1u << 20, 1u << 20, (uint64_t)1 << 40}
+#define MHLINK_MOST_SNAPSHOTS 1024u
+#define MHLINK_MOST_PLANS 1024u
+
+/* How much of a history is used up. */
+typedef struct mhlink_usage {
+    uint64_t records;   /* to the limit of the history */
+    uint64_t snapshots; /* to MHLINK_MOST_SNAPSHOTS */
+    uint64_t plans;     /* to MHLINK_MOST_PLANS */
+} mhlink_usage;
+
+/* What a renewal leaves of the hits in the totals: all; of each worker's at a link half, rounded down; or none. */
+enum mhlink_old_hits { MHLINK_KEEP_HITS = 0, MHLINK_HALVE_HITS = 1, MHLINK_DROP_HITS = 2 };
 
 /* A value: an int, a long, a boolean (0 or 1), or a String, whose number counts the bytes that it has among the texts: at most
    65,536, each from 0x20 to 0x7E. */
@@ -113,6 +126,15 @@ uint32_t mhlink_offer(mhlink_machine *machine, size_t snapshot, const uint8_t *j
 uint32_t mhlink_install(mhlink_machine *machine, size_t plan, uint64_t *linked);
 /* The best plan for a snapshot with the flow that shows it to be best, as JSON. */
 uint32_t mhlink_certificate(mhlink_machine *machine, size_t snapshot, uint8_t *buffer, size_t capacity, size_t *length);
+
+/* How much of the history is used up; it is never refused. */
+uint32_t mhlink_used(mhlink_machine *machine, mhlink_usage *used);
+/* Begins a new history, with MHLINK_KEEP_HITS, MHLINK_HALVE_HITS or MHLINK_DROP_HITS; another number is MHLINK_UNKNOWN. Each
+   call means what it meant, points that are invalid stay so, hits that are not flushed stay, and so do the machine, names, and
+   the numbers of sites, points and links. Snapshots and plans are numbered from 1 again, and no site holds a link: a host takes
+   a snapshot, plans and installs at once. One record more than there are workers is used up; where the limit of the history is
+   no more than the workers, the status is MHLINK_HISTORY_FULL. */
+uint32_t mhlink_renew(mhlink_machine *machine, uint32_t hits);
 
 /* Unflushed hits of a link by a worker, its hits in the totals, and how many links a site holds. */
 uint32_t mhlink_hits(mhlink_machine *machine, uint32_t worker, size_t link, uint64_t *hits);

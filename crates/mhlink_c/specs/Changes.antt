@@ -15,18 +15,14 @@ use Rattle.mh_core.specs.declared.record.Record.TheVariants.{Targeted, Invalidat
 use Rattle.mh_core.specs.declared.refusal.Refusal.{Refusal}
 use Rattle.mh_core.specs.declared.refusal.Refusal.TheVariants.{NoSnapshot}
 use Rattle.mh_text.specs.Plans.{plan_of_input}
-use Rattle.mhlink_c.specs.Hosts.{HostState}
+use Rattle.mhlink_c.specs.Hosts.{HostState, IsKept}
 use Rattle.mhlink_c.specs.Inputs.{IsFaultOf, tree_in}
+use Rattle.mhlink_c.specs.Renewals.{IsRenewed, RefusesRenewal}
 use Rattle.mhlink_c.specs.Statuses.{no_memory}
 use Rattle.mhlink_c.specs.declared.fault.Fault.{Fault}
 use Rattle.mhlink_c.specs.declared.fault.Fault.TheVariants.{Refused, Unknown}
 use Rattle.mhlink_c.specs.declared.request.Change.{Change}
 use Rattle.mhlink_c.specs.declared.request.Change.TheVariants as change
-
--- the names and the text of the last call stay
-pub record IsKept (h new : HostState) : Type 0 where
-  pub scope : new.scope ≡ h.scope
-  pub given : new.given ≡ h.given
 
 -- exactly this record is appended, which passes its tests, and the ledgers stay
 pub record Records (h : HostState) (e : Record) (new : HostState) : Type 0 where
@@ -113,6 +109,7 @@ Makes h change.Snapshot n new = TakesSnapshot h n new
 Makes h (change.Plan snapshot) n new = PublishesBest h snapshot n new
 Makes h (change.Offer snapshot plan) n new = PublishesOffer h snapshot plan.now n new
 Makes h (change.Install plan) n new = Installs h plan n new
+Makes h (change.Renew hits) n new = IsRenewed h hits new
 
 -- what a change is refused with
 abbrev pub RefusesChange : HostState → Change → Fault → Type 0
@@ -123,3 +120,4 @@ RefusesChange h change.Snapshot e = RefusesRecord h Snapped e
 RefusesChange h (change.Plan snapshot) e = RefusesBest h snapshot e
 RefusesChange h (change.Offer snapshot plan) e = RefusesOffer h snapshot plan.now e
 RefusesChange h (change.Install plan) e = RefusesRecord h (Installed plan) e
+RefusesChange h (change.Renew hits) e = RefusesRenewal h hits e

@@ -6,6 +6,7 @@ pub mod Buffers
 pub mod Crossing
 pub mod Calls
 pub mod Questions
+pub mod Renewals
 pub mod Changes
 pub mod Opening
 pub mod Texts

@@ -20,6 +20,7 @@ mod host;
 mod opening;
 mod planning;
 mod reading;
+mod renewing;
 mod request;
 mod texts;
 mod value;

@@ -43,4 +43,6 @@ pub(crate) enum Change<'a> {
     Offer { snapshot: usize, plan: &'a [u8] },
     /// A plan is installed; answered with the number of sites that it links.
     Install(usize),
+    /// A new history begins, with what this number says of the flushed hits; answered with 0.
+    Renew(u32),
 }

@@ -1,0 +1,58 @@
+-- How much of a machine's history is used up, and what a renewal makes of a machine.
+use Rattle.std.specs.Prelude.{◌≡◌, ◌⊎◌, ◌<◌, ◌+◌, ℕ, [], length, map}
+use Rattle.mh_base.specs.Tests.{Refuses}
+use Rattle.mh_ledger.specs.Renewals.{renewed_ledger}
+use Rattle.mh_ledger.specs.declared.old_hits.OldHits.{OldHits}
+use Rattle.mh_ledger.specs.declared.old_hits.OldHits.TheVariants.{Keep, Halve, Drop}
+use Rattle.mh_core.specs.Books.{BookState}
+use Rattle.mh_core.specs.Links.{links as links_of}
+use Rattle.mh_core.specs.Records.{snapshots as snapshots_in, plans as plans_in}
+use Rattle.mh_core.specs.Renewals.{MeansTheSame, Renews, renewal_tests}
+use Rattle.mh_core.specs.declared.refusal.Refusal.{Refusal}
+use Rattle.mhlink_c.specs.Hosts.{HostState, IsKept}
+use Rattle.mhlink_c.specs.declared.fault.Fault.{Fault}
+use Rattle.mhlink_c.specs.declared.fault.Fault.TheVariants.{Refused, Unknown}
+use Rattle.mhlink_c.specs.declared.renewing.MhlinkUsed.{MhlinkUsed}
+
+-- the records, snapshots and plans of a history
+pub record IsUsed (b : BookState) (used : MhlinkUsed) : Type 0 where
+  pub records : used.records ≡ length b.records
+  pub snapshots : used.snapshots ≡ snapshots_in b.records
+  pub plans : used.plans ≡ plans_in b.records
+
+-- the number that C passes
+abbrev pub hits_number : OldHits → ℕ
+hits_number Keep = 0
+hits_number Halve = 1
+hits_number Drop = 2
+
+-- nothing of a history is used up but its first records, one more than there are workers
+pub record IsFresh (b : BookState) (workers : ℕ) : Type 0 where
+  pub records : length b.records ≡ workers + 1
+  pub snapshots : b.snapshots ≡ []
+  pub plans : b.plans ≡ []
+
+-- a new history begins, with what is left of the flushed hits
+pub record BeginsAnew (h : HostState) (hits : OldHits) (new : HostState) : Type 0 where
+  pub passes : length h.runtime.ledgers < h.runtime.book.limits.history
+  pub renewed : Renews hits h.runtime.book new.runtime.book
+  pub means : MeansTheSame h.runtime.book new.runtime.book
+  pub links : links_of new.runtime.book.definition ≡ links_of h.runtime.book.definition
+  pub ledgers : new.runtime.ledgers ≡ map (renewed_ledger hits) h.runtime.ledgers
+  pub fresh : IsFresh new.runtime.book (length h.runtime.ledgers)
+  pub kept : IsKept h new
+
+-- the first failing test of a renewal
+abbrev pub RefusesAnew : HostState → Fault → Type 0
+RefusesAnew h e =
+    (told : Refusal) × ((e ≡ Refused told) × Refuses (renewal_tests h.runtime.book.limits (length h.runtime.ledgers)) told)
+
+-- as the number that C passes says
+abbrev pub IsRenewed : HostState → ℕ → HostState → Type 0
+IsRenewed h number new = (hits : OldHits) × ((number ≡ hits_number hits) × BeginsAnew h hits new)
+
+-- the number is none, or the first failing test of a renewal
+abbrev pub RefusesRenewal : HostState → ℕ → Fault → Type 0
+RefusesRenewal h number e =
+    (((hits : OldHits) → number ≡ hits_number hits → ⊥) × (e ≡ Unknown))
+    ⊎ ((hits : OldHits) × ((number ≡ hits_number hits) × RefusesAnew h e))
