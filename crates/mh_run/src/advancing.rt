@@ -33,7 +33,7 @@ macro_rules! following {
                 steps,
             } => {
                 let is_valid = $here.valid[*point as usize];
-                let next = if is_valid { target } else { fallback };
+                let next: &Piece = if is_valid { target } else { fallback };
                 Some((next, $before + u64::from(*steps)))
             }
             Piece::Case {
@@ -43,7 +43,7 @@ macro_rules! following {
                 steps,
             } => {
                 let is_key = is_key($arguments, test);
-                let next = if is_key { target } else { fallback };
+                let next: &Piece = if is_key { target } else { fallback };
                 Some((next, $before + u64::from(*steps)))
             }
             Piece::Truth {
@@ -53,7 +53,7 @@ macro_rules! following {
                 steps,
             } => {
                 let is_true = is_true(read($arguments, $locals, operand));
-                let next = if is_true { target } else { fallback };
+                let next: &Piece = if is_true { target } else { fallback };
                 Some((next, $before + u64::from(*steps)))
             }
             Piece::Test {
@@ -67,7 +67,7 @@ macro_rules! following {
                 let first = read($arguments, $locals, first);
                 let second = read($arguments, $locals, second);
                 let holds = truth(*op, first, second)?;
-                let next = if holds { target } else { fallback };
+                let next: &Piece = if holds { target } else { fallback };
                 Some((next, $before + u64::from(*steps)))
             }
             Piece::Go { code, steps } => Some((code.entry(), $before + u64::from(*steps))),
