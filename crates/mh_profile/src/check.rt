@@ -3,7 +3,7 @@ ghost use Rattle.std.specs.Prelude.{IfOk, IfErr, IfSome};
 ghost use Rattle.std.specs.Io.KnownBytes.{Appends};
 ghost use Rattle.mh_text.specs.Bytes.{HasFailed};
 ghost use Rattle.mh_text.specs.Checks.{verdict_line};
-ghost use Rattle.mh_text.specs.Gives.{IsHonest};
+ghost use Rattle.mh_text.specs.Gives.{IsHonest, NoOtherFailed};
 ghost use Rattle.mh_profile.specs.Claims.{FailsCheck, IsVerdict};
 
 use crate::claim::read_claim;
@@ -36,6 +36,8 @@ pub fn check_profile<R: Read, W: Write>(
         (HasFailed writer.old.failures writer.new.failures)) }
     ensures honest { IsHonest result reader.old.failures reader.new.failures
         writer.old.failures writer.new.failures }
+    ensures others { IfErr result (λ e. NoOtherFailed e.kind reader.old.failures
+        reader.new.failures writer.old.failures writer.new.failures) }
 {
     let claim = read_claim(alloc, reader)?;
     let verdict = judge(alloc, &claim.problem, &claim.plan)?;

@@ -1,10 +1,11 @@
 //! Claims: a profile, and behind it a line that is said to be a best plan of it.
-ghost use Rattle.std.specs.Prelude.{◌≡◌, ◌⊎◌, ◌==◌, ◌≤◌, IfOk, IfErr, IfSome, List, ℕ, length};
+ghost use Rattle.std.specs.Prelude.{◌≡◌, ◌≢◌, ◌⊎◌, ◌==◌, ◌≤◌, IfOk, IfErr, IfSome, List, ℕ, length};
 ghost use Rattle.std.specs.List.{IsAfterLastMatch};
 ghost use Rattle.serde_json.specs.View.{view};
 ghost use Rattle.mh_text.specs.Bytes.{HasFailed};
 ghost use Rattle.mh_text.specs.Gives.{at_place, no_memory, Gives, GivesAt, IsHonestReading, IsOfInput};
 ghost use Rattle.mh_text.specs.Output.{outside, IsUnread};
+ghost use Rattle.mh_text.specs.declared.fault.TextFault.TheVariants.{ReadFailed};
 ghost use Rattle.mh_profile.specs.Claims.{claimed_plan, plan_in_line, is_said, IsClaim, IsClaimFault, IsParted, IsReadClaim, IsReadClaimFault};
 ghost use Rattle.mh_profile.specs.Limits.{most_in_claim};
 ghost use Rattle.mh_profile.specs.Lines.{lines_of};
@@ -148,6 +149,8 @@ pub fn keep_claim<R: Read>(alloc: Global, reader: &mut Watched<R>) -> Result<Vec
     ensures failed { IfErr result (IsUnread IsReadClaimFault (R.remaining reader.old.inner)
         (HasFailed reader.old.failures reader.new.failures)) }
     ensures honest { IsHonestReading result reader.old.failures reader.new.failures }
+    ensures others { IfErr result (λ e. e.kind ≢ ReadFailed
+        → reader.new.failures ≡ reader.old.failures) }
 {
     Ok(read_up_to(alloc, reader, LIMIT)?)
 }
@@ -159,6 +162,8 @@ pub(crate) fn read_claim<R: Read>(alloc: Global, reader: &mut Watched<R>) -> Res
     ensures failed { IfErr result (IsUnread IsReadClaimFault (R.remaining reader.old.inner)
         (HasFailed reader.old.failures reader.new.failures)) }
     ensures honest { IsHonestReading result reader.old.failures reader.new.failures }
+    ensures others { IfErr result (λ e. e.kind ≢ ReadFailed
+        → reader.new.failures ≡ reader.old.failures) }
 {
     let input = keep_claim(alloc, reader)?;
     let (lines, line) = part(&input);

@@ -1,5 +1,5 @@
 //! Inputs of lines that are kept whole, for whoever explains their fault.
-ghost use Rattle.std.specs.Prelude.{◌≡◌, ◌≤◌, ◌⊎◌, ◌++◌, ℕ, List, length, Err, IfErr, IfOk, IfSome, IsErrOf, OnOk};
+ghost use Rattle.std.specs.Prelude.{◌≡◌, ◌≢◌, ◌≤◌, ◌⊎◌, ◌++◌, ℕ, List, length, Err, IfErr, IfOk, IfSome, IsErrOf, OnOk};
 ghost use Rattle.std.specs.Io.KnownBytes.{Consumes, IsAtEnd};
 ghost use Rattle.mh_text.specs.Bytes.{HasFailed};
 ghost use Rattle.mh_text.specs.Gives.{no_memory, IsHonestReading, IsOfInput};
@@ -23,6 +23,8 @@ fn read_front<R: Read>(alloc: Global, reader: &mut Watched<R>) -> Result<Vec<u8>
     ensures kept { OnOk result (reader.new.failures ≡ reader.old.failures) }
     ensures failed { IsErrOf result TextFault.ReadFailed
         → HasFailed reader.old.failures reader.new.failures }
+    ensures others { IfErr result (λ e. e ≢ TextFault.ReadFailed
+        → reader.new.failures ≡ reader.old.failures) }
     ensures kinds { IfErr result (λ e. (e ≡ no_memory) ⊎ (e ≡ TextFault.ReadFailed)) }
 {
     let mut front = Vec::new(alloc);
@@ -60,6 +62,8 @@ pub fn keep_profile<R: Read>(alloc: Global, reader: &mut Watched<R>) -> Result<V
     ensures failed { IfErr result (IsUnread IsProfileFault (R.remaining reader.old.inner)
         (HasFailed reader.old.failures reader.new.failures)) }
     ensures honest { IsHonestReading result reader.old.failures reader.new.failures }
+    ensures others { IfErr result (λ e. e.kind ≢ TextFault.ReadFailed
+        → reader.new.failures ≡ reader.old.failures) }
 {
     let front = read_front(alloc, reader)?;
     if front.len() as u64 <= LIMIT {

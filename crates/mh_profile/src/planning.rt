@@ -1,11 +1,12 @@
 //! Planning: a profile in, the lines of its plan out.
-ghost use Rattle.std.specs.Prelude.{◌≡◌, ◌<◌, ◌≤◌, ℕ, List, string_bytes, IfOk, IfErr, IfSome, OnOk};
+ghost use Rattle.std.specs.Prelude.{◌≡◌, ◌≢◌, ◌<◌, ◌≤◌, ℕ, List, string_bytes, IfOk, IfErr, IfSome, OnOk};
 ghost use Rattle.std.specs.Io.KnownBytes.{Appends};
 ghost use Rattle.mh_cert.specs.Plans.{Matches};
 ghost use Rattle.mh_plan.specs.Limits.{most_workers};
 ghost use Rattle.mh_text.specs.Bytes.{HasFailed};
-ghost use Rattle.mh_text.specs.Gives.{IsHonest, IsHonestReading};
+ghost use Rattle.mh_text.specs.Gives.{IsHonest, IsHonestReading, NoOtherFailed};
 ghost use Rattle.mh_text.specs.Output.{IsUnread};
+ghost use Rattle.mh_text.specs.declared.fault.TextFault.TheVariants.{ReadFailed};
 ghost use Rattle.mh_profile.specs.Inputs.{IsProfileFault, IsProfileInput};
 ghost use Rattle.mh_profile.specs.Planning.{FailsPlan, IsPlanOf, IsPlanned, lines_for};
 
@@ -36,6 +37,8 @@ fn read_named<R: Read>(alloc: Global, reader: &mut Watched<R>) -> Result<NamedPr
     ensures failed { IfErr result (IsUnread IsProfileFault (R.remaining reader.old.inner)
         (HasFailed reader.old.failures reader.new.failures)) }
     ensures honest { IsHonestReading result reader.old.failures reader.new.failures }
+    ensures others { IfErr result (λ e. e.kind ≢ ReadFailed
+        → reader.new.failures ≡ reader.old.failures) }
 {
     read_profile(alloc, reader)?.into_problem()
 }
@@ -97,6 +100,8 @@ pub fn plan_profile<T: Threads + Sync, R: Read, W: Write>(
         (HasFailed writer.old.failures writer.new.failures)) }
     ensures honest { IsHonest result reader.old.failures reader.new.failures
         writer.old.failures writer.new.failures }
+    ensures others { IfErr result (λ e. NoOtherFailed e.kind reader.old.failures
+        reader.new.failures writer.old.failures writer.new.failures) }
 {
     let named = read_named(alloc, reader)?;
     let lines = plan_named(rt, alloc, options, &named)?;

@@ -1,8 +1,9 @@
 //! Profiles from a reader.
-ghost use Rattle.std.specs.Prelude.{◌≡◌, Ok, List, ℕ, IfErr, IfOk, IfSome};
+ghost use Rattle.std.specs.Prelude.{◌≡◌, ◌≢◌, Ok, List, ℕ, IfErr, IfOk, IfSome};
 ghost use Rattle.mh_text.specs.Bytes.{HasFailed};
 ghost use Rattle.mh_text.specs.Gives.{IsHonestReading};
 ghost use Rattle.mh_text.specs.Output.{IsUnread};
+ghost use Rattle.mh_text.specs.declared.fault.TextFault.TheVariants.{ReadFailed};
 ghost use Rattle.mh_profile.specs.Inputs.{IsFaultOfLines};
 ghost use Rattle.mh_profile.specs.Profiles.{profile_of};
 
@@ -21,6 +22,8 @@ pub fn read_profile<R: Read>(alloc: Global, reader: &mut Watched<R>) -> Result<P
     ensures failed { IfErr result (IsUnread IsFaultOfLines (R.remaining reader.old.inner)
         (HasFailed reader.old.failures reader.new.failures)) }
     ensures honest { IsHonestReading result reader.old.failures reader.new.failures }
+    ensures others { IfErr result (λ e. e.kind ≢ ReadFailed
+        → reader.new.failures ≡ reader.old.failures) }
 {
     let mut lines = LineReader::new(alloc);
     let mut buffer = [0u8; 8192];
