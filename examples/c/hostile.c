@@ -71,6 +71,7 @@ static void wrong_numbers(void) {
         expect("install", mhlink_install(&machine, n, &out), MHLINK_NO_PLAN);
         expect("flush", mhlink_flush(&machine, 1 + i), MHLINK_NO_WORKER);
         expect("invalidate", mhlink_invalidate(&machine, &point, 1), MHLINK_NO_POINT);
+        expect("renew", mhlink_renew(&machine, i ? UINT32_MAX >> i : 3), MHLINK_UNKNOWN);
         point = UINT32_MAX >> i;
     }
 }
@@ -170,6 +171,24 @@ static void wrong_openings(void) {
     expect("name", mhlink_point(&machine, bytes("ab"), 2, &number), MHLINK_UNKNOWN);
 }
 
+/* A history without room for its first records is not begun anew, and a machine that was renewed is as before. */
+static void renewals(void) {
+    const mhlink_limits limits = {1, 1, 1};
+    mhlink_machine short_one = {NULL};
+    mhlink_usage used = {9, 9, 9};
+    uint64_t part;
+    expect("open", mhlink_open(bytes(definition), strlen(definition), 1, &limits, &short_one, &part), MHLINK_OK);
+    for (uint32_t hits = MHLINK_KEEP_HITS; hits <= MHLINK_DROP_HITS; hits++)
+        expect("no room", mhlink_renew(&short_one, hits), MHLINK_HISTORY_FULL);
+    expect("no number", mhlink_renew(&short_one, MHLINK_DROP_HITS + 1), MHLINK_UNKNOWN);
+    expect("used", mhlink_used(&short_one, &used), MHLINK_OK);
+    if (used.records || used.snapshots || used.plans) wrong++;
+    mhlink_close(short_one);
+    for (uint32_t hits = MHLINK_KEEP_HITS; hits <= MHLINK_DROP_HITS; hits++) expect("renew", mhlink_renew(&machine, hits), MHLINK_OK);
+    expect("used", mhlink_used(&machine, &used), MHLINK_OK);
+    if (used.records != 2 || used.snapshots || used.plans) wrong++;
+}
+
 static void wrong_problems(void) {
     const uint64_t costs[] = {5};
     const uint32_t needs[] = {0, 0, 1};
@@ -241,6 +260,7 @@ int main(void) {
     reports();
     cut_json();
     wrong_openings();
+    renewals();
     wrong_problems();
     flows();
     mhlink_close(machine);

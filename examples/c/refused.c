@@ -82,6 +82,14 @@ int main(void) {
     ASK(mhlink_hits(&machine, 0, 0, &number));
     ASK(mhlink_total(&machine, 0, &part));
     printf("f(1): %" PRId64 ", hits %" PRIu64 ", total %" PRIu64 "\n", reply.number, number, part);
+    mhlink_usage used = {0, 0, 0};
+    ASK(mhlink_renew(&machine, MHLINK_HALVE_HITS));
+    ASK(mhlink_used(&machine, &used));
+    ASK(mhlink_call(&machine, 0, 0, &one, 1, bytes(""), 0, &reply));
+    ASK(mhlink_hits(&machine, 0, 0, &number));
+    ASK(mhlink_total(&machine, 0, &part));
+    printf("renewed: f(1) %" PRId64 ", hits %" PRIu64 ", total %" PRIu64 ", records %" PRIu64 "\n", reply.number, number, part,
+           used.records);
     mhlink_close(machine);
     plan_arrays();
     if (refusals > 1) printf("%u refusals\n", refusals);

@@ -1,0 +1,203 @@
+/* A host that never ends: an interpreter whose four classes are redefined in every round, whose call sites are planned and linked
+   in every round, and which begins a new history whenever mhlink_used says that the one it has is nearly used up. Each answer,
+   total and number is compared with what plain arrays say. `endless ROUNDS` makes so many rounds, and else 500. */
+#include "mhlink.h"
+#include <inttypes.h>
+#include <stdio.h>
+#include <stdlib.h>
+#include <string.h>
+
+enum { SITES = 4, CLASSES = 5, LINKED = 4, POINTS = 1024, CALLS = 500, HISTORY = 600, ROUND = 6 };
+
+/* What the host knows: the method of each class at each site, on which point it rests, or none, and whether that is valid; and
+   the hits of each link, flushed and not. The last class of a site has no link. */
+static int32_t methods[SITES][CLASSES];
+static uint32_t rests_on[SITES], next_point;
+static int is_valid[SITES];
+static uint64_t flushed[SITES][LINKED], unflushed[SITES][LINKED];
+
+static mhlink_machine machine;
+static uint64_t calls, changes, plans, renewals, differ;
+static char text[1 << 16];
+
+static const uint8_t *bytes(const char *it) { return (const uint8_t *)it; }
+
+static void same(uint64_t got, uint64_t wanted) {
+    if (got != wanted) differ++;
+}
+
+/* The tree of a site: the method of each class by a test of its number, behind the point on which they rest; -1 asks the host. */
+static char *put_tree(char *to, uint32_t site) {
+    if (rests_on[site] < POINTS) to += sprintf(to, "[\"point\",\"p%" PRIu32 "\",", rests_on[site]);
+    for (int class = 1; class < CLASSES; class++)
+        to += sprintf(to, "[\"guard\",[\"insert\",[\"op\",\"ieq\"],1,[%d]],[\"drop\",[\"const\",\"int\",%" PRId32 "],0,[\"int\"]],", class,
+                      methods[site][class - 1]);
+    to += sprintf(to, "[\"drop\",[\"const\",\"int\",%" PRId32 "],0,[\"int\"]]", methods[site][CLASSES - 1]);
+    for (int class = 1; class < CLASSES; class++) *to++ = ']';
+    if (rests_on[site] < POINTS) to += sprintf(to, ",[\"drop\",[\"const\",\"int\",-1],0,[\"int\"]]]");
+    *to = 0;
+    return to;
+}
+
+/* The methods of a site rest on the next point, as long as there is one. */
+static void rest_on_next(uint32_t site) {
+    rests_on[site] = next_point < POINTS ? next_point++ : POINTS;
+    is_valid[site] = 1;
+}
+
+static uint32_t open_machine(void) {
+    char *to = text + sprintf(text, "{\"version\":2,\"points\":[");
+    for (int point = 0; point < POINTS; point++) to += sprintf(to, "%s{\"name\":\"p%d\",\"cost\":1}", point ? "," : "", point);
+    to += sprintf(to, "],\"sites\":[");
+    for (uint32_t site = 0; site < SITES; site++) {
+        for (int class = 1; class <= CLASSES; class++) methods[site][class - 1] = (int32_t)site * 10 + class;
+        rest_on_next(site);
+        to += sprintf(to, "%s{\"name\":\"s%" PRIu32 "\",\"type\":\"(int)int\",\"key\":0,\"target\":", site ? "," : "", site);
+        to = put_tree(to, site);
+        to += sprintf(to, ",\"links\":[");
+        for (int class = 1; class <= LINKED; class++)
+            to += sprintf(to, "%s{\"when\":%d,\"weight\":1,\"charge\":40,\"needs\":[]}", class > 1 ? "," : "", class);
+        to += sprintf(to, "]}");
+    }
+    to += sprintf(to, "]}");
+    mhlink_limits limits = {HISTORY, 1u << 20, (uint64_t)1 << 40};
+    uint64_t part;
+    return mhlink_open(bytes(text), (size_t)(to - text), 1, &limits, &machine, &part);
+}
+
+/* A call gives the method of the class, or -1 where that does not stand any more; its link is hit in any case. */
+static uint32_t send(uint32_t site, int32_t class) {
+    const mhlink_value value = {MHLINK_INT, class};
+    mhlink_reply reply = {MHLINK_THROWN, 0, 0};
+    uint32_t status = mhlink_call(&machine, 0, site, &value, 1, bytes(""), 0, &reply);
+    if (status) return status;
+    calls++;
+    int32_t wanted = is_valid[site] ? methods[site][class - 1] : -1;
+    if (reply.kind != MHLINK_INT || reply.number != wanted) differ++;
+    if (class <= LINKED) unflushed[site][class - 1]++;
+    return MHLINK_OK;
+}
+
+/* Sends to receivers of changing classes, some of which are more frequent at a site than others. */
+static uint32_t send_all(void) {
+    static uint32_t state = 1;
+    for (int made = 0; made < CALLS; made++) {
+        state = state * 1664525u + 1013904223u;
+        uint32_t site = state >> 30, class = (state >> 16) % 9;
+        uint32_t status = send(site, (int32_t)(class < CLASSES ? class : site) + 1);
+        if (status) return status;
+    }
+    return MHLINK_OK;
+}
+
+/* A class of a site is redefined: the point on which its methods rest becomes invalid, and then the site gets another tree. */
+static uint32_t redefine(uint32_t site, uint32_t class) {
+    if (rests_on[site] < POINTS) {
+        uint32_t status = mhlink_invalidate(&machine, &rests_on[site], 1);
+        if (status) return status;
+        changes++;
+        is_valid[site] = 0;
+        status = send(site, CLASSES);
+        if (status) return status;
+    }
+    methods[site][class] += 100;
+    rest_on_next(site);
+    uint32_t status = mhlink_target(&machine, site, bytes(text), (size_t)(put_tree(text, site) - text));
+    if (!status) changes++;
+    return status;
+}
+
+/* The totals of all links, as the host counts them. */
+static uint32_t compare_totals(void) {
+    for (size_t link = 0; link < SITES * LINKED; link++) {
+        uint64_t total = 0, hits = 0;
+        uint32_t status = mhlink_total(&machine, link, &total);
+        if (!status) status = mhlink_hits(&machine, 0, link, &hits);
+        if (status) return status;
+        same(total, flushed[link / LINKED][link % LINKED]);
+        same(hits, unflushed[link / LINKED][link % LINKED]);
+    }
+    return MHLINK_OK;
+}
+
+static uint32_t flush(void) {
+    uint32_t status = mhlink_flush(&machine, 0);
+    if (status) return status;
+    for (int link = 0; link < SITES * LINKED; link++) {
+        flushed[link / LINKED][link % LINKED] += unflushed[link / LINKED][link % LINKED];
+        unflushed[link / LINKED][link % LINKED] = 0;
+    }
+    return compare_totals();
+}
+
+/* The best plan for a snapshot of now is installed. Snapshots and plans have the next number of their history. */
+static uint32_t plan_and_install(void) {
+    mhlink_usage used = {0, 0, 0};
+    uint64_t snapshot = 0, plan = 0, linked;
+    uint32_t status = mhlink_used(&machine, &used);
+    if (!status) status = mhlink_snapshot(&machine, &snapshot);
+    if (!status) status = mhlink_plan(&machine, snapshot, &plan);
+    if (!status) status = mhlink_install(&machine, plan, &linked);
+    if (status) return status;
+    same(snapshot, used.snapshots + 1);
+    same(plan, used.plans + 1);
+    plans++;
+    return MHLINK_OK;
+}
+
+/* Whether another round could find the history used up. */
+static uint32_t is_nearly_used(int *nearly) {
+    mhlink_usage used;
+    uint32_t status = mhlink_used(&machine, &used);
+    if (!status) *nearly = used.records + ROUND > HISTORY || used.snapshots >= MHLINK_MOST_SNAPSHOTS || used.plans >= MHLINK_MOST_PLANS;
+    return status;
+}
+
+/* A new history, in which hits of the totals weigh half. Nothing of it is used up but its first two records, hits that were not
+   flushed are still there, and no site holds a link. */
+static uint32_t renew(void) {
+    mhlink_usage used = {9, 9, 9};
+    uint32_t status = mhlink_renew(&machine, MHLINK_HALVE_HITS);
+    if (!status) status = mhlink_used(&machine, &used);
+    if (status) return status;
+    renewals++;
+    same(used.records, 2);
+    same(used.snapshots, 0);
+    same(used.plans, 0);
+    for (size_t site = 0; site < SITES; site++) {
+        uint64_t links = 9;
+        for (int link = 0; link < LINKED; link++) flushed[site][link] /= 2;
+        status = mhlink_linked(&machine, site, &links);
+        if (status) return status;
+        same(links, 0);
+    }
+    status = compare_totals();
+    return status ? status : plan_and_install();
+}
+
+static uint32_t run(uint64_t rounds) {
+    for (uint64_t round = 0; round < rounds; round++) {
+        int nearly = 0;
+        uint32_t status = send_all();
+        if (!status) status = is_nearly_used(&nearly);
+        if (!status && nearly) status = renew();
+        if (!status) status = redefine(round % SITES, round / SITES % CLASSES);
+        if (!status) status = flush();
+        if (!status) status = plan_and_install();
+        if (status) return status;
+    }
+    return MHLINK_OK;
+}
+
+int main(int count, char **words) {
+    uint32_t status = open_machine();
+    if (status) {
+        printf("open: status %" PRIu32 "\n", status);
+        return 1;
+    }
+    status = run(count > 1 ? strtoull(words[1], NULL, 10) : 500);
+    mhlink_close(machine);
+    printf("%" PRIu64 " calls, %" PRIu64 " changes, %" PRIu64 " plans, %" PRIu64 " renewals\n", calls, changes, plans, renewals);
+    printf("status %" PRIu32 ", %" PRIu64 " differ\n", status, differ);
+    return status != 0 || differ != 0;
+}
