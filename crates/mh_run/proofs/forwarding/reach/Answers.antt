@@ -47,9 +47,10 @@ loop-site-preserved c =
     let level : d - 1 ≡ 4 - (last.depth + 1) = omega (arith, c.lead-reached.ensures.depth) in
     let on = reach_site (setting 4 valid ts) c.args.arguments.now (routine_of c.args.piece.now) 0 d valid ts left.arguments.now (routine_of left.piece.now) left.total c.loop-site.invariant.1 f.steps f.site f.count last.total (last.total + c.from.result) goes total c.loop-site.invariant.2 sound in
     let room = reach_room (setting 4 valid ts) c.args.arguments.now (routine_of c.args.piece.now) 0 d valid ts left.arguments.now (routine_of left.piece.now) left.total c.loop-site.invariant.1 f.steps f.site f.count last.total (last.total + c.from.result) goes total c.loop-site.invariant.2 sound in
-    let Reaches : ℕ → List Value → Routine → Type 0 = λ e b r. GoesOn (setting 4 valid ts) c.args.arguments.now (routine_of c.args.piece.now) 0 (setting e valid ts) b r (last.total + c.from.result) in
-    (omega (arith, deep, c.lead-reached.ensures.depth),
-    subst (λ (b : Bor (List Value)). Reaches (4 - (last.depth + 1)) (take f.count b.now) (routine_of c.entry.result.now)) (sym c.lead-reached.ensures.arguments)
-    (subst (Reaches (4 - (last.depth + 1)) (take f.count left.arguments.now)) (sym kept)
-    (subst (λ e. Reaches e (take f.count left.arguments.now) (handle_routine (target_at ts f.site))) level on)),
-    omega (arith, ap (weight 0) kept, level, room))
+    let Reaches : ℕ → List Value → Routine → Type 0 = λ e b r. GoesOn (setting 4 valid ts) c.args.arguments.now (routine_of c.args.piece.now) 0 (setting e valid ts) b r (last.total + c.from.result) in (
+      omega (arith, deep, c.lead-reached.ensures.depth),
+      subst (λ (b : Bor (List Value)). Reaches (4 - (last.depth + 1)) (take f.count b.now) (routine_of c.entry.result.now)) (sym c.lead-reached.ensures.arguments)
+          (subst (Reaches (4 - (last.depth + 1)) (take f.count left.arguments.now)) (sym kept)
+          (subst (λ e. Reaches e (take f.count left.arguments.now) (handle_routine (target_at ts f.site))) level on)),
+      omega (arith, ap (weight 0) kept, level, room),
+    )
