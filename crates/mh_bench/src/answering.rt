@@ -8,9 +8,9 @@ use crate::histories::{define, open, step_once};
 use crate::measuring::prepare_all;
 use crate::request::Way;
 use crate::subject::Subject;
+use mh_code::Prepared;
 use mh_core::Machine;
-use mh_eval::{Here, Stack};
-use mh_tree::Prepared;
+use mh_run::{Here, Stack};
 use mh_type::Value;
 use std::alloc::Global;
 
@@ -54,7 +54,7 @@ fn answer_opened(
     if !may_run(called) {
         anyhow::bail!("the arguments do not fit, or a point or a site is not there");
     }
-    let prepared = Prepared::new(called.handle)?;
+    let prepared = Prepared::new(alloc, called.handle)?;
     let targets = prepare_all(alloc, called.targets)?;
     let mut stack = Stack::new(alloc)?;
     println!(rt; "opened")?;

@@ -8,8 +8,11 @@ ghost use Rattle.mh_type.specs.Fits.{Fits};
 ghost use Rattle.mh_tree.specs.Sites.{HavePoints, IsLawful, with_sites};
 
 use crate::tally::Tally;
-use mh_eval::{Here, NoMemory, Stack, eval, run};
-use mh_tree::{Handle, Prepared};
+use mh_base::NoMemory;
+use mh_code::Prepared;
+use mh_eval::eval;
+use mh_run::{Here, Stack, run};
+use mh_tree::Handle;
 use mh_type::{Outcome, Value};
 
 /// One call of a prepared handle.
@@ -37,7 +40,7 @@ pub(crate) fn run_once(
 /// One call of a plain handle.
 #[inline(never)]
 pub(crate) fn eval_once(
-    stack: &mut Stack,
+    stack: &mut mh_eval::Stack,
     valid: &[bool],
     levels: &[u8],
     targets: &[Handle],
@@ -87,7 +90,7 @@ pub(crate) fn run_rounds(
 /// So many calls of a plain handle.
 #[inline(never)]
 pub(crate) fn eval_rounds(
-    stack: &mut Stack,
+    stack: &mut mh_eval::Stack,
     valid: &[bool],
     levels: &[u8],
     targets: &[Handle],

@@ -9,8 +9,10 @@ use crate::histories::step_rounds;
 use crate::request::{Calls, Way};
 use crate::subject::Subject;
 use crate::tally::Tally;
-use mh_eval::{Here, Stack, evaluate};
-use mh_tree::{Handle, Prepared};
+use mh_code::Prepared;
+use mh_eval::evaluate;
+use mh_run::{Here, Stack};
+use mh_tree::Handle;
 use std::alloc::Global;
 use std::rt::Clock;
 use std::time::Instant;
@@ -121,7 +123,7 @@ fn call_rounds(alloc: Global, way: Way, called: &Called<'_>, rounds: u64) -> any
 fn run_calls(alloc: Global, called: &Called<'_>, rounds: u64) -> anyhow::Result<Tally>
     requires may { MayRun called.now.targets.now called.now.handle.now called.now.arguments.now }
 {
-    let prepared = Prepared::new(called.handle)?;
+    let prepared = Prepared::new(alloc, called.handle)?;
     let targets = prepare_all(alloc, called.targets)?;
     let mut stack = Stack::new(alloc)?;
     let here = Here {
@@ -137,7 +139,7 @@ pub(crate) fn prepare_all(alloc: Global, targets: &[Handle]) -> anyhow::Result<V
 {
     let mut prepared = Vec::new(alloc);
     for target in targets {
-        prepared.push(Prepared::new(target)?)?;
+        prepared.push(Prepared::new(alloc, target)?)?;
     }
     Ok(prepared)
 }
@@ -146,7 +148,7 @@ pub(crate) fn prepare_all(alloc: Global, targets: &[Handle]) -> anyhow::Result<V
 fn eval_calls(alloc: Global, called: &Called<'_>, rounds: u64) -> anyhow::Result<Tally>
     requires may { MayRun called.now.targets.now called.now.handle.now called.now.arguments.now }
 {
-    let mut stack = Stack::new(alloc)?;
+    let mut stack = mh_eval::Stack::new(alloc)?;
     let Called {
         targets,
         handle,

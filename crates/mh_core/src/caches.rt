@@ -14,9 +14,9 @@ ghost use Rattle.mh_core.specs.Records.{base};
 use crate::book::Book;
 use crate::problem::{all_valid, link_of};
 use mh_base::NoMemory;
+use mh_code::Prepared;
 use mh_pic::{Entry, prepared_chain};
 use mh_site::KeptLinks;
-use mh_tree::{Handle, Prepared};
 
 impl Book {
     // The inline cache of the usable links of a site over its base tree.
@@ -32,12 +32,12 @@ impl Book {
             ≡ cached self.now.definition site (base self.now.definition self.now.records site)
             links.now) }
     {
-        let base = prepare(self.world.base(site).handle())?;
+        let base = self.world.prepared_base(site);
         let Some(key_place) = self.definition.key(site) else {
-            return Ok(base);
+            return base.share().map_err(|_| NoMemory);
         };
         let entries = self.entries(links)?;
-        let cache = prepared_chain(self.alloc, &base, key_place, &entries)?;
+        let cache = prepared_chain(self.alloc, base, key_place, &entries)?;
         Ok(cache)
     }
 
@@ -154,11 +154,4 @@ impl Book {
         let needs = link_of(&self.definition, link).needs.as_slice();
         all_valid(needs, self.world.valid())
     }
-}
-
-// A tree with its code.
-fn prepare(handle: &Handle) -> Result<Prepared, NoMemory>
-    ensures value { IfOk result (λ p. p ≡ handle.now) }
-{
-    Prepared::new(handle).map_err(|_| NoMemory)
 }

@@ -12,8 +12,9 @@ ghost use Rattle.mh_core.specs.Standing.{IsWorldOf};
 
 use crate::hits::hit_link;
 use mh_base::NoMemory;
-use mh_eval::{Here, Stack, fits, run};
+use mh_eval::fits;
 use mh_ledger::Ledger;
+use mh_run::{Here, Stack, run};
 use mh_site::{Definition, World};
 use mh_type::{Outcome, Value};
 use thiserror::Error;

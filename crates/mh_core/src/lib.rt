@@ -54,6 +54,7 @@ pub use limits::{
 pub use machine::Machine;
 pub use mh_base::{Listing, NoMemory};
 pub use mh_cert::{CheckFault, Plan};
+pub use mh_code::Prepared;
 pub use mh_ledger::{Ledger, OldHits, Totals};
 pub use mh_network::{LinkRow, Problem, ProblemFault};
 pub use mh_site::{
@@ -61,7 +62,7 @@ pub use mh_site::{
     LONGEST_NAME, Link, MOST_LINKS, MOST_NEEDS, Name, Point, Site, Version, World,
 };
 pub use mh_tree::{
-    DEEPEST, DEEPEST_DECLARED, Declared, Handle, LARGEST, LARGEST_DECLARED, Prepared, TreeFault,
+    DEEPEST, DEEPEST_DECLARED, Declared, Handle, LARGEST, LARGEST_DECLARED, TreeFault,
 };
 pub use mh_type::{
     Kind, LONGEST_TEXT, MOST_PARAMETERS, MethodType, Op, Outcome, Text, Throw, TypeFault, Value,

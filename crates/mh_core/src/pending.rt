@@ -19,6 +19,7 @@ use crate::snapshot::Snapshot;
 use mh_base::NoMemory;
 use mh_site::{Control, Listing, Retargeting};
 use mh_tree::Declared;
+use std::alloc::Global;
 use std::marker::Model;
 
 /// A change that passed its tests, with all the memory that its book takes to commit it.
@@ -195,7 +196,7 @@ impl Book {
     {
         match entry {
             Record::Flushed { .. } => unreachable!(),
-            Record::Targeted { site, tree } => retargeting(*site, tree),
+            Record::Targeted { site, tree } => retargeting(self.alloc, *site, tree),
             Record::Invalidated { points } => invalidation(points),
             Record::Snapped => self.snapped(),
             Record::Published { snapshot, plan } => self.publication(*snapshot, plan),
@@ -234,12 +235,12 @@ impl Book {
 }
 
 // What a retargeting changes, and its answer.
-fn retargeting(site: usize, tree: &Declared) -> Result<(Effect, Reply), NoMemory>
+fn retargeting(alloc: Global, site: usize, tree: &Declared) -> Result<(Effect, Reply), NoMemory>
     ensures value { IfOk result (λ p. (p.0 ≡ World (Target record { site = site; tree = tree.now }))
         × (p.1 ≡ Done)) }
 {
     let base = tree.share().map_err(|_| NoMemory)?;
-    let control = Control::Target(Retargeting::new(site, base)?);
+    let control = Control::Target(Retargeting::new(alloc, site, base)?);
     Ok((Effect::World(control), Reply::Done))
 }
 

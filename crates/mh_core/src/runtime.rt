@@ -27,8 +27,8 @@ use crate::record::Record;
 use crate::refusal::Refusal;
 use crate::reply::Reply;
 use mh_base::NoMemory;
-use mh_eval::Stack;
 use mh_ledger::{Ledger, OldHits};
+use mh_run::Stack;
 use mh_site::{Definition, Listing};
 use mh_tree::Declared;
 use mh_type::{Outcome, Value};
@@ -121,6 +121,7 @@ impl Runtime {
     ///
     /// Refused with `NoWorker`, `NoSite`, `WrongType`, `LedgerFull`, and then with `NoMemory`, which
     /// is not told where no node that is entered has String in its type; nothing changes.
+    #[inline(always)]
     pub fn call(
         &mut self,
         worker: u32,

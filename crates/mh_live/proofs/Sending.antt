@@ -13,10 +13,9 @@ use Rattle.left_right.proofs.reader.Factory.TheSendSync as factory
 use Rattle.left_right.proofs.reader.Reader.TheSendSync as reader
 use Rattle.left_right.proofs.writer.Writer.TheSendSync as writer
 use Rattle.logbook.proofs.tokens.Seen.TheSendSync as seen
-use Rattle.mh_type.specs.Laws.Crossing.{ValuesCross}
 use Rattle.mh_tree.specs.Laws.Crossing.{TreesCross}
+use Rattle.mh_run.specs.Laws.Crossing.{StacksCross}
 use Rattle.mh_site.specs.Laws.Crossing.{WorldsCross}
-use Rattle.mh_eval.specs.contracts.stack.Stack as Stack
 use Rattle.mh_ledger.specs.contracts.ledger.Ledger as Ledger
 use Rattle.mh_core.specs.contracts.book.Book as Book
 use Rattle.mh_core.specs.contracts.record.Record as Record
@@ -35,10 +34,7 @@ ruleset plain = (seen.the_send, seen.the_sync, crossing.crosses, sendable)
 -- what is made of lists of them
 ruleset lists = (global.the_field_send, global.the_field_sync, vec.the_send, vec.the_sync, plain)
 
-module _ (values : ValuesCross) (trees : TreesCross) (worlds : WorldsCross) where
-  stack_send : IsSend Stack.the_row
-  stack_send = let a = values.value_part_send in let b = values.value_part_sync in search lists depth 60 fits 20000
-
+module _ (trees : TreesCross) (stacks : StacksCross) (worlds : WorldsCross) where
   ledger_send : IsSend Ledger.the_row
   ledger_send = search lists depth 60 fits 20000
 
@@ -54,7 +50,7 @@ module _ (values : ValuesCross) (trees : TreesCross) (worlds : WorldsCross) wher
       let b = published_sync in
       let c = worlds.definition_send in
       let d = worlds.definition_sync in
-      let e = stack_send in
+      let e = stacks.stack_send in
       let f = ledger_send in
       search (
         seat.the_send,

@@ -5,6 +5,7 @@ ghost use Rattle.mh_live.specs.contracts.live.Live as lives;
 ghost use Rattle.mh_live.specs.contracts.pass.Pass as passes;
 
 use crate::front::Name;
+use mh_run::stacks_cross_threads;
 use mh_site::worlds_cross_threads;
 use mh_tree::trees_cross_threads;
 use mh_type::values_cross_threads;
@@ -18,4 +19,5 @@ pub fn cross_threads<N: Name + Send + Sync>()
     values_cross_threads();
     trees_cross_threads();
     worlds_cross_threads();
+    stacks_cross_threads();
 }

@@ -7,7 +7,8 @@ ghost use Rattle.mh_pic.specs.Chains.{chain as chain_of, IsFaithful, MayChain};
 use crate::entry::Entry;
 use crate::prepared_chaining::{prepare, prepared_chain};
 use mh_base::NoMemory;
-use mh_tree::{Declared, Handle, Prepared};
+use mh_code::Prepared;
+use mh_tree::{Declared, Handle};
 use std::alloc::Global;
 
 /// The inline cache of a site with this base tree (Hölzle, Chambers and Ungar, Optimizing
@@ -63,7 +64,7 @@ fn chain_over(
           = base.now.signature;
     }) }
 {
-    let prepared = prepare(base)?;
+    let prepared = prepare(alloc, base)?;
     let chained = prepared_chain(alloc, &prepared, key_place, entries)?;
     let cache = handle_of(&chained)?;
     Ok(cache)

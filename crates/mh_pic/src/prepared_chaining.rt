@@ -17,7 +17,8 @@ use crate::fault::expect_made;
 use crate::key_tests::key_test;
 use crate::specialising::specialise_changed;
 use mh_base::NoMemory;
-use mh_tree::{Handle, Prepared};
+use mh_code::Prepared;
+use mh_tree::Handle;
 use std::alloc::Global;
 
 /// The inline cache of `chain` with its code, in which the base's code stands once: only key tests
@@ -73,7 +74,7 @@ fn link(
 {
     let handle = base.handle();
     let before = &handle.method_type().parameters()[..key_place];
-    let test = prepare(&key_test(alloc, before, entry.key())?)?;
+    let test = prepare(alloc, &key_test(alloc, before, entry.key())?)?;
     let target = specialised_base(alloc, base, key_place, entry)?;
     let target = points(alloc, entry.needs(), &target, base)?;
     let cache = expect_made(Prepared::guard(alloc, &test, &target, others))?;
@@ -95,16 +96,16 @@ fn specialised_base(
     }) }
 {
     match specialise_changed(alloc, base.handle(), entry.needs(), key_place, entry.key())? {
-        Some(made) => prepare(&made),
+        Some(made) => prepare(alloc, &made),
         None => base.share().map_err(|_| NoMemory),
     }
 }
 
 // A handle with its code.
-pub(crate) fn prepare(handle: &Handle) -> Result<Prepared, NoMemory>
+pub(crate) fn prepare(alloc: Global, handle: &Handle) -> Result<Prepared, NoMemory>
     ensures value { IfOk result (λ p. p ≡ handle.now) }
 {
-    Prepared::new(handle).map_err(|_| NoMemory)
+    Prepared::new(alloc, handle).map_err(|_| NoMemory)
 }
 
 // The target while all these points are valid, and the base from when one is not.

@@ -2,9 +2,12 @@
 
 ghost use Rattle.std.specs.Prelude.{◌≡◌, IfOk};
 
+use crate::base::{BaseTree, share_tree};
 use arrayvec::ArrayVec;
 use mh_base::{Listing, NoMemory};
-use mh_tree::{Declared, Handle, Prepared};
+use mh_code::Prepared;
+use mh_tree::{Declared, Handle};
+use std::alloc::Global;
 use std::marker::Model;
 
 /// The links that the linked tree of a site holds, by number: at most four, since a site has no
@@ -16,7 +19,7 @@ pub type KeptLinks = ArrayVec<usize, 4>;
 #[derive(Debug, Drop)]
 pub struct Retargeting {
     pub(crate) site: usize,
-    pub(crate) base: Declared,
+    pub(crate) base: BaseTree,
     pub(crate) linked: Prepared,
 }
 
@@ -37,12 +40,13 @@ impl Model for Retargeting {
 impl Retargeting {
     /// The tree for the site, by its number, in time linear in its size: its code is made here.
     /// Fails only if an allocation or a reference count is refused.
-    pub fn new(site: usize, base: Declared) -> Result<Retargeting, NoMemory>
+    pub fn new(alloc: Global, site: usize, base: Declared) -> Result<Retargeting, NoMemory>
         ensures value { IfOk result (λ r. r ≡ record { site = site; tree = base }) }
     {
-        let linked = prepare(base.handle())?;
+        let linked = prepare(alloc, base.handle())?;
         // Read for what a tree keeps.
         let _type = base.handle().method_type();
+        let base = BaseTree::new(base, &linked)?;
         Ok(Retargeting { site, base, linked })
     }
 
@@ -52,24 +56,17 @@ impl Retargeting {
     {
         Ok(Retargeting {
             site: self.site,
-            base: self.base.share().map_err(|_| NoMemory)?,
+            base: self.base.share()?,
             linked: share_tree(&self.linked)?,
         })
     }
 }
 
 // A tree with its code.
-fn prepare(handle: &Handle) -> Result<Prepared, NoMemory>
+fn prepare(alloc: Global, handle: &Handle) -> Result<Prepared, NoMemory>
     ensures value { IfOk result (λ p. p ≡ handle.now) }
 {
-    Prepared::new(handle).map_err(|_| NoMemory)
-}
-
-// Another owner of a tree and of its code.
-fn share_tree(tree: &Prepared) -> Result<Prepared, NoMemory>
-    ensures value { IfOk result (λ p. p ≡ tree.now) }
-{
-    tree.share().map_err(|_| NoMemory)
+    Prepared::new(alloc, handle).map_err(|_| NoMemory)
 }
 
 /// A site's new linked tree, with its code, and the links that it holds, by number.

@@ -10,6 +10,7 @@
 //! ```
 #![tactic(auto)]
 
+mod base;
 mod control;
 mod crossing;
 mod definition;

@@ -7,11 +7,13 @@ ghost use Rattle.mh_site.specs.Worlds.{WorldState, AreTyped, linkeds, opened, op
 ghost use Rattle.mh_site.specs.SiteStates.{site_state, site_states};
 ghost use Rattle.mh_site.specs.declared.control.Control.{Control};
 
+use crate::base::BaseTree;
 use crate::control::{Control, Installation, KeptLinks, Relinking, Retargeting};
 use crate::definition::Definition;
 use crate::site::Site;
 use mh_base::{Listing, NoMemory};
-use mh_tree::{CodeCache, Declared, Handle, Prepared};
+use mh_code::{CodeCache, Prepared};
+use mh_tree::{Declared, Handle};
 use std::alloc::Global;
 use std::collections::VecDeque;
 use std::marker::Model;
@@ -19,7 +21,7 @@ use std::marker::Model;
 // A site's base tree, the links that its linked tree holds, and how often it was retargeted.
 #[derive(Debug, Drop)]
 pub(crate) struct SiteWorld {
-    base: Declared,
+    base: BaseTree,
     kept: KeptLinks,
     version: u64,
 }
@@ -96,7 +98,15 @@ impl World {
         requires inside { site < length self.now.sites }
         ensures value { result.now ≡ (state_at self.now site).base }
     {
-        &self.sites[site].base
+        self.sites[site].base.declared()
+    }
+
+    /// The tree of a site, with its code.
+    pub fn prepared_base(&self, site: usize) -> &Prepared
+        requires inside { site < length self.now.sites }
+        ensures value { result.now ≡ (state_at self.now site).base }
+    {
+        self.sites[site].base.prepared()
     }
 
     /// The tree that a call of the site runs.
@@ -222,12 +232,13 @@ fn open_site(cache: &mut CodeCache, site: &Site) -> Result<(SiteWorld, Prepared)
     let target = &site.target;
     // Read for what a tree keeps.
     let _type = target.handle().method_type();
+    let linked = cache.prepare(target.handle()).map_err(|_| NoMemory)?;
+    let declared = target.share().map_err(|_| NoMemory)?;
     let opened = SiteWorld {
-        base: target.share().map_err(|_| NoMemory)?,
+        base: BaseTree::new(declared, &linked)?,
         kept: KeptLinks::new(),
         version: 0,
     };
-    let linked = cache.prepare(target.handle()).map_err(|_| NoMemory)?;
     Ok((opened, linked))
 }
 

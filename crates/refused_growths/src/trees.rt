@@ -82,7 +82,7 @@ fn make(alloc: Global, maker: Maker, parts: &Parts) -> Result<Handle, TreeFault>
         Maker::Guard => Handle::guard(alloc, &parts.test, &parts.negation, &parts.negation),
         Maker::Point => Handle::point(alloc, 0, &parts.negation, &parts.negation),
         Maker::Declaration => Declared::new(&parts.negation)?.handle().share(),
-        Maker::Preparation => Prepared::new(parts.base.handle())?.handle().share(),
+        Maker::Preparation => Prepared::new(alloc, parts.base.handle())?.handle().share(),
         Maker::Chain => make_chain(alloc, parts),
     }
 }

@@ -1,11 +1,11 @@
 //! A definition and its world, each public call once.
 
 use crate::making::{link, linked_site, plain_site, tree_of, two_points};
+use mh_code::Prepared;
 use mh_site::{
     Control, Definition, Installation, KeptLinks, Link, Listing, Relinking, Retargeting, Site,
     Version, World,
 };
-use mh_tree::Prepared;
 use mh_type::{Kind, Op};
 use std::alloc::Global;
 use std::test::Fail;
@@ -113,7 +113,7 @@ fn one_plain_site(alloc: Global) -> Result<Definition, Fail> {
 /// retargeting; and the front then.
 fn changes(alloc: Global) -> Result<[u64; 3], Fail> {
     let points = Listing::from_vec(Vec::from_slice(alloc, &[1])?);
-    let target = Retargeting::new(0, tree_of(alloc, Op::Ineg)?)?;
+    let target = Retargeting::new(alloc, 0, tree_of(alloc, Op::Ineg)?)?;
     let mut world = World::open(alloc, &one_plain_site(alloc)?)?;
     let before = valid_points(&world);
     world.absorb(Control::Invalidate(points));
@@ -140,7 +140,7 @@ fn controls_change_the_world(rt: HostRuntime) -> Result<(), Fail> {
 
 /// The site 0 is to run the negation, of the link 3.
 fn relink(alloc: Global) -> Result<Relinking, Fail> {
-    let linked = Prepared::new(tree_of(alloc, Op::Ineg)?.handle())?;
+    let linked = Prepared::new(alloc, tree_of(alloc, Op::Ineg)?.handle())?;
     let mut kept = KeptLinks::new();
     kept.push(3);
     Ok(Relinking::new(0, linked, kept))

@@ -1,8 +1,9 @@
 //! Trees as large, and as deep, as may be: they are prepared, run and dropped.
 
 use crate::examples::{Given, int, op, ran};
-use mh_eval::Stack;
-use mh_tree::{Handle, Prepared};
+use mh_code::Prepared;
+use mh_run::Stack;
+use mh_tree::Handle;
 use mh_type::Op;
 use std::alloc::Global;
 use std::test::Fail;
@@ -28,7 +29,7 @@ pub(crate) fn deepest(alloc: Global) -> Result<Handle, Fail> {
 
 /// What a tree gives on 5, after it was prepared, and before it and its code are dropped.
 fn given(alloc: Global, tree: Handle) -> Result<Given, Fail> {
-    let prepared = Prepared::new(&tree)?;
+    let prepared = Prepared::new(alloc, &tree)?;
     let mut stack = Stack::new(alloc)?;
     ran(&mut stack, &[], &prepared, 5)
 }

@@ -1,8 +1,10 @@
 //! What trees give, and in how many steps.
 
 use crate::examples::{Given, example, int, op, prepared_example, ran, thrown, walked};
-use mh_eval::{Stack, fits};
-use mh_tree::{CodeCache, Handle, Prepared};
+use mh_code::{CodeCache, Prepared};
+use mh_eval::fits;
+use mh_run::Stack;
+use mh_tree::Handle;
 use mh_type::{MethodType, Op, Text, Throw, Value};
 use std::alloc::Global;
 use std::test::Fail;
@@ -56,7 +58,7 @@ fn the_example_site_is_evaluated(rt: HostRuntime) -> Result<(), Fail> {
 
 /// What the example gives that was prepared whole, and that which was made of prepared parts.
 fn both_prepared_give(alloc: Global) -> Result<([Given; 5], [Given; 5]), Fail> {
-    let whole = prepared_gives(alloc, &Prepared::new(&example(alloc)?)?)?;
+    let whole = prepared_gives(alloc, &Prepared::new(alloc, &example(alloc)?)?)?;
     Ok((whole, prepared_gives(alloc, &prepared_example(alloc)?)?))
 }
 

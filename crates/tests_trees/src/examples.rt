@@ -1,7 +1,9 @@
 //! The trees that the tests run, and what they give.
 
-use mh_eval::{Here, Stack, evaluate, fits, lawful, run};
-use mh_tree::{Handle, Prepared};
+use mh_code::Prepared;
+use mh_eval::{evaluate, fits, lawful};
+use mh_run::{Here, Stack, run};
+use mh_tree::Handle;
 use mh_type::{Kind, Op, Outcome, Throw, Value};
 use std::alloc::Global;
 use std::test::Fail;
@@ -33,22 +35,22 @@ pub(crate) fn example(alloc: Global) -> Result<Handle, Fail> {
 }
 
 /// A handle with its code.
-fn prepared(handle: Handle) -> Result<Prepared, Fail> {
-    Ok(Prepared::new(&handle)?)
+fn prepared(alloc: Global, handle: Handle) -> Result<Prepared, Fail> {
+    Ok(Prepared::new(alloc, &handle)?)
 }
 
 /// The guard of the example, each part of which was prepared before.
 fn prepared_guard(alloc: Global) -> Result<Prepared, Fail> {
-    let test = prepared(with_one(alloc, Op::Ieq)?)?;
-    let next = prepared(with_one(alloc, Op::Iadd)?)?;
-    let hundred = prepared(hundred(alloc)?)?;
+    let test = prepared(alloc, with_one(alloc, Op::Ieq)?)?;
+    let next = prepared(alloc, with_one(alloc, Op::Iadd)?)?;
+    let hundred = prepared(alloc, hundred(alloc)?)?;
     Ok(Prepared::guard(alloc, &test, &hundred, &next)?)
 }
 
 /// The example with its code, where each part of its guard and of its point was prepared before.
 pub(crate) fn prepared_example(alloc: Global) -> Result<Prepared, Fail> {
     let guard = prepared_guard(alloc)?;
-    let negation = prepared(op(alloc, Op::Ineg)?)?;
+    let negation = prepared(alloc, op(alloc, Op::Ineg)?)?;
     Ok(Prepared::point(alloc, 0, &guard, &negation)?)
 }
 

@@ -1,9 +1,10 @@
 //! Inline caches as trees: specialised trees, and chains over a base.
 
 use crate::examples::{Given, example, int, op, ran, walked};
-use mh_eval::Stack;
+use mh_code::Prepared;
 use mh_pic::{Entry, chain, may_chain, prepared_chain, specialise, strip};
-use mh_tree::{Declared, Handle, Node, Prepared};
+use mh_run::Stack;
+use mh_tree::{Declared, Handle, Node};
 use mh_type::{Kind, Op, Value};
 use std::alloc::Global;
 use std::test::Fail;
@@ -34,7 +35,7 @@ fn checked_code(alloc: Global, base: &Declared, entries: &[Entry]) -> Result<Pre
     if !may_chain(base.handle().method_type(), 0, entries) {
         return Err("there is no such chain".into());
     }
-    let base = Prepared::new(base.handle())?;
+    let base = Prepared::new(alloc, base.handle())?;
     Ok(prepared_chain(alloc, &base, 0, entries)?)
 }
 

@@ -1,8 +1,10 @@
 //! Trees that invoke sites: what they give, and which are lawful.
 
 use crate::examples::{Given, int, op, read};
-use mh_eval::{Here, Stack, Unevaluated, evaluate, fits, lawful, run};
-use mh_tree::{Handle, Prepared};
+use mh_code::Prepared;
+use mh_eval::{Unevaluated, evaluate, fits, lawful};
+use mh_run::{Here, Stack, run};
+use mh_tree::Handle;
 use mh_type::{Kind, MethodType, Op, Value};
 use std::alloc::Global;
 use std::test::Fail;
@@ -66,9 +68,9 @@ fn ran_over(
 
 /// What the negation of site 0 gives over the negation, and over the identity.
 fn both_ran(alloc: Global) -> Result<[Given; 2], Fail> {
-    let handle = Prepared::new(&negation_of_site(alloc)?)?;
-    let negation = Prepared::new(&op(alloc, Op::Ineg)?)?;
-    let identity = Prepared::new(&Handle::identity(alloc, Kind::Int)?)?;
+    let handle = Prepared::new(alloc, &negation_of_site(alloc)?)?;
+    let negation = Prepared::new(alloc, &op(alloc, Op::Ineg)?)?;
+    let identity = Prepared::new(alloc, &Handle::identity(alloc, Kind::Int)?)?;
     Ok([
         ran_over(alloc, &handle, negation, &[Value::Int(5)])?,
         ran_over(alloc, &handle, identity, &[Value::Int(5)])?,
@@ -86,8 +88,8 @@ fn prepared_trees_invoke_sites(rt: HostRuntime) -> Result<(), Fail> {
 fn ran_on(alloc: Global, place: usize) -> Result<Given, Fail> {
     let site = Handle::invoke(alloc, 0, &MethodType::parse("(int)int")?)?;
     let of_two = MethodType::parse("(int,int)int")?;
-    let handle = Prepared::new(&Handle::permute(alloc, &site, &of_two, &[place])?)?;
-    let negation = Prepared::new(&op(alloc, Op::Ineg)?)?;
+    let handle = Prepared::new(alloc, &Handle::permute(alloc, &site, &of_two, &[place])?)?;
+    let negation = Prepared::new(alloc, &op(alloc, Op::Ineg)?)?;
     ran_over(alloc, &handle, negation, &[Value::Int(5), Value::Int(7)])
 }
 

@@ -1,7 +1,8 @@
 //! What a handle knows of its tree.
 
 use crate::examples::{example, prepared_example};
-use mh_tree::{Handle, Prepared, TreeFault};
+use mh_code::Prepared;
+use mh_tree::{Handle, TreeFault};
 use mh_type::Kind;
 use std::alloc::{AllocError, Global};
 use std::test::Fail;
@@ -42,7 +43,7 @@ fn handles_keep_their_measures(rt: HostRuntime) -> Result<(), Fail> {
 /// Of another owner of the prepared example, after the first is gone; and of one that was made of
 /// prepared parts.
 fn prepared_measures(alloc: Global) -> Result<[Measures; 2], Fail> {
-    let prepared = Prepared::new(&example(alloc)?)?;
+    let prepared = Prepared::new(alloc, &example(alloc)?)?;
     let other = prepared.share()?;
     drop(prepared);
     let whole = measures(alloc, other.handle(), "(int)int")?;

@@ -5,14 +5,14 @@ use Rattle.mh_live.proofs.crossing.cross_threads.Goals as goal
 
 pub returns-clause-pass : goal.returns-clause-pass
 returns-clause-pass g c =
-    let v = c.values_cross_threads.ensures.values in
     let t = c.trees_cross_threads.ensures.trees in
+    let s = c.stacks_cross_threads.ensures.stacks in
     let w = c.worlds_cross_threads.ensures.worlds in
-    pass_send v t w (param 0 g.row.N) g.N.Name (param_send 0 _ c.type_bounds.send-N) (param_sync 0 _ c.type_bounds.sync-N)
+    pass_send t s w (param 0 g.row.N) g.N.Name (param_send 0 _ c.type_bounds.send-N) (param_sync 0 _ c.type_bounds.sync-N)
 
 pub returns-clause-live : goal.returns-clause-live
 returns-clause-live g c =
-    let v = c.values_cross_threads.ensures.values in
     let t = c.trees_cross_threads.ensures.trees in
+    let s = c.stacks_cross_threads.ensures.stacks in
     let w = c.worlds_cross_threads.ensures.worlds in
-    live_sync v t w (param 0 g.row.N) g.N.Name (param_send 0 _ c.type_bounds.send-N) (param_sync 0 _ c.type_bounds.sync-N)
+    live_sync t s w (param 0 g.row.N) g.N.Name (param_send 0 _ c.type_bounds.send-N) (param_sync 0 _ c.type_bounds.sync-N)

@@ -1,0 +1,71 @@
+//! Base trees with their code.
+
+ghost use Rattle.std.specs.Prelude.{◌≡◌, IfOk};
+
+use mh_base::NoMemory;
+use mh_code::Prepared;
+use mh_tree::Declared;
+use std::marker::Model;
+
+/// The tree of a site with its code, so that other trees are linked over it without preparing it
+/// anew.
+#[derive(Debug, Drop)]
+pub(crate) struct BaseTree {
+    declared: Declared,
+    prepared: Prepared,
+}
+
+impl Model for BaseTree {
+    ghost use Rattle.mh_tree.specs.Handle.{TypedTree};
+    ghost use Rattle.mh_tree.specs.TreeCode.{coded_typed_tree};
+
+    ghost Value = { TypedTree };
+
+    ghost coded = { coded_typed_tree };
+
+    ghost view = { λ b. b.declared };
+
+    ghost use Rattle.std.specs.Prelude.{◌≡◌};
+
+    ghost invariant = { λ b. b.prepared ≡ b.declared };
+}
+
+impl BaseTree {
+    // The tree with its code, of which another owner is made. Fails only if that is refused.
+    pub(crate) fn new(declared: Declared, prepared: &Prepared) -> Result<BaseTree, NoMemory>
+        requires same { prepared.now ≡ declared }
+        ensures value { IfOk result (λ b. b ≡ declared) }
+    {
+        let prepared = share_tree(prepared)?;
+        Ok(BaseTree { declared, prepared })
+    }
+
+    // The tree.
+    pub(crate) fn declared(&self) -> &Declared
+        ensures value { result.now ≡ self.now }
+    {
+        &self.declared
+    }
+
+    // The tree with its code.
+    pub(crate) fn prepared(&self) -> &Prepared
+        ensures value { result.now ≡ self.now }
+    {
+        &self.prepared
+    }
+
+    // Another owner of the tree and of its code.
+    pub(crate) fn share(&self) -> Result<BaseTree, NoMemory>
+        ensures value { IfOk result (λ b. b ≡ self.now) }
+    {
+        let declared = self.declared.share().map_err(|_| NoMemory)?;
+        BaseTree::new(declared, &self.prepared)
+    }
+}
+
+// Another owner of a tree and of its code.
+pub(crate) fn share_tree(tree: &Prepared) -> Result<Prepared, NoMemory>
+    ensures value { IfOk result (λ p. p ≡ tree.now) }
+{
+    tree.share().map_err(|_| NoMemory)
+}
