@@ -152,6 +152,18 @@ impl Code {
         Arc::new(alloc, Code { entry, owners }).map_err(|_| NoMemory)
     }
 
+    // The first piece with its owner, where there are no further owners of the pieces.
+    pub(crate) fn lone_entry(&self) -> Option<&Arc<Piece>>
+        ensures value { IfSome result (λ a. routine_of (arc_value a.now)
+            ≡ routine_of_code self.now) }
+    {
+        if self.owners.is_empty() {
+            Some(&self.entry)
+        } else {
+            None
+        }
+    }
+
     /// The piece that is the first to run.
     #[inline(always)]
     pub fn entry(&self) -> &Piece

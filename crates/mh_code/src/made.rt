@@ -9,8 +9,9 @@ use mh_base::NoMemory;
 use std::alloc::Global;
 use std::sync::Arc;
 
-// How many pieces may be dropped by one another.
-const FEW: usize = 1024;
+// How many pieces of one code may be dropped by one another. Code may stand on other code, at most
+// as deep as a handle is.
+const FEW: usize = 256;
 
 /// The pieces that were made so far, the last one last.
 #[derive(Drop)]

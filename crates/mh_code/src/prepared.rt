@@ -182,8 +182,8 @@ fn guard_code(
         (routine_of_code (arc_value fallback)))) }
 {
     let mut made = Made::new(alloc);
-    let target = use_code(&mut made, target, 0)?;
-    let fallback = use_code(&mut made, fallback, 0)?;
+    let target = use_code(&mut made, target)?;
+    let fallback = use_code(&mut made, fallback)?;
     let truth = Purpose::Truth {
         target: &target,
         fallback: &fallback,
@@ -209,8 +209,8 @@ fn point_code(
         (routine_of_code (arc_value fallback))) }
 {
     let mut made = Made::new(alloc);
-    let target = use_code(&mut made, target, 0)?;
-    let fallback = use_code(&mut made, fallback, 0)?;
+    let target = use_code(&mut made, target)?;
+    let fallback = use_code(&mut made, fallback)?;
     let entry = made.add(Piece::Point {
         point,
         target,

@@ -6,7 +6,7 @@ ghost use Rattle.mh_code.specs.PieceOf.{routine_of, routine_of_code};
 ghost use Rattle.mh_code.specs.PurposeOf.{purpose_of};
 ghost use Rattle.mh_code.specs.Routine.{operand as operand_source, operation, invocation, give, pick};
 ghost use Rattle.mh_code.specs.RoutineOf.{used, negated_local as negated_local_routine};
-ghost use Rattle.mh_code.specs.RoutineOf.{gives_truth as op_gives_truth, after_steps};
+ghost use Rattle.mh_code.specs.RoutineOf.{gives_truth as op_gives_truth};
 ghost use Rattle.mh_tree.specs.Limits.{most_nodes};
 
 use crate::code::{Code, KeyTest, Piece};
@@ -245,10 +245,13 @@ fn answer_invocation(
     })
 }
 
-// Other code, in which so many steps fewer are counted, as the answer.
-pub(crate) fn use_code(made: &mut Made, code: Arc<Code>, steps: u32) -> Result<Arc<Piece>, NoMemory>
+// Other code as the answer: its first piece itself, where it has no further owners of its pieces.
+pub(crate) fn use_code(made: &mut Made, code: Arc<Code>) -> Result<Arc<Piece>, NoMemory>
     ensures value { IfOk result (λ p. routine_of (arc_value p)
-        ≡ after_steps steps (routine_of_code (arc_value code))) }
+        ≡ routine_of_code (arc_value code)) }
 {
-    made.add(Piece::Go { code, steps })
+    match code.lone_entry() {
+        Some(entry) => owner(entry),
+        None => made.add(Piece::Go { code, steps: 0 }),
+    }
 }

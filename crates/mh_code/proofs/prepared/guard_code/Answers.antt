@@ -1,6 +1,6 @@
 use Rattle.std.proofs.Common.{◌≡◌, ◌+◌, ◌∙◌, IfOk, subst}
 use Rattle.std.specs.Arc.{arc_value}
-use Rattle.mh_code.specs.Laws.Shifts.{no_steps, shifts}
+use Rattle.mh_code.specs.Laws.Shifts.{shifts}
 use Rattle.mh_code.specs.PieceOf.{routine_of_code}
 use Rattle.mh_code.specs.Routine.{Routine, truth}
 use Rattle.mh_code.specs.RoutineOf.{routine}
@@ -19,6 +19,6 @@ returns c =
       value = subst P
           (c.in_ok-entry.ensures.value
           ∙ shifts tree operands 0 1 0 _
-          ∙ (λ i. routine (same i) 0 (0 + 1) (truth ((c.in_ok-target.ensures.value ∙ no_steps _) i) ((c.in_ok-fallback.ensures.value ∙ no_steps _) i))))
+          ∙ (λ i. routine (same i) 0 (0 + 1) (truth (c.in_ok-target.ensures.value i) (c.in_ok-fallback.ensures.value i))))
           c.finish.ensures.value;
     }

@@ -1,6 +1,5 @@
 use Rattle.std.proofs.Common.{◌≡◌, ap, ◌∙◌, IfOk, subst}
 use Rattle.std.specs.Arc.{arc_value}
-use Rattle.mh_code.specs.Laws.Shifts.{no_steps}
 use Rattle.mh_code.specs.PieceOf.{routine_of, routine_of_code}
 use Rattle.mh_code.specs.Routine.{Routine, switch}
 use Rattle.mh_code.proofs.PreparedParts.{routine_of_point}
@@ -13,6 +12,6 @@ returns c =
     let P : Routine → Type 0 = λ r. IfOk c.finish.result (λ k. routine_of_code (arc_value k) ≡ r) in
     record {
       value = subst P
-          (made ∙ (λ i. switch 1 c.args.point ((c.in_ok-target.ensures.value ∙ no_steps _) i) ((c.in_ok-fallback.ensures.value ∙ no_steps _) i)))
+          (made ∙ (λ i. switch 1 c.args.point (c.in_ok-target.ensures.value i) (c.in_ok-fallback.ensures.value i)))
           c.finish.ensures.value;
     }
