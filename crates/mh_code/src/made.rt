@@ -38,7 +38,7 @@ impl Made {
     pub(crate) fn add(&mut self, piece: Piece) -> Result<Arc<Piece>, NoMemory>
         ensures value { IfOk result (λ a. arc_value a ≡ piece) }
     {
-        let made = Arc::new(self.alloc, piece).map_err(|_| NoMemory)?;
+        let made = own(self.alloc, piece)?;
         let kept = Arc::try_clone(&made).map_err(|_| NoMemory)?;
         self.pieces.push(kept).map_err(|_| NoMemory)?;
         Ok(made)
@@ -57,6 +57,13 @@ impl Made {
         };
         Code::with_owners(alloc, entry, owners)
     }
+}
+
+// A piece with an owner.
+pub(crate) fn own(alloc: Global, piece: Piece) -> Result<Arc<Piece>, NoMemory>
+    ensures value { IfOk result (λ a. arc_value a ≡ piece) }
+{
+    Arc::new(alloc, piece).map_err(|_| NoMemory)
 }
 
 // The same pieces, the last one first.

@@ -12,7 +12,7 @@ ghost use Rattle.mh_tree.specs.Limits.{most_nodes, size};
 ghost use Rattle.mh_tree.specs.Prepared.{handle_code, leading_arguments};
 
 use crate::code::{Code, Piece};
-use crate::made::Made;
+use crate::made::{Made, own};
 use crate::operands::arguments;
 use crate::preparing::{Place, prepare};
 use crate::purpose::{Purpose, use_code};
@@ -181,9 +181,8 @@ fn guard_code(
         ≡ routine (handle_code test.now) 0 1 (truth (routine_of_code (arc_value target))
         (routine_of_code (arc_value fallback)))) }
 {
-    let mut made = Made::new(alloc);
-    let target = use_code(&mut made, target)?;
-    let fallback = use_code(&mut made, fallback)?;
+    let target = use_code(alloc, target)?;
+    let fallback = use_code(alloc, fallback)?;
     let truth = Purpose::Truth {
         target: &target,
         fallback: &fallback,
@@ -193,6 +192,7 @@ fn guard_code(
         operands: &operands,
         depth: 0,
     };
+    let mut made = Made::new(alloc);
     let entry = prepare(&mut made, test.root(), &place, 1, &truth)?;
     made.finish(entry)
 }
@@ -208,14 +208,14 @@ fn point_code(
         ≡ switch 1 point (routine_of_code (arc_value target))
         (routine_of_code (arc_value fallback))) }
 {
-    let mut made = Made::new(alloc);
-    let target = use_code(&mut made, target)?;
-    let fallback = use_code(&mut made, fallback)?;
-    let entry = made.add(Piece::Point {
+    let target = use_code(alloc, target)?;
+    let fallback = use_code(alloc, fallback)?;
+    let piece = Piece::Point {
         point,
         target,
         fallback,
         steps: 1,
-    })?;
-    made.finish(entry)
+    };
+    let entry = own(alloc, piece)?;
+    Code::with_owners(alloc, entry, Vec::new(alloc))
 }

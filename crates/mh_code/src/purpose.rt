@@ -10,11 +10,12 @@ ghost use Rattle.mh_code.specs.RoutineOf.{gives_truth as op_gives_truth};
 ghost use Rattle.mh_tree.specs.Limits.{most_nodes};
 
 use crate::code::{Code, KeyTest, Piece};
-use crate::made::Made;
+use crate::made::{Made, own};
 use crate::operands::{copied, leading};
 use mh_base::NoMemory;
 use mh_tree::Operand;
 use mh_type::{Kind, Op};
+use std::alloc::Global;
 use std::sync::Arc;
 
 /// What the value of a part is for: it is the answer, a local that a piece reads, the truth that
@@ -246,12 +247,12 @@ fn answer_invocation(
 }
 
 // Other code as the answer: its first piece itself, where it has no further owners of its pieces.
-pub(crate) fn use_code(made: &mut Made, code: Arc<Code>) -> Result<Arc<Piece>, NoMemory>
+pub(crate) fn use_code(alloc: Global, code: Arc<Code>) -> Result<Arc<Piece>, NoMemory>
     ensures value { IfOk result (λ p. routine_of (arc_value p)
         ≡ routine_of_code (arc_value code)) }
 {
     match code.lone_entry() {
         Some(entry) => owner(entry),
-        None => made.add(Piece::Go { code, steps: 0 }),
+        None => own(alloc, Piece::Go { code, steps: 0 }),
     }
 }

@@ -9,9 +9,9 @@ pub returns : goal.returns
 returns c =
     let made : routine_of (arc_value c.in_ok-entry.entry) ≡ switch 1 c.args.point (routine_of (arc_value c.in_ok-target.target)) (routine_of (arc_value c.in_ok-fallback.fallback)) =
     ap routine_of c.in_ok-entry.ensures.value ∙ routine_of_point c.args.point c.in_ok-target.target c.in_ok-fallback.fallback 1 in
-    let P : Routine → Type 0 = λ r. IfOk c.finish.result (λ k. routine_of_code (arc_value k) ≡ r) in
+    let P : Routine → Type 0 = λ r. IfOk c.with_owners.result (λ k. routine_of_code (arc_value k) ≡ r) in
     record {
       value = subst P
           (made ∙ (λ i. switch 1 c.args.point (c.in_ok-target.ensures.value i) (c.in_ok-fallback.ensures.value i)))
-          c.finish.ensures.value;
+          c.with_owners.ensures.value;
     }
