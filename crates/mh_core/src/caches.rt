@@ -34,7 +34,7 @@ impl Book {
     {
         let base = self.world.prepared_base(site);
         let Some(key_place) = self.definition.key(site) else {
-            return base.share().map_err(|_| NoMemory);
+            return share(base);
         };
         let entries = self.entries(links)?;
         let cache = prepared_chain(self.alloc, base, key_place, &entries)?;
@@ -154,4 +154,11 @@ impl Book {
         let needs = link_of(&self.definition, link).needs.as_slice();
         all_valid(needs, self.world.valid())
     }
+}
+
+// Another owner of a tree and of its code.
+fn share(tree: &Prepared) -> Result<Prepared, NoMemory>
+    ensures value { IfOk result (λ p. p ≡ tree.now) }
+{
+    tree.share().map_err(|_| NoMemory)
 }

@@ -1,6 +1,7 @@
 //! Base trees with their code.
 
 ghost use Rattle.std.specs.Prelude.{◌≡◌, IfOk};
+ghost use Rattle.mh_tree.specs.Handle.{IsDeclared};
 
 use mh_base::NoMemory;
 use mh_code::Prepared;
@@ -50,7 +51,10 @@ impl BaseTree {
     // The tree with its code.
     pub(crate) fn prepared(&self) -> &Prepared
         ensures value { result.now ≡ self.now }
+        ensures declared { IsDeclared result.now }
     {
+        // Read for what a declared tree keeps.
+        let _handle = self.declared.handle();
         &self.prepared
     }
 

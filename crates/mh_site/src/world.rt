@@ -2,6 +2,7 @@
 
 ghost use Rattle.std.specs.Prelude.{◌≡◌, ◌<◌, ◌+◌, ◌^◌, ℕ, length, map, fold, slice_set, slice_index_or, IfOk, OnOk, OnErr, List, ◌++◌, ◌∷◌, []};
 ghost use Rattle.std.specs.List.{All};
+ghost use Rattle.mh_tree.specs.Handle.{IsDeclared};
 ghost use Rattle.mh_tree.specs.Typing.{IsTyped};
 ghost use Rattle.mh_site.specs.Worlds.{WorldState, AreTyped, linkeds, opened, opening, after, replay, state_at, no_state, retargeted, relink_site, clear_point};
 ghost use Rattle.mh_site.specs.SiteStates.{site_state, site_states};
@@ -105,6 +106,7 @@ impl World {
     pub fn prepared_base(&self, site: usize) -> &Prepared
         requires inside { site < length self.now.sites }
         ensures value { result.now ≡ (state_at self.now site).base }
+        ensures declared { IsDeclared result.now }
     {
         self.sites[site].base.prepared()
     }
