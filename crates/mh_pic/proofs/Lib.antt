@@ -1,6 +1,7 @@
 mod Linking
 mod Passing
+mod ResolvedFilters
+mod RetiredTrees
 mod Serving
-mod StrippedFilters
 mod Unnamed
 mod Worked

@@ -1,4 +1,4 @@
--- A tree that can name none of the needs stays as it is without them.
+-- A tree that can name none of some points stays as it is, however they are taken.
 use Rattle.std.proofs.Common.{◌≡◌, ◌<◌, ℕ, refl, ap, sym, ◌∙◌, arith, nat_lt, ◌||◌, length, List, [], ◌∷◌, Bool, true, false, if◌then◌else◌}
 use Rattle.std.proofs.lemmas.Bool.Decides.{nat_tests}
 use Rattle.std.specs.Prelude.{◌==◌}
@@ -8,11 +8,11 @@ use Rattle.mh_type.specs.declared.value.Value.{Value}
 use Rattle.mh_tree.specs.Limits.{point_bound, greatest_bound}
 use Rattle.mh_tree.specs.Tree.{Tree, Filters, constant, identity, operation, insert, discard, permute, filter, filter_return, fold, guard, point, invoke, no_more, absent, present}
 use Rattle.mh_pic.specs.Keys.{key_in, decided}
-use Rattle.mh_pic.specs.Specialised.{any_names, is_needed, names, stripped, stripped_filters, branch, specialised}
+use Rattle.mh_pic.specs.Specialised.{any_names, is_among, names, resolved, resolved_filters, branch, specialised}
 
 -- no need is below the bound
 abbrev pub AreAbove : List ℕ → ℕ → Type 0
-AreAbove needs bound = (p : ℕ) → p < bound → is_needed needs p ≡ false
+AreAbove needs bound = (p : ℕ) → p < bound → is_among needs p ≡ false
 
 either_false : (a b : Bool) → (a || b) ≡ false → (a ≡ false) × (b ≡ false)
 either_false false b h = (refl, h)
@@ -25,38 +25,38 @@ module _ (needs : List ℕ) where
 
   mutual
     -- a tree that names none of the needs stays
-    pub stripped_same : (t : Tree) → names needs t ≡ false → stripped needs t ≡ t
-    stripped_same (constant x) h = refl
-    stripped_same (identity k) h = refl
-    stripped_same (operation o) h = refl
-    stripped_same (insert t p xs) h = ap (λ u. insert u p xs) (stripped_same t h)
-    stripped_same (discard t p ks) h = ap (λ u. discard u p ks) (stripped_same t h)
-    stripped_same (permute t m r) h = ap (λ u. permute u m r) (stripped_same t h)
-    stripped_same (filter t p fs) h =
+    pub resolved_same : (valid : Bool) (t : Tree) → names needs t ≡ false → resolved valid needs t ≡ t
+    resolved_same valid (constant x) h = refl
+    resolved_same valid (identity k) h = refl
+    resolved_same valid (operation o) h = refl
+    resolved_same valid (insert t p xs) h = ap (λ u. insert u p xs) (resolved_same valid t h)
+    resolved_same valid (discard t p ks) h = ap (λ u. discard u p ks) (resolved_same valid t h)
+    resolved_same valid (permute t m r) h = ap (λ u. permute u m r) (resolved_same valid t h)
+    resolved_same valid (filter t p fs) h =
         let (first, rest) = either_false (names needs t) (any_names needs fs) h in
-        (λ i. filter (stripped_same t first i) p (filters_same fs rest i))
-    stripped_same (filter_return t f) h =
+        (λ i. filter (resolved_same valid t first i) p (filters_same valid fs rest i))
+    resolved_same valid (filter_return t f) h =
         let (first, rest) = either_false (names needs t) (names needs f) h in
-        (λ i. filter_return (stripped_same t first i) (stripped_same f rest i))
-    stripped_same (fold t c) h =
+        (λ i. filter_return (resolved_same valid t first i) (resolved_same valid f rest i))
+    resolved_same valid (fold t c) h =
         let (first, rest) = either_false (names needs t) (names needs c) h in
-        (λ i. fold (stripped_same t first i) (stripped_same c rest i))
-    stripped_same (guard c x y) h =
+        (λ i. fold (resolved_same valid t first i) (resolved_same valid c rest i))
+    resolved_same valid (guard c x y) h =
         let (first, both) = either_false (names needs c) (names needs x || names needs y) h in
         let (second, third) = either_false (names needs x) (names needs y) both in
-        (λ i. guard (stripped_same c first i) (stripped_same x second i) (stripped_same y third i))
-    stripped_same (point p x y) h =
-        let (first, both) = either_false (is_needed needs p) (names needs x || names needs y) h in
+        (λ i. guard (resolved_same valid c first i) (resolved_same valid x second i) (resolved_same valid y third i))
+    resolved_same valid (point p x y) h =
+        let (first, both) = either_false (is_among needs p) (names needs x || names needs y) h in
         let (second, third) = either_false (names needs x) (names needs y) both in
-        if_unneeded (is_needed needs p) _ _ first ∙ (λ i. point p (stripped_same x second i) (stripped_same y third i))
-    stripped_same (invoke s n) h = refl
+        if_unneeded (is_among needs p) _ _ first ∙ (λ i. point p (resolved_same valid x second i) (resolved_same valid y third i))
+    resolved_same valid (invoke s n) h = refl
 
-    filters_same : (fs : Filters) → any_names needs fs ≡ false → stripped_filters needs fs ≡ fs
-    filters_same no_more h = refl
-    filters_same (absent fs) h = ap absent (filters_same fs h)
-    filters_same (present f fs) h =
+    filters_same : (valid : Bool) (fs : Filters) → any_names needs fs ≡ false → resolved_filters valid needs fs ≡ fs
+    filters_same valid no_more h = refl
+    filters_same valid (absent fs) h = ap absent (filters_same valid fs h)
+    filters_same valid (present f fs) h =
         let (first, rest) = either_false (names needs f) (any_names needs fs) h in
-        (λ i. present (stripped_same f first i) (filters_same fs rest i))
+        (λ i. present (resolved_same valid f first i) (filters_same valid fs rest i))
 
   mutual
     -- a tree whose points are all below the needs names none of them
@@ -99,8 +99,8 @@ module _ (needs : List ℕ) where
         let es = above_any_names fs (λ q k. h q (omega (arith, k))) in
         (λ i. e i || es i)
 
-  pub stripped_unnamed : (t : Tree) → AreAbove needs (point_bound t) → stripped needs t ≡ t
-  stripped_unnamed t h = stripped_same t (above_names t h)
+  pub resolved_unnamed : (valid : Bool) (t : Tree) → AreAbove needs (point_bound t) → resolved valid needs t ≡ t
+  resolved_unnamed valid t h = resolved_same valid t (above_names t h)
 
 -- needs of which none is below the bound
 pub above_all : (needs : List ℕ) (bound : ℕ) → list_any (λ q. nat_lt q bound) needs ≡ false → AreAbove needs bound
@@ -113,13 +113,13 @@ above_all (q ∷ qs) bound h p k =
 above_none : (bound : ℕ) → AreAbove [] bound
 above_none bound p k = refl
 
--- without needs the tree stays
-stripped_nothing : (t : Tree) → stripped [] t ≡ t
-stripped_nothing t = stripped_unnamed [] t (above_none (point_bound t))
+-- without points the tree stays
+resolved_nothing : (valid : Bool) (t : Tree) → resolved valid [] t ≡ t
+resolved_nothing valid t = resolved_unnamed [] valid t (above_none (point_bound t))
 
-pub stripped_empty : (needs : List ℕ) (t : Tree) → length needs ≡ 0 → stripped needs t ≡ t
-stripped_empty [] t h = stripped_nothing t
-stripped_empty (n ∷ ns) t h = absurd (omega (arith, h))
+pub resolved_empty : (valid : Bool) (ps : List ℕ) (t : Tree) → length ps ≡ 0 → resolved valid ps t ≡ t
+resolved_empty valid [] t h = resolved_nothing valid t
+resolved_empty valid (p ∷ ps) t h = absurd (omega (arith, h))
 
 pub names_empty : (needs : List ℕ) (t : Tree) → length needs ≡ 0 → names needs t ≡ false
 names_empty [] t h = above_names [] t (above_none (point_bound t))
@@ -129,21 +129,21 @@ names_empty (n ∷ ns) t h = absurd (omega (arith, h))
 pub specialised_unnamed : (needs : List ℕ) (kinds : List Kind) (key : Value) (t : Tree) → AreAbove needs (point_bound t)
     → specialised [] kinds key t ≡ specialised needs kinds key t
 specialised_unnamed needs kinds key (guard c x y) h =
-    let e = stripped_nothing c ∙ sym (stripped_unnamed needs c (λ q k. h q (omega (arith, k)))) in
+    let e = resolved_nothing true c ∙ sym (resolved_unnamed needs true c (λ q k. h q (omega (arith, k)))) in
     let f = specialised_unnamed needs kinds key x (λ q k. h q (omega (arith, k))) in
     let g = specialised_unnamed needs kinds key y (λ q k. h q (omega (arith, k))) in
     (λ i. branch (decided key (key_in kinds c)) (e i) (f i) (g i))
 specialised_unnamed needs kinds key (point p x y) h =
     let f = specialised_unnamed needs kinds key x (λ q k. h q (omega (arith, k))) in
     let g = specialised_unnamed needs kinds key y (λ q k. h q (omega (arith, k))) in
-    (λ i. point p (f i) (g i)) ∙ sym (if_unneeded needs (is_needed needs p) _ _ (h p (omega arith)))
+    (λ i. point p (f i) (g i)) ∙ sym (if_unneeded needs (is_among needs p) _ _ (h p (omega arith)))
 specialised_unnamed needs kinds key (constant x) h = refl
 specialised_unnamed needs kinds key (identity k) h = refl
 specialised_unnamed needs kinds key (operation o) h = refl
-specialised_unnamed needs kinds key (insert t p xs) h = stripped_nothing (insert t p xs) ∙ sym (stripped_unnamed needs (insert t p xs) h)
-specialised_unnamed needs kinds key (discard t p ks) h = stripped_nothing (discard t p ks) ∙ sym (stripped_unnamed needs (discard t p ks) h)
-specialised_unnamed needs kinds key (permute t m r) h = stripped_nothing (permute t m r) ∙ sym (stripped_unnamed needs (permute t m r) h)
-specialised_unnamed needs kinds key (filter t p fs) h = stripped_nothing (filter t p fs) ∙ sym (stripped_unnamed needs (filter t p fs) h)
-specialised_unnamed needs kinds key (filter_return t f) h = stripped_nothing (filter_return t f) ∙ sym (stripped_unnamed needs (filter_return t f) h)
-specialised_unnamed needs kinds key (fold t c) h = stripped_nothing (fold t c) ∙ sym (stripped_unnamed needs (fold t c) h)
+specialised_unnamed needs kinds key (insert t p xs) h = resolved_nothing true (insert t p xs) ∙ sym (resolved_unnamed needs true (insert t p xs) h)
+specialised_unnamed needs kinds key (discard t p ks) h = resolved_nothing true (discard t p ks) ∙ sym (resolved_unnamed needs true (discard t p ks) h)
+specialised_unnamed needs kinds key (permute t m r) h = resolved_nothing true (permute t m r) ∙ sym (resolved_unnamed needs true (permute t m r) h)
+specialised_unnamed needs kinds key (filter t p fs) h = resolved_nothing true (filter t p fs) ∙ sym (resolved_unnamed needs true (filter t p fs) h)
+specialised_unnamed needs kinds key (filter_return t f) h = resolved_nothing true (filter_return t f) ∙ sym (resolved_unnamed needs true (filter_return t f) h)
+specialised_unnamed needs kinds key (fold t c) h = resolved_nothing true (fold t c) ∙ sym (resolved_unnamed needs true (fold t c) h)
 specialised_unnamed needs kinds key (invoke s n) h = refl

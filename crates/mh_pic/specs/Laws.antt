@@ -4,8 +4,10 @@ pub mod Chains
 pub mod Invocations
 pub mod Kept
 pub mod KeyTests
+pub mod ResolvedTrees
 pub mod SpecialisedTrees
-pub mod StrippedTrees
-pub use Rattle.mh_pic.specs.Laws.Bounds.{chain_bound}
+pub use Rattle.mh_pic.specs.Laws.Bounds.{chain_bound, resolved_bound}
 pub use Rattle.mh_pic.specs.Laws.Chains.{chain_faithful}
-pub use Rattle.mh_pic.specs.Laws.Invocations.{chain_invokes, chain_sites, faithful_means, specialised_invokes}
+pub use Rattle.mh_pic.specs.Laws.Invocations.{chain_invokes, chain_sites, faithful_means, resolved_invokes, specialised_invokes}
+pub use Rattle.mh_pic.specs.Laws.Kept.{resolved_typed}
+pub use Rattle.mh_pic.specs.Laws.ResolvedTrees.{retired_at, retired_mean, retired_sites, retired_steps}

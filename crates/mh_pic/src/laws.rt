@@ -1,7 +1,7 @@
 //! Laws of the definitions: what specialised trees and chains do, for every tree. The functions
 //! compute nothing.
 
-ghost use Rattle.std.specs.Prelude.{◌≡◌, ◌<◌, ◌≤◌, ℕ, Bool, true, List, Some, length, take};
+ghost use Rattle.std.specs.Prelude.{◌≡◌, ◌<◌, ◌≤◌, ℕ, Bool, false, true, List, Some, length, map, take};
 ghost use Rattle.mh_type.specs.declared.kind.Kind.{Kind};
 ghost use Rattle.mh_type.specs.declared.outcome.Outcome.TheVariants as outcome;
 ghost use Rattle.mh_type.specs.declared.value.Value.{Value};
@@ -15,13 +15,13 @@ ghost use Rattle.mh_tree.specs.Tree.{Tree};
 ghost use Rattle.mh_tree.specs.Typing.{IsTyped, kind_at};
 ghost use Rattle.mh_type.specs.Values.{same_value};
 ghost use Rattle.mh_pic.specs.Keys.{key_test, key_in};
-ghost use Rattle.mh_pic.specs.Specialised.{AreValid, NamesNone, specialised};
+ghost use Rattle.mh_pic.specs.Specialised.{AreValid, NamesNone, Resolves, Retires, retired, retired_tree, specialised};
 ghost use Rattle.mh_pic.specs.Chains.{PlainEntry, IsFaithful, AreFaithful, HaveKind, HaveFewNeeds, HaveNeedsBelow, chain};
 ghost use Rattle.mh_type.specs.Limits.{most_parameters};
 ghost use Rattle.mh_pic.specs.Limits.{most_entries, deepest_chain, most_chain_nodes};
 ghost use Rattle.mh_tree.specs.Environment.{Environment};
 ghost use Rattle.mh_tree.specs.Handle.{TypedTree};
-ghost use Rattle.mh_tree.specs.Sites.{InvokesBelow, IsLawful, with_sites};
+ghost use Rattle.mh_tree.specs.Sites.{InvokesBelow, IsLawful, target_at, with_sites};
 ghost use Rattle.mh_type.specs.Fits.{Fits};
 
 /// A key test answers whether the argument at the key place is its key, where it is of the key's
@@ -60,6 +60,35 @@ pub fn specialised_trees_agree()
         → size (specialised needs kinds key t) ≤ size t }
     ensures bound { (needs : List ℕ) → (kinds : List Kind) → (key : Value) → (t : Tree)
         → point_bound (specialised needs kinds key t) ≤ point_bound t }
+{}
+
+/// A tree without points, each of which gave way to its fallback, has the type of its tree and names
+/// none of them; it is the tree itself where that named none of them. It is no deeper, no larger,
+/// names no other point, and invokes what its tree invokes. It gives what the tree gave where these
+/// points were invalid, in at most as many steps, whatever they are now; and so does each site's
+/// tree, where all sites' trees are without them.
+pub fn retired_points_keep_meaning()
+    ensures same { (ps : List ℕ) → (v : Environment) → (w : Environment) → Resolves false ps v w
+        → (t : Tree) → (m : Signature) → IsTyped t m → (a : List Value)
+        → mean w (retired ps t) a ≡ mean v t a }
+    ensures quick { (ps : List ℕ) → (v : Environment) → (w : Environment) → Resolves false ps v w
+        → (t : Tree) → (m : Signature) → IsTyped t m → (a : List Value)
+        → steps w (retired ps t) a ≤ steps v t a }
+    ensures sites { (ps : List ℕ) → (old : List Bool) → (new : List Bool)
+        → (targets : List TypedTree) → Retires ps old new
+        → ((s : ℕ) → s < length targets → IsTyped (target_at targets s).tree
+        (target_at targets s).signature)
+        → Resolves false ps (with_sites old targets)
+        (with_sites new (map (retired_tree ps) targets)) }
+    ensures typed { (ps : List ℕ) → (t : Tree) → (m : Signature) → IsTyped t m
+        → IsTyped (retired ps t) m }
+    ensures unnamed { (ps : List ℕ) → (t : Tree) → NamesNone ps (retired ps t) }
+    ensures stays { (ps : List ℕ) → (t : Tree) → NamesNone ps t → retired ps t ≡ t }
+    ensures shallow { (ps : List ℕ) → (t : Tree) → depth (retired ps t) ≤ depth t }
+    ensures small { (ps : List ℕ) → (t : Tree) → size (retired ps t) ≤ size t }
+    ensures bound { (ps : List ℕ) → (t : Tree) → point_bound (retired ps t) ≤ point_bound t }
+    ensures invokes { (ps : List ℕ) → (t : Tree) → (levels : List ℕ) → (targets : List TypedTree)
+        → (l : ℕ) → InvokesBelow levels targets l t → InvokesBelow levels targets l (retired ps t) }
 {}
 
 /// A chain has the type of its base, and gives what its base gives, whichever points are valid. It

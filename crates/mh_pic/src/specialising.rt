@@ -96,7 +96,7 @@ fn has_below(points: &[u32], bound: usize) -> bool
 }
 
 // The tree that was made, as a handle of the old one's type.
-fn rebuild(alloc: Global, old: &Handle, root: Arc<Node>) -> Result<Handle, NoMemory>
+pub(crate) fn rebuild(alloc: Global, old: &Handle, root: Arc<Node>) -> Result<Handle, NoMemory>
     requires sound { IsSound (tree_of (arc_value root)) old.now.signature }
     ensures value { IfOk result (λ h. h ≡ record {
       tree = tree_of (arc_value root);

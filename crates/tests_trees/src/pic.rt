@@ -2,7 +2,7 @@
 
 use crate::examples::{Given, example, int, op, ran, walked};
 use mh_code::Prepared;
-use mh_pic::{Entry, chain, may_chain, prepared_chain, specialise, strip};
+use mh_pic::{Entry, chain, may_chain, prepared_chain, retire, specialise, strip};
 use mh_run::Stack;
 use mh_tree::{Declared, Handle, Node};
 use mh_type::{Kind, Op, Value};
@@ -55,6 +55,24 @@ fn points_that_give_way(alloc: Global) -> Result<(bool, bool), Fail> {
 #[test]
 fn needed_points_give_way(rt: HostRuntime) -> Result<(), Fail> {
     assert_eq!(rt; points_that_give_way(rt.alloc())?, (true, true));
+    Ok(())
+}
+
+/// How large the example is without a point, and a number above all points that are left.
+fn size_without(alloc: Global, point: u32) -> Result<(usize, usize), Fail> {
+    let tree = Declared::new(&example(alloc)?)?;
+    let made = retire(alloc, &tree, &[point])?;
+    let handle = made.handle();
+    Ok((handle.size(), handle.point_bound()))
+}
+
+#[test]
+fn retired_points_leave_their_fallbacks(rt: HostRuntime) -> Result<(), Fail> {
+    let alloc = rt.alloc();
+    assert_eq!(rt;
+        (size_without(alloc, 0)?, size_without(alloc, 1)?),
+        ((1, 0), (9, 1))
+    );
     Ok(())
 }
 

@@ -6,59 +6,61 @@ use Rattle.mh_type.specs.declared.value.Value.{Value}
 use Rattle.mh_tree.specs.Limits.{point_bound, greatest_bound, depth, deepest, size, total_size}
 use Rattle.mh_tree.specs.Tree.{Tree, Filters, constant, identity, operation, insert, discard, permute, filter, filter_return, fold, guard, point, invoke, no_more, absent, present}
 use Rattle.mh_pic.specs.Keys.{key_test, key_in, decided}
-use Rattle.mh_pic.specs.Specialised.{is_needed, stripped, stripped_filters, branch, specialised}
+use Rattle.mh_pic.specs.Specialised.{is_among, resolved, resolved_filters, stripped, branch, specialised}
 use Rattle.mh_pic.specs.Chains.{PlainEntry, points, chain, HaveFewNeeds, HaveNeedsBelow}
 
 -- a bound on both: at most so deep, and of at most so many nodes
-point_size : (b : Bool) (p : ℕ) (x y : Tree) → size (if b then x else point p x y) ≤ 1 + (size x + size y)
-point_size true p x y = omega arith
-point_size false p x y = omega arith
+point_size : (b valid : Bool) (p : ℕ) (x y : Tree) → size (if b then (if valid then x else y) else point p x y) ≤ 1 + (size x + size y)
+point_size true true p x y = omega arith
+point_size true false p x y = omega arith
+point_size false valid p x y = omega arith
 
-point_depth : (b : Bool) (p : ℕ) (x y : Tree) → depth (if b then x else point p x y) ≤ 1 + max (depth x) (depth y)
-point_depth true p x y = omega arith
-point_depth false p x y = omega arith
-
-mutual
-  pub stripped_size : (needs : List ℕ) (t : Tree) → size (stripped needs t) ≤ size t
-  stripped_size needs (constant x) = omega arith
-  stripped_size needs (identity k) = omega arith
-  stripped_size needs (operation o) = omega arith
-  stripped_size needs (insert t p xs) = omega (arith, stripped_size needs t)
-  stripped_size needs (discard t p ks) = omega (arith, stripped_size needs t)
-  stripped_size needs (permute t m r) = omega (arith, stripped_size needs t)
-  stripped_size needs (filter t p fs) = omega (arith, stripped_size needs t, stripped_total needs fs)
-  stripped_size needs (filter_return t f) = omega (arith, stripped_size needs t, stripped_size needs f)
-  stripped_size needs (fold t c) = omega (arith, stripped_size needs t, stripped_size needs c)
-  stripped_size needs (guard c x y) = omega (arith, stripped_size needs c, stripped_size needs x, stripped_size needs y)
-  stripped_size needs (point p x y) =
-      omega (arith, point_size (is_needed needs p) p (stripped needs x) (stripped needs y), stripped_size needs x, stripped_size needs y)
-  stripped_size needs (invoke s n) = omega arith
-
-  pub stripped_total : (needs : List ℕ) (fs : Filters) → total_size (stripped_filters needs fs) ≤ total_size fs
-  stripped_total needs no_more = omega arith
-  stripped_total needs (absent fs) = stripped_total needs fs
-  stripped_total needs (present f fs) = omega (arith, stripped_size needs f, stripped_total needs fs)
+point_depth : (b valid : Bool) (p : ℕ) (x y : Tree) → depth (if b then (if valid then x else y) else point p x y) ≤ 1 + max (depth x) (depth y)
+point_depth true true p x y = omega arith
+point_depth true false p x y = omega arith
+point_depth false valid p x y = omega arith
 
 mutual
-  pub stripped_depth : (needs : List ℕ) (t : Tree) → depth (stripped needs t) ≤ depth t
-  stripped_depth needs (constant x) = omega arith
-  stripped_depth needs (identity k) = omega arith
-  stripped_depth needs (operation o) = omega arith
-  stripped_depth needs (insert t p xs) = omega (arith, stripped_depth needs t)
-  stripped_depth needs (discard t p ks) = omega (arith, stripped_depth needs t)
-  stripped_depth needs (permute t m r) = omega (arith, stripped_depth needs t)
-  stripped_depth needs (filter t p fs) = omega (arith, stripped_depth needs t, stripped_deepest needs fs)
-  stripped_depth needs (filter_return t f) = omega (arith, stripped_depth needs t, stripped_depth needs f)
-  stripped_depth needs (fold t c) = omega (arith, stripped_depth needs t, stripped_depth needs c)
-  stripped_depth needs (guard c x y) = omega (arith, stripped_depth needs c, stripped_depth needs x, stripped_depth needs y)
-  stripped_depth needs (point p x y) =
-      omega (arith, point_depth (is_needed needs p) p (stripped needs x) (stripped needs y), stripped_depth needs x, stripped_depth needs y)
-  stripped_depth needs (invoke s n) = omega arith
+  pub resolved_size : (valid : Bool) (ps : List ℕ) (t : Tree) → size (resolved valid ps t) ≤ size t
+  resolved_size valid ps (constant x) = omega arith
+  resolved_size valid ps (identity k) = omega arith
+  resolved_size valid ps (operation o) = omega arith
+  resolved_size valid ps (insert t p xs) = omega (arith, resolved_size valid ps t)
+  resolved_size valid ps (discard t p ks) = omega (arith, resolved_size valid ps t)
+  resolved_size valid ps (permute t m r) = omega (arith, resolved_size valid ps t)
+  resolved_size valid ps (filter t p fs) = omega (arith, resolved_size valid ps t, resolved_total valid ps fs)
+  resolved_size valid ps (filter_return t f) = omega (arith, resolved_size valid ps t, resolved_size valid ps f)
+  resolved_size valid ps (fold t c) = omega (arith, resolved_size valid ps t, resolved_size valid ps c)
+  resolved_size valid ps (guard c x y) = omega (arith, resolved_size valid ps c, resolved_size valid ps x, resolved_size valid ps y)
+  resolved_size valid ps (point p x y) =
+      omega (arith, point_size (is_among ps p) valid p (resolved valid ps x) (resolved valid ps y), resolved_size valid ps x, resolved_size valid ps y)
+  resolved_size valid ps (invoke s n) = omega arith
 
-  pub stripped_deepest : (needs : List ℕ) (fs : Filters) → deepest (stripped_filters needs fs) ≤ deepest fs
-  stripped_deepest needs no_more = omega arith
-  stripped_deepest needs (absent fs) = stripped_deepest needs fs
-  stripped_deepest needs (present f fs) = omega (arith, stripped_depth needs f, stripped_deepest needs fs)
+  pub resolved_total : (valid : Bool) (ps : List ℕ) (fs : Filters) → total_size (resolved_filters valid ps fs) ≤ total_size fs
+  resolved_total valid ps no_more = omega arith
+  resolved_total valid ps (absent fs) = resolved_total valid ps fs
+  resolved_total valid ps (present f fs) = omega (arith, resolved_size valid ps f, resolved_total valid ps fs)
+
+mutual
+  pub resolved_depth : (valid : Bool) (ps : List ℕ) (t : Tree) → depth (resolved valid ps t) ≤ depth t
+  resolved_depth valid ps (constant x) = omega arith
+  resolved_depth valid ps (identity k) = omega arith
+  resolved_depth valid ps (operation o) = omega arith
+  resolved_depth valid ps (insert t p xs) = omega (arith, resolved_depth valid ps t)
+  resolved_depth valid ps (discard t p ks) = omega (arith, resolved_depth valid ps t)
+  resolved_depth valid ps (permute t m r) = omega (arith, resolved_depth valid ps t)
+  resolved_depth valid ps (filter t p fs) = omega (arith, resolved_depth valid ps t, resolved_deepest valid ps fs)
+  resolved_depth valid ps (filter_return t f) = omega (arith, resolved_depth valid ps t, resolved_depth valid ps f)
+  resolved_depth valid ps (fold t c) = omega (arith, resolved_depth valid ps t, resolved_depth valid ps c)
+  resolved_depth valid ps (guard c x y) = omega (arith, resolved_depth valid ps c, resolved_depth valid ps x, resolved_depth valid ps y)
+  resolved_depth valid ps (point p x y) =
+      omega (arith, point_depth (is_among ps p) valid p (resolved valid ps x) (resolved valid ps y), resolved_depth valid ps x, resolved_depth valid ps y)
+  resolved_depth valid ps (invoke s n) = omega arith
+
+  pub resolved_deepest : (valid : Bool) (ps : List ℕ) (fs : Filters) → deepest (resolved_filters valid ps fs) ≤ deepest fs
+  resolved_deepest valid ps no_more = omega arith
+  resolved_deepest valid ps (absent fs) = resolved_deepest valid ps fs
+  resolved_deepest valid ps (present f fs) = omega (arith, resolved_depth valid ps f, resolved_deepest valid ps fs)
 
 branch_size : (o : Option Bool) (c x y : Tree) → size (branch o c x y) ≤ 1 + (size c + (size x + size y))
 branch_size (Some true) c x y = omega arith
@@ -73,35 +75,35 @@ branch_depth None c x y = omega arith
 module _ (needs : List ℕ) (kinds : List Kind) (key : Value) where
   pub specialised_size : (t : Tree) → size (specialised needs kinds key t) ≤ size t
   specialised_size (guard c x y) =
-      omega (arith, branch_size (decided key (key_in kinds c)) (stripped needs c) (specialised needs kinds key x) (specialised needs kinds key y), stripped_size needs c, specialised_size x, specialised_size y)
+      omega (arith, branch_size (decided key (key_in kinds c)) (stripped needs c) (specialised needs kinds key x) (specialised needs kinds key y), resolved_size true needs c, specialised_size x, specialised_size y)
   specialised_size (point p x y) =
-      omega (arith, point_size (is_needed needs p) p (specialised needs kinds key x) (specialised needs kinds key y), specialised_size x, specialised_size y)
-  specialised_size (constant x) = stripped_size needs (constant x)
-  specialised_size (identity k) = stripped_size needs (identity k)
-  specialised_size (operation o) = stripped_size needs (operation o)
-  specialised_size (insert t p xs) = stripped_size needs (insert t p xs)
-  specialised_size (discard t p ks) = stripped_size needs (discard t p ks)
-  specialised_size (permute t n r) = stripped_size needs (permute t n r)
-  specialised_size (filter t p fs) = stripped_size needs (filter t p fs)
-  specialised_size (filter_return t f) = stripped_size needs (filter_return t f)
-  specialised_size (fold t c) = stripped_size needs (fold t c)
-  specialised_size (invoke s n) = stripped_size needs (invoke s n)
+      omega (arith, point_size (is_among needs p) true p (specialised needs kinds key x) (specialised needs kinds key y), specialised_size x, specialised_size y)
+  specialised_size (constant x) = resolved_size true needs (constant x)
+  specialised_size (identity k) = resolved_size true needs (identity k)
+  specialised_size (operation o) = resolved_size true needs (operation o)
+  specialised_size (insert t p xs) = resolved_size true needs (insert t p xs)
+  specialised_size (discard t p ks) = resolved_size true needs (discard t p ks)
+  specialised_size (permute t n r) = resolved_size true needs (permute t n r)
+  specialised_size (filter t p fs) = resolved_size true needs (filter t p fs)
+  specialised_size (filter_return t f) = resolved_size true needs (filter_return t f)
+  specialised_size (fold t c) = resolved_size true needs (fold t c)
+  specialised_size (invoke s n) = resolved_size true needs (invoke s n)
 
   pub specialised_depth : (t : Tree) → depth (specialised needs kinds key t) ≤ depth t
   specialised_depth (guard c x y) =
-      omega (arith, branch_depth (decided key (key_in kinds c)) (stripped needs c) (specialised needs kinds key x) (specialised needs kinds key y), stripped_depth needs c, specialised_depth x, specialised_depth y)
+      omega (arith, branch_depth (decided key (key_in kinds c)) (stripped needs c) (specialised needs kinds key x) (specialised needs kinds key y), resolved_depth true needs c, specialised_depth x, specialised_depth y)
   specialised_depth (point p x y) =
-      omega (arith, point_depth (is_needed needs p) p (specialised needs kinds key x) (specialised needs kinds key y), specialised_depth x, specialised_depth y)
-  specialised_depth (constant x) = stripped_depth needs (constant x)
-  specialised_depth (identity k) = stripped_depth needs (identity k)
-  specialised_depth (operation o) = stripped_depth needs (operation o)
-  specialised_depth (insert t p xs) = stripped_depth needs (insert t p xs)
-  specialised_depth (discard t p ks) = stripped_depth needs (discard t p ks)
-  specialised_depth (permute t n r) = stripped_depth needs (permute t n r)
-  specialised_depth (filter t p fs) = stripped_depth needs (filter t p fs)
-  specialised_depth (filter_return t f) = stripped_depth needs (filter_return t f)
-  specialised_depth (fold t c) = stripped_depth needs (fold t c)
-  specialised_depth (invoke s n) = stripped_depth needs (invoke s n)
+      omega (arith, point_depth (is_among needs p) true p (specialised needs kinds key x) (specialised needs kinds key y), specialised_depth x, specialised_depth y)
+  specialised_depth (constant x) = resolved_depth true needs (constant x)
+  specialised_depth (identity k) = resolved_depth true needs (identity k)
+  specialised_depth (operation o) = resolved_depth true needs (operation o)
+  specialised_depth (insert t p xs) = resolved_depth true needs (insert t p xs)
+  specialised_depth (discard t p ks) = resolved_depth true needs (discard t p ks)
+  specialised_depth (permute t n r) = resolved_depth true needs (permute t n r)
+  specialised_depth (filter t p fs) = resolved_depth true needs (filter t p fs)
+  specialised_depth (filter_return t f) = resolved_depth true needs (filter_return t f)
+  specialised_depth (fold t c) = resolved_depth true needs (fold t c)
+  specialised_depth (invoke s n) = resolved_depth true needs (invoke s n)
 
 pub test_size : (kinds : List Kind) (key : Value) → size (key_test kinds key) ≤ 3
 test_size [] key = omega arith
@@ -151,30 +153,31 @@ pub chain_depth : (kinds : List Kind) (base : Tree) (entries : List PlainEntry) 
 chain_depth kinds base entries few short small = omega (arith, chain_depth_each kinds base entries few small)
 
 -- the points that a chain names are the base's and the needs
-point_bounds : (b : Bool) (p : ℕ) (x y : Tree) → point_bound (if b then x else point p x y) ≤ max (p + 1) (max (point_bound x) (point_bound y))
-point_bounds true p x y = omega arith
-point_bounds false p x y = omega arith
+point_bounds : (b valid : Bool) (p : ℕ) (x y : Tree) → point_bound (if b then (if valid then x else y) else point p x y) ≤ max (p + 1) (max (point_bound x) (point_bound y))
+point_bounds true true p x y = omega arith
+point_bounds true false p x y = omega arith
+point_bounds false valid p x y = omega arith
 
 mutual
-  pub stripped_bound : (needs : List ℕ) (t : Tree) → point_bound (stripped needs t) ≤ point_bound t
-  stripped_bound needs (constant x) = omega arith
-  stripped_bound needs (identity k) = omega arith
-  stripped_bound needs (operation o) = omega arith
-  stripped_bound needs (insert t p xs) = stripped_bound needs t
-  stripped_bound needs (discard t p ks) = stripped_bound needs t
-  stripped_bound needs (permute t m r) = stripped_bound needs t
-  stripped_bound needs (filter t p fs) = omega (arith, stripped_bound needs t, stripped_greatest needs fs)
-  stripped_bound needs (filter_return t f) = omega (arith, stripped_bound needs t, stripped_bound needs f)
-  stripped_bound needs (fold t c) = omega (arith, stripped_bound needs t, stripped_bound needs c)
-  stripped_bound needs (guard c x y) = omega (arith, stripped_bound needs c, stripped_bound needs x, stripped_bound needs y)
-  stripped_bound needs (point p x y) =
-      omega (arith, point_bounds (is_needed needs p) p (stripped needs x) (stripped needs y), stripped_bound needs x, stripped_bound needs y)
-  stripped_bound needs (invoke s n) = omega arith
+  pub resolved_bound : (valid : Bool) (ps : List ℕ) (t : Tree) → point_bound (resolved valid ps t) ≤ point_bound t
+  resolved_bound valid ps (constant x) = omega arith
+  resolved_bound valid ps (identity k) = omega arith
+  resolved_bound valid ps (operation o) = omega arith
+  resolved_bound valid ps (insert t p xs) = resolved_bound valid ps t
+  resolved_bound valid ps (discard t p ks) = resolved_bound valid ps t
+  resolved_bound valid ps (permute t m r) = resolved_bound valid ps t
+  resolved_bound valid ps (filter t p fs) = omega (arith, resolved_bound valid ps t, resolved_greatest valid ps fs)
+  resolved_bound valid ps (filter_return t f) = omega (arith, resolved_bound valid ps t, resolved_bound valid ps f)
+  resolved_bound valid ps (fold t c) = omega (arith, resolved_bound valid ps t, resolved_bound valid ps c)
+  resolved_bound valid ps (guard c x y) = omega (arith, resolved_bound valid ps c, resolved_bound valid ps x, resolved_bound valid ps y)
+  resolved_bound valid ps (point p x y) =
+      omega (arith, point_bounds (is_among ps p) valid p (resolved valid ps x) (resolved valid ps y), resolved_bound valid ps x, resolved_bound valid ps y)
+  resolved_bound valid ps (invoke s n) = omega arith
 
-  pub stripped_greatest : (needs : List ℕ) (fs : Filters) → greatest_bound (stripped_filters needs fs) ≤ greatest_bound fs
-  stripped_greatest needs no_more = omega arith
-  stripped_greatest needs (absent fs) = stripped_greatest needs fs
-  stripped_greatest needs (present f fs) = omega (arith, stripped_bound needs f, stripped_greatest needs fs)
+  pub resolved_greatest : (valid : Bool) (ps : List ℕ) (fs : Filters) → greatest_bound (resolved_filters valid ps fs) ≤ greatest_bound fs
+  resolved_greatest valid ps no_more = omega arith
+  resolved_greatest valid ps (absent fs) = resolved_greatest valid ps fs
+  resolved_greatest valid ps (present f fs) = omega (arith, resolved_bound valid ps f, resolved_greatest valid ps fs)
 
 branch_bound : (o : Option Bool) (c x y : Tree) → point_bound (branch o c x y) ≤ max (point_bound c) (max (point_bound x) (point_bound y))
 branch_bound (Some true) c x y = omega arith
@@ -184,19 +187,19 @@ branch_bound None c x y = omega arith
 module _ (needs : List ℕ) (kinds : List Kind) (key : Value) where
   pub specialised_bound : (t : Tree) → point_bound (specialised needs kinds key t) ≤ point_bound t
   specialised_bound (guard c x y) =
-      omega (arith, branch_bound (decided key (key_in kinds c)) (stripped needs c) (specialised needs kinds key x) (specialised needs kinds key y), stripped_bound needs c, specialised_bound x, specialised_bound y)
+      omega (arith, branch_bound (decided key (key_in kinds c)) (stripped needs c) (specialised needs kinds key x) (specialised needs kinds key y), resolved_bound true needs c, specialised_bound x, specialised_bound y)
   specialised_bound (point p x y) =
-      omega (arith, point_bounds (is_needed needs p) p (specialised needs kinds key x) (specialised needs kinds key y), specialised_bound x, specialised_bound y)
-  specialised_bound (constant x) = stripped_bound needs (constant x)
-  specialised_bound (identity k) = stripped_bound needs (identity k)
-  specialised_bound (operation o) = stripped_bound needs (operation o)
-  specialised_bound (insert t p xs) = stripped_bound needs (insert t p xs)
-  specialised_bound (discard t p ks) = stripped_bound needs (discard t p ks)
-  specialised_bound (permute t n r) = stripped_bound needs (permute t n r)
-  specialised_bound (filter t p fs) = stripped_bound needs (filter t p fs)
-  specialised_bound (filter_return t f) = stripped_bound needs (filter_return t f)
-  specialised_bound (fold t c) = stripped_bound needs (fold t c)
-  specialised_bound (invoke s n) = stripped_bound needs (invoke s n)
+      omega (arith, point_bounds (is_among needs p) true p (specialised needs kinds key x) (specialised needs kinds key y), specialised_bound x, specialised_bound y)
+  specialised_bound (constant x) = resolved_bound true needs (constant x)
+  specialised_bound (identity k) = resolved_bound true needs (identity k)
+  specialised_bound (operation o) = resolved_bound true needs (operation o)
+  specialised_bound (insert t p xs) = resolved_bound true needs (insert t p xs)
+  specialised_bound (discard t p ks) = resolved_bound true needs (discard t p ks)
+  specialised_bound (permute t n r) = resolved_bound true needs (permute t n r)
+  specialised_bound (filter t p fs) = resolved_bound true needs (filter t p fs)
+  specialised_bound (filter_return t f) = resolved_bound true needs (filter_return t f)
+  specialised_bound (fold t c) = resolved_bound true needs (fold t c)
+  specialised_bound (invoke s n) = resolved_bound true needs (invoke s n)
 
 test_bound : (kinds : List Kind) (key : Value) → point_bound (key_test kinds key) ≤ 0
 test_bound [] key = omega arith

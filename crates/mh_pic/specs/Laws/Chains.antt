@@ -16,7 +16,7 @@ use Rattle.mh_tree.specs.Typing.{IsTyped, BeginsWith, kind_at}
 use Rattle.mh_type.specs.Laws.{values_decide}
 use Rattle.mh_type.specs.Values.{same_value}
 use Rattle.mh_pic.specs.Keys.{first_test, key_test}
-use Rattle.mh_pic.specs.Specialised.{AreValid, is_needed, specialised}
+use Rattle.mh_pic.specs.Specialised.{AreValid, is_among, specialised}
 use Rattle.mh_pic.specs.Chains.{PlainEntry, points, chain, IsFaithful, HaveKind}
 use Rattle.mh_pic.specs.Laws.KeyTests.{key_test_mean}
 use Rattle.mh_pic.specs.Laws.Kept.{specialised_typed}
@@ -27,7 +27,7 @@ use Rattle.mh_tree.specs.Environment.{Environment}
 one_more : (v : Environment) (p : ℕ) (rest : List ℕ) → is_valid v p ≡ true → AreValid v rest → AreValid v (p ∷ rest)
 one_more v p rest here valid q h = by_test (p == q) refl h
   where
-    by_test : (b : Bool) → (p == q) ≡ b → (b || is_needed rest q) ≡ true → is_valid v q ≡ true
+    by_test : (b : Bool) → (p == q) ≡ b → (b || is_among rest q) ≡ true → is_valid v q ≡ true
     by_test true e g = rw (sym ((Decides-eqb p q).0 e)) here
     by_test false e g = valid q g
 

@@ -13,33 +13,34 @@ use Rattle.mh_tree.specs.Tree.{Tree, Filters, constant, identity, operation, ins
 use Rattle.mh_tree.specs.Typing.{IsTyped}
 use Rattle.mh_tree.specs.Laws.{GivesKind, IsBelow, below_bounds, mean_alike, result_kind, sites_below}
 use Rattle.mh_pic.specs.Keys.{key_test, key_in, decided}
-use Rattle.mh_pic.specs.Specialised.{is_needed, stripped, stripped_filters, branch, specialised}
+use Rattle.mh_pic.specs.Specialised.{is_among, resolved, resolved_filters, stripped, branch, specialised}
 use Rattle.mh_pic.specs.Chains.{PlainEntry, points, chain, AreFaithful}
 
 module _ (P : ℕ → Signature → Type 0) where
-  point_invokes : (b : Bool) (p : ℕ) (x y : Tree) → EachInvoke P x → EachInvoke P y → EachInvoke P (if b then x else point p x y)
-  point_invokes true p x y hx hy = hx
-  point_invokes false p x y hx hy = (hx, hy)
+  point_invokes : (b valid : Bool) (p : ℕ) (x y : Tree) → EachInvoke P x → EachInvoke P y → EachInvoke P (if b then (if valid then x else y) else point p x y)
+  point_invokes true true p x y hx hy = hx
+  point_invokes true false p x y hx hy = hy
+  point_invokes false valid p x y hx hy = (hx, hy)
 
   mutual
-    pub stripped_invokes : (needs : List ℕ) (t : Tree) → EachInvoke P t → EachInvoke P (stripped needs t)
-    stripped_invokes needs (constant x) e = tt
-    stripped_invokes needs (identity k) e = tt
-    stripped_invokes needs (operation o) e = tt
-    stripped_invokes needs (insert t p xs) e = stripped_invokes needs t e
-    stripped_invokes needs (discard t p ks) e = stripped_invokes needs t e
-    stripped_invokes needs (permute t m r) e = stripped_invokes needs t e
-    stripped_invokes needs (filter t p fs) e = (stripped_invokes needs t e.0, stripped_filters_invoke needs fs e.1)
-    stripped_invokes needs (filter_return t f) e = (stripped_invokes needs t e.0, stripped_invokes needs f e.1)
-    stripped_invokes needs (fold t c) e = (stripped_invokes needs t e.0, stripped_invokes needs c e.1)
-    stripped_invokes needs (guard c x y) e = (stripped_invokes needs c e.0, stripped_invokes needs x e.1, stripped_invokes needs y e.2)
-    stripped_invokes needs (point p x y) e = point_invokes (is_needed needs p) p _ _ (stripped_invokes needs x e.0) (stripped_invokes needs y e.1)
-    stripped_invokes needs (invoke s n) e = e
+    pub resolved_invokes : (valid : Bool) (ps : List ℕ) (t : Tree) → EachInvoke P t → EachInvoke P (resolved valid ps t)
+    resolved_invokes valid ps (constant x) e = tt
+    resolved_invokes valid ps (identity k) e = tt
+    resolved_invokes valid ps (operation o) e = tt
+    resolved_invokes valid ps (insert t p xs) e = resolved_invokes valid ps t e
+    resolved_invokes valid ps (discard t p ks) e = resolved_invokes valid ps t e
+    resolved_invokes valid ps (permute t m r) e = resolved_invokes valid ps t e
+    resolved_invokes valid ps (filter t p fs) e = (resolved_invokes valid ps t e.0, resolved_filters_invoke valid ps fs e.1)
+    resolved_invokes valid ps (filter_return t f) e = (resolved_invokes valid ps t e.0, resolved_invokes valid ps f e.1)
+    resolved_invokes valid ps (fold t c) e = (resolved_invokes valid ps t e.0, resolved_invokes valid ps c e.1)
+    resolved_invokes valid ps (guard c x y) e = (resolved_invokes valid ps c e.0, resolved_invokes valid ps x e.1, resolved_invokes valid ps y e.2)
+    resolved_invokes valid ps (point p x y) e = point_invokes (is_among ps p) valid p _ _ (resolved_invokes valid ps x e.0) (resolved_invokes valid ps y e.1)
+    resolved_invokes valid ps (invoke s n) e = e
 
-    pub stripped_filters_invoke : (needs : List ℕ) (fs : Filters) → EachInvokes P fs → EachInvokes P (stripped_filters needs fs)
-    stripped_filters_invoke needs no_more e = tt
-    stripped_filters_invoke needs (absent fs) e = stripped_filters_invoke needs fs e
-    stripped_filters_invoke needs (present f fs) e = (stripped_invokes needs f e.0, stripped_filters_invoke needs fs e.1)
+    pub resolved_filters_invoke : (valid : Bool) (ps : List ℕ) (fs : Filters) → EachInvokes P fs → EachInvokes P (resolved_filters valid ps fs)
+    resolved_filters_invoke valid ps no_more e = tt
+    resolved_filters_invoke valid ps (absent fs) e = resolved_filters_invoke valid ps fs e
+    resolved_filters_invoke valid ps (present f fs) e = (resolved_invokes valid ps f e.0, resolved_filters_invoke valid ps fs e.1)
 
   branch_invokes : (o : Option Bool) (c x y : Tree) → EachInvoke P c → EachInvoke P x → EachInvoke P y → EachInvoke P (branch o c x y)
   branch_invokes (Some true) c x y hc hx hy = hx
@@ -48,17 +49,17 @@ module _ (P : ℕ → Signature → Type 0) where
 
   pub specialised_invokes : (needs : List ℕ) (kinds : List Kind) (key : Value) (t : Tree) → EachInvoke P t → EachInvoke P (specialised needs kinds key t)
   specialised_invokes needs kinds key (guard c x y) e =
-      branch_invokes (decided key (key_in kinds c)) (stripped needs c) _ _ (stripped_invokes needs c e.0) (specialised_invokes needs kinds key x e.1) (specialised_invokes needs kinds key y e.2)
-  specialised_invokes needs kinds key (point p x y) e = point_invokes (is_needed needs p) p _ _ (specialised_invokes needs kinds key x e.0) (specialised_invokes needs kinds key y e.1)
-  specialised_invokes needs kinds key (constant x) e = stripped_invokes needs (constant x) e
-  specialised_invokes needs kinds key (identity k) e = stripped_invokes needs (identity k) e
-  specialised_invokes needs kinds key (operation o) e = stripped_invokes needs (operation o) e
-  specialised_invokes needs kinds key (insert t p xs) e = stripped_invokes needs (insert t p xs) e
-  specialised_invokes needs kinds key (discard t p ks) e = stripped_invokes needs (discard t p ks) e
-  specialised_invokes needs kinds key (permute t n r) e = stripped_invokes needs (permute t n r) e
-  specialised_invokes needs kinds key (filter t p fs) e = stripped_invokes needs (filter t p fs) e
-  specialised_invokes needs kinds key (filter_return t f) e = stripped_invokes needs (filter_return t f) e
-  specialised_invokes needs kinds key (fold t c) e = stripped_invokes needs (fold t c) e
+      branch_invokes (decided key (key_in kinds c)) (stripped needs c) _ _ (resolved_invokes true needs c e.0) (specialised_invokes needs kinds key x e.1) (specialised_invokes needs kinds key y e.2)
+  specialised_invokes needs kinds key (point p x y) e = point_invokes (is_among needs p) true p _ _ (specialised_invokes needs kinds key x e.0) (specialised_invokes needs kinds key y e.1)
+  specialised_invokes needs kinds key (constant x) e = resolved_invokes true needs (constant x) e
+  specialised_invokes needs kinds key (identity k) e = resolved_invokes true needs (identity k) e
+  specialised_invokes needs kinds key (operation o) e = resolved_invokes true needs (operation o) e
+  specialised_invokes needs kinds key (insert t p xs) e = resolved_invokes true needs (insert t p xs) e
+  specialised_invokes needs kinds key (discard t p ks) e = resolved_invokes true needs (discard t p ks) e
+  specialised_invokes needs kinds key (permute t n r) e = resolved_invokes true needs (permute t n r) e
+  specialised_invokes needs kinds key (filter t p fs) e = resolved_invokes true needs (filter t p fs) e
+  specialised_invokes needs kinds key (filter_return t f) e = resolved_invokes true needs (filter_return t f) e
+  specialised_invokes needs kinds key (fold t c) e = resolved_invokes true needs (fold t c) e
   specialised_invokes needs kinds key (invoke s n) e = e
 
   test_invokes : (kinds : List Kind) (key : Value) → EachInvoke P (key_test kinds key)

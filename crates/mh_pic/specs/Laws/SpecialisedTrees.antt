@@ -12,9 +12,9 @@ use Rattle.mh_tree.specs.Meaning.{◌>>=◌, mean, steps, argument, choose, choo
 use Rattle.mh_tree.specs.Tree.{Tree, constant, identity, operation, insert, discard, permute, filter, filter_return, fold, guard, point, invoke}
 use Rattle.mh_type.specs.Values.{same_value}
 use Rattle.mh_pic.specs.Keys.{key_test, key_in, decided}
-use Rattle.mh_pic.specs.Specialised.{AreValid, is_needed, stripped, branch, specialised}
+use Rattle.mh_pic.specs.Specialised.{AreValid, is_among, stripped, branch, specialised}
 use Rattle.mh_pic.specs.Laws.KeyTests.{key_test_mean, key_found}
-use Rattle.mh_pic.specs.Laws.StrippedTrees.{stripped_arity, stripped_mean, stripped_steps, mean_point, steps_point, after_less, choose_less}
+use Rattle.mh_pic.specs.Laws.ResolvedTrees.{stripped_arity, stripped_mean, stripped_steps, mean_point, steps_point, after_less, choose_less}
 use Rattle.mh_tree.specs.Environment.{Environment}
 
 -- a known answer is what the test answers
@@ -62,7 +62,7 @@ module _ (needs : List ℕ) (kinds : List Kind) (key : Value) (v : Environment) 
   specialised_mean (guard c x y) =
       mean_branch v (decided key (key_in kinds c)) c x y (stripped needs c) _ _ a (known_answer v kinds key a inside is_key c)
       (stripped_arity needs c) (stripped_mean needs v valid c (take (arity c) a)) (specialised_mean x) (specialised_mean y)
-  specialised_mean (point p x y) = mean_point v (is_needed needs p) p x y _ _ a (valid p) (specialised_mean x) (specialised_mean y)
+  specialised_mean (point p x y) = mean_point v v (is_among needs p) true p x y _ _ a (valid p) (λ e. refl) (specialised_mean x) (specialised_mean y)
   specialised_mean (constant x) = stripped_mean needs v valid (constant x) a
   specialised_mean (identity k) = stripped_mean needs v valid (identity k) a
   specialised_mean (operation o) = stripped_mean needs v valid (operation o) a
@@ -78,7 +78,7 @@ module _ (needs : List ℕ) (kinds : List Kind) (key : Value) (v : Environment) 
   specialised_steps (guard c x y) =
       steps_branch v (decided key (key_in kinds c)) c x y (stripped needs c) _ _ a (known_answer v kinds key a inside is_key c)
       (stripped_arity needs c) (stripped_mean needs v valid c (take (arity c) a)) (stripped_steps needs v valid c (take (arity c) a)) (specialised_steps x) (specialised_steps y)
-  specialised_steps (point p x y) = steps_point v (is_needed needs p) p x y _ _ a (valid p) (specialised_steps x) (specialised_steps y)
+  specialised_steps (point p x y) = steps_point v v (is_among needs p) true p x y _ _ a (valid p) (λ e. refl) (specialised_steps x) (specialised_steps y)
   specialised_steps (constant x) = stripped_steps needs v valid (constant x) a
   specialised_steps (identity k) = stripped_steps needs v valid (identity k) a
   specialised_steps (operation o) = stripped_steps needs v valid (operation o) a

@@ -2,7 +2,7 @@ use Rattle.std.proofs.Common.{◌∙◌}
 use Rattle.mh_tree.specs.Laws.{tree_of_filter}
 use Rattle.mh_tree.specs.Tree.{filter, filters_of}
 use Rattle.mh_tree.specs.TreeOf.{filter_trees}
-use Rattle.mh_pic.proofs.StrippedFilters.{if_ok}
+use Rattle.mh_pic.proofs.ResolvedFilters.{if_ok}
 use Rattle.mh_pic.proofs.rebuilding.filter.Goals as goal
 
 pub returns-clause-value : goal.returns-clause-value
