@@ -1,3 +1,4 @@
 mod Held
 mod Lessened
+mod Resumed
 mod Taken

@@ -3,4 +3,5 @@ pub mod Laws
 pub mod Ledgers
 pub mod Limits
 pub mod Renewals
+pub mod Resumptions
 pub mod TotalsViews

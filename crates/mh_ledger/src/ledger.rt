@@ -1,9 +1,11 @@
 //! Ledgers: what each worker counts alone.
 
 ghost use Rattle.std.specs.Prelude.{◌≡◌, ◌+◌, ◌<◌, ◌≤◌, ◌^◌, ◌↔◌, ℕ, List, length, replicate, slice_set, IfOk, OnOk, OnErr, IsTrue};
+ghost use Rattle.std.specs.List.{All};
 ghost use Rattle.mh_ledger.specs.Ledgers.{at, made, with_hit, settled, opened_ledger, AreHeld, Holds, IsLedger, LedgerState, TotalsState};
 ghost use Rattle.mh_ledger.specs.Limits.{greatest_limit};
 ghost use Rattle.mh_ledger.specs.Renewals.{renewed_ledger};
+ghost use Rattle.mh_ledger.specs.Resumptions.{resumed_ledger, share_of_worker};
 
 use crate::old_hits::{OldHits, lessen};
 use crate::sums::{add, clear};
@@ -72,6 +74,26 @@ impl Ledger {
             limit,
             unflushed: zeros(alloc, links)?,
             flushed: zeros(alloc, links)?,
+        })
+    }
+
+    // The ledger of a worker where these hits of each link were counted and flushed earlier, all by
+    // the first worker.
+    pub(crate) fn resume(
+        alloc: Global,
+        worker: usize,
+        hits: &[u64],
+        limit: u64,
+    ) -> Result<Ledger, NoMemory>
+        requires limit { limit ≤ greatest_limit }
+        requires hits { All (λ n. n ≤ greatest_limit) hits.now }
+        ensures value { IfOk result (λ l. l ≡ resumed_ledger hits.now limit worker) }
+    {
+        Ok(Ledger {
+            worker,
+            limit,
+            unflushed: zeros(alloc, hits.len())?,
+            flushed: resumed_share(alloc, worker, hits)?,
         })
     }
 
@@ -183,4 +205,19 @@ pub(crate) fn zeros(alloc: Global, count: usize) -> Result<Vec<u64>, NoMemory>
     ensures value { IfOk result (λ v. v.items ≡ replicate count 0) }
 {
     Ok(vec![in alloc; 0; count]?)
+}
+
+// What a worker has flushed where these hits were flushed earlier, all by the first worker.
+pub(crate) fn resumed_share(
+    alloc: Global,
+    worker: usize,
+    hits: &[u64],
+) -> Result<Vec<u64>, NoMemory>
+    ensures value { IfOk result (λ v. v.items ≡ share_of_worker hits.now worker) }
+{
+    if worker == 0 {
+        Ok(Vec::from_slice(alloc, hits)?)
+    } else {
+        zeros(alloc, hits.len())
+    }
 }

@@ -1,12 +1,13 @@
 //! Totals: what all workers have flushed.
 
 ghost use Rattle.std.specs.Prelude.{◌≡◌, ◌≢◌, ◌+◌, ◌<◌, ◌≤◌, ◌^◌, ◌↔◌, ℕ, List, length, map, replicate, slice_set, IfOk, OnOk, OnErr, IsTrue};
-ghost use Rattle.std.specs.List.{range_with_len, sum_by};
+ghost use Rattle.std.specs.List.{All, range_with_len, sum_by};
 ghost use Rattle.mh_ledger.specs.Ledgers.{at, ledger_at, made, opened_ledger, opened_totals, settled, flushed_into, share_of, AreHeld, HasRoom, Holds, IsLedger, IsTotals, LedgerState};
 ghost use Rattle.mh_ledger.specs.Limits.{greatest_limit};
 ghost use Rattle.mh_ledger.specs.Renewals.{left_of, renewed_ledger, renewed_totals};
+ghost use Rattle.mh_ledger.specs.Resumptions.{resumed_ledger, resumed_totals, share_of_worker};
 
-use crate::ledger::{Ledger, zeros};
+use crate::ledger::{Ledger, resumed_share, zeros};
 use crate::old_hits::{OldHits, lessen};
 use crate::sums::{add, all_fit, subtract};
 use mh_base::NoMemory;
@@ -79,6 +80,45 @@ impl Totals {
             limit,
             totals: zeros(alloc, links)?,
             shares: open_shares(alloc, links, workers)?,
+        })
+    }
+
+    /// Totals that were counted earlier, and a ledger for each worker, in order, all held. The first
+    /// worker counts as the one that flushed all of these hits, and none is unflushed. Neither limit
+    /// is above `LARGEST_LIMIT`. O(links * workers), and nothing after it takes memory.
+    pub fn resume(
+        alloc: Global,
+        hits: &[u64],
+        workers: usize,
+        ledger_limit: u64,
+        total_limit: u64,
+    ) -> Result<(Totals, Vec<Ledger>), NoMemory>
+        requires worker { 0 < workers }
+        requires ledger { ledger_limit ≤ greatest_limit }
+        requires total { total_limit ≤ greatest_limit }
+        requires within { All (λ n. n ≤ total_limit) hits.now }
+        ensures totals { IfOk result (λ opened. opened.0
+            ≡ resumed_totals hits.now workers total_limit) }
+        ensures ledgers { IfOk result (λ opened. opened.1.items ≡ map
+            (resumed_ledger hits.now ledger_limit) (range_with_len 0 workers)) }
+        ensures held { IfOk result (λ opened. AreHeld opened.0 opened.1.items) }
+    {
+        let totals = Totals::counted(alloc, hits, workers, total_limit)?;
+        let ledgers = resume_ledgers(alloc, hits, workers, ledger_limit)?;
+        Ok((totals, ledgers))
+    }
+
+    // Totals that the first worker has flushed.
+    fn counted(alloc: Global, hits: &[u64], workers: usize, limit: u64) -> Result<Totals, NoMemory>
+        requires worker { 0 < workers }
+        requires limit { limit ≤ greatest_limit }
+        requires within { All (λ n. n ≤ limit) hits.now }
+        ensures value { IfOk result (λ t. t ≡ resumed_totals hits.now workers limit) }
+    {
+        Ok(Totals {
+            limit,
+            totals: Vec::from_slice(alloc, hits)?,
+            shares: resume_shares(alloc, hits, workers)?,
         })
     }
 
@@ -267,6 +307,37 @@ fn open_ledgers(
     let mut ledgers = Vec::new(alloc);
     for worker in 0..workers {
         ledgers.push(Ledger::open(alloc, worker, links, limit)?)?;
+    }
+    Ok(ledgers)
+}
+
+// What each worker has flushed where these hits were flushed earlier, all by the first.
+fn resume_shares(alloc: Global, hits: &[u64], workers: usize) -> Result<Vec<Vec<u64>>, NoMemory>
+    ensures value { IfOk result (λ v. map (λ share. share.items) v.items ≡ map
+        (share_of_worker hits.now) (range_with_len 0 workers)) }
+{
+    let mut shares = Vec::new(alloc);
+    for worker in 0..workers {
+        shares.push(resumed_share(alloc, worker, hits)?)?;
+    }
+    Ok(shares)
+}
+
+// A ledger for each worker where these hits were flushed earlier, all by the first.
+fn resume_ledgers(
+    alloc: Global,
+    hits: &[u64],
+    workers: usize,
+    limit: u64,
+) -> Result<Vec<Ledger>, NoMemory>
+    requires limit { limit ≤ greatest_limit }
+    requires hits { All (λ n. n ≤ greatest_limit) hits.now }
+    ensures value { IfOk result (λ v. v.items ≡ map (resumed_ledger hits.now limit)
+        (range_with_len 0 workers)) }
+{
+    let mut ledgers = Vec::new(alloc);
+    for worker in 0..workers {
+        ledgers.push(Ledger::resume(alloc, worker, hits, limit)?)?;
     }
     Ok(ledgers)
 }
