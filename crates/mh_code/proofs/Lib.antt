@@ -1,3 +1,5 @@
+mod Chains
+mod Entries
 mod LeadingOperands
 mod NegatedLocals
 mod PlacesBehind

@@ -5,4 +5,5 @@ pub mod Crossing
 pub mod Means
 pub mod Scoped
 pub mod Shifts
+pub mod Switches
 pub mod Truths

@@ -1,3 +1,4 @@
+pub mod Entries
 pub mod Height
 pub mod KeptCode
 pub mod Laws
@@ -6,5 +7,6 @@ pub mod PieceOf
 pub mod PurposeOf
 pub mod Routine
 pub mod RoutineOf
+pub mod Rows
 pub mod Runs
 pub mod Scope

@@ -6,6 +6,7 @@ ghost use Rattle.mh_code.specs.Height.{code_height, height};
 ghost use Rattle.mh_code.specs.PieceOf.{key_source, routine_of, routine_of_code};
 ghost use Rattle.mh_code.specs.Routine.{operation};
 
+use crate::index::Index;
 use mh_base::NoMemory;
 use mh_tree::Operand;
 use mh_type::{Op, Value};
@@ -89,6 +90,15 @@ pub enum Piece {
         target: Arc<Piece>,
         fallback: Arc<Piece>,
         steps: u32,
+    },
+    /// One of several pieces, by the first test of an index that holds of an int argument: the chain
+    /// of those tests, each the operation `ieq`, and of their targets, with the steps of each test.
+    /// Where no test holds, the piece behind them is `otherwise`.
+    Switch {
+        place: u32,
+        index: Arc<Index>,
+        targets: Vec<Arc<Piece>>,
+        otherwise: Arc<Piece>,
     },
     /// The target while the point is valid, and else the fallback.
     Point {

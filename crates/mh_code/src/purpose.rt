@@ -12,6 +12,7 @@ ghost use Rattle.mh_tree.specs.Limits.{most_nodes};
 use crate::code::{Code, KeyTest, Piece};
 use crate::made::{Made, own};
 use crate::operands::{copied, leading};
+use crate::switching::key_test;
 use mh_base::NoMemory;
 use mh_tree::Operand;
 use mh_type::{Kind, Op};
@@ -38,7 +39,7 @@ pub(crate) enum Purpose<'a> {
 }
 
 // Another owner of a piece.
-fn owner(piece: &Arc<Piece>) -> Result<Arc<Piece>, NoMemory>
+pub(crate) fn owner(piece: &Arc<Piece>) -> Result<Arc<Piece>, NoMemory>
     ensures value { IfOk result (λ a. arc_value a ≡ arc_value piece.now) }
 {
     Arc::try_clone(piece).map_err(|_| NoMemory)
@@ -137,17 +138,28 @@ pub(crate) fn use_operation(
             steps,
         },
         Purpose::Truth { target, fallback } => {
-            test(op, first, second, owner(target)?, owner(fallback)?, steps)
+            let alloc = made.alloc();
+            test(
+                alloc,
+                op,
+                first,
+                second,
+                owner(target)?,
+                owner(fallback)?,
+                steps,
+            )?
         }
         Purpose::Untruth { target, fallback } if gives_truth(op) => {
+            let alloc = made.alloc();
             test(
+                alloc,
                 op,
                 first,
                 second,
                 owner(fallback)?,
                 owner(target)?,
                 steps + 1,
-            )
+            )?
         }
         Purpose::Untruth { target, fallback } => Piece::Let {
             op,
@@ -163,31 +175,27 @@ pub(crate) fn use_operation(
 
 // One of two pieces, by the truth that an operation gives.
 fn test(
+    alloc: Global,
     op: Op,
     first: Operand,
     second: Operand,
     target: Arc<Piece>,
     fallback: Arc<Piece>,
     steps: u32,
-) -> Piece
-    ensures value { routine_of result ≡ pick steps (operation op first second)
-        (routine_of (arc_value target)) (routine_of (arc_value fallback)) }
+) -> Result<Piece, NoMemory>
+    ensures value { IfOk result (λ p. routine_of p ≡ pick steps (operation op first second)
+        (routine_of (arc_value target)) (routine_of (arc_value fallback))) }
 {
     match KeyTest::of(op, &first, &second) {
-        Some(test) => Piece::Case {
-            test,
-            target,
-            fallback,
-            steps,
-        },
-        None => Piece::Test {
+        Some(test) => key_test(alloc, test, steps, target, fallback),
+        None => Ok(Piece::Test {
             op,
             first,
             second,
             target,
             fallback,
             steps,
-        },
+        }),
     }
 }
 

@@ -3,3 +3,4 @@ mod Pieces
 mod Reaching
 mod Sites
 mod Sources
+mod Switches

@@ -1,8 +1,10 @@
 //! Pieces that take no memory, one after another.
 
-ghost use Rattle.std.specs.Prelude.{◌≡◌, ◌-◌, ◌<◌, ◌≤◌, ◌∷◌, ℕ, [], length, vec_capacity, IfSome, IfNone};
-ghost use Rattle.mh_code.specs.Height.{height};
-ghost use Rattle.mh_code.specs.PieceOf.{routine_of};
+ghost use Rattle.std.specs.Prelude.{◌≡◌, ◌-◌, ◌<◌, ◌≤◌, ◌∷◌, ℕ, ℤ, false, [], length, get_or, map, max, vec_capacity, IfSome, IfNone};
+ghost use Rattle.std.specs.Arc.{arc_value};
+ghost use Rattle.mh_code.specs.Height.{height, highest};
+ghost use Rattle.mh_code.specs.PieceOf.{routine_of, routines};
+ghost use Rattle.mh_code.specs.Rows.{is_key as tests_key, row_of, steps_to};
 ghost use Rattle.mh_eval.specs.Limits.{lower_room};
 ghost use Rattle.mh_run.specs.Picks.{is_truth};
 ghost use Rattle.mh_run.specs.Runs.{Goes, MayGo};
@@ -16,8 +18,9 @@ use crate::forwarding::Reached;
 use crate::here::Here;
 use crate::locals::read;
 use crate::numbers::{calculate, copy, truth};
-use mh_code::{KeyTest, Piece};
+use mh_code::{Index, KeyTest, Piece};
 use mh_type::{Op, Value};
+use std::sync::Arc;
 
 // The piece that follows one, and the steps: of choices, and of the further arms that are given.
 macro_rules! following {
@@ -69,6 +72,15 @@ macro_rules! following {
                 let holds = truth(*op, first, second)?;
                 let next: &Piece = if holds { target } else { fallback };
                 Some((next, $before + u64::from(*steps)))
+            }
+            Piece::Switch {
+                place,
+                index,
+                targets,
+                otherwise,
+            } => {
+                let (next, steps) = switched($arguments, *place, index, targets, otherwise);
+                Some((next, $before + steps))
             }
             Piece::Go { code, steps } => Some((code.entry(), $before + u64::from(*steps))),
             $($others)*
@@ -160,5 +172,52 @@ pub(crate) fn is_key(arguments: &[Value], test: &KeyTest) -> bool
     match &arguments[test.place as usize] {
         Value::Int(number) => *number == test.key,
         _ => false,
+    }
+}
+
+// The piece that a switch leads to, and the steps of its tests.
+#[inline(always)]
+pub(crate) fn switched<'a>(
+    arguments: &[Value],
+    place: u32,
+    index: &Index,
+    targets: &'a [Arc<Piece>],
+    otherwise: &'a Piece,
+) -> (&'a Piece, u64)
+    ensures piece { routine_of result.0.now ≡ get_or (routines targets.now)
+        (row_of (argument arguments.now place) index.now) (routine_of otherwise.now) }
+    ensures steps { result.1 ≡ steps_to (argument arguments.now place) index.now }
+    ensures lower { height result.0.now ≤ max (highest (map (λ t. height (arc_value t))
+        targets.now)) (height otherwise.now) }
+{
+    let (row, steps) = found(arguments, place, index);
+    match targets.get(row) {
+        Some(target) => (target, steps),
+        None => (otherwise, steps),
+    }
+}
+
+// The row of an index that holds of an argument, and the steps down to it.
+#[inline(always)]
+#[tactic(auto, using(crate::proofs::Switches::no_row, crate::proofs::Switches::no_steps))]
+fn found(arguments: &[Value], place: u32, index: &Index) -> (usize, u64)
+    ensures row { result.0 ≡ row_of (argument arguments.now place) index.now }
+    ensures steps { result.1 ≡ steps_to (argument arguments.now place) index.now }
+{
+    match int_at(arguments, place) {
+        Some(number) => index.find(number),
+        None => (index.rows().len(), index.steps()),
+    }
+}
+
+// The int at a place of the arguments, where there is one.
+#[inline(always)]
+fn int_at(arguments: &[Value], place: u32) -> Option<i32>
+    ensures int { IfSome result (λ n. argument arguments.now place ≡ ValueData.Int n) }
+    ensures other { IfNone result ((k : ℤ) → tests_key (argument arguments.now place) k ≡ false) }
+{
+    match arguments.get(place as usize)? {
+        Value::Int(number) => Some(*number),
+        _ => None,
     }
 }

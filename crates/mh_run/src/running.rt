@@ -18,7 +18,7 @@ ghost use Rattle.mh_type.specs.Operations.{operate as operated};
 ghost use Rattle.mh_type.specs.declared.outcome.Outcome.{Outcome as OutcomeData};
 ghost use Rattle.mh_type.specs.declared.value.Value.{Value as ValueData};
 
-use crate::advancing::{advance, is_key, is_true};
+use crate::advancing::{advance, is_key, is_true, switched};
 use crate::here::Here;
 use crate::levels::{Level, Lower};
 use crate::locals::{clear, keep, pass, read};
@@ -253,6 +253,15 @@ fn enter<'a, L: Lower>(
             let is_key = is_key(arguments, test);
             let next = if is_key { target } else { fallback };
             (Ok(next), before + u128::from(*steps))
+        }
+        Piece::Switch {
+            place,
+            index,
+            targets,
+            otherwise,
+        } => {
+            let (next, steps) = switched(arguments, *place, index, targets, otherwise);
+            (Ok(next), before + u128::from(steps))
         }
         Piece::Point {
             point,

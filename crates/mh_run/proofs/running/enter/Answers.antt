@@ -1,12 +1,19 @@
 use Rattle.std.proofs.Common.{◌≡◌, ◌∙◌, ◌+◌, ap, sym, subst, refl, arith, length, [], ◌∷◌}
-use Rattle.mh_code.specs.PieceOf.{routine_of}
+use Rattle.mh_code.specs.PieceOf.{routine_of, routines}
+use Rattle.mh_code.specs.Rows.{row_of, steps_to}
+use Rattle.mh_tree.specs.Meaning.{argument}
+use Rattle.std.specs.Arc.{arc_value}
+use Rattle.std.specs.Prelude.{get_or, map, max, ◌≤◌}
 use Rattle.mh_code.specs.Routine.{give, keep, operand, operation, invocation}
-use Rattle.mh_code.specs.Height.{code_height, height}
+use Rattle.mh_code.specs.Height.{code_height, height, highest}
+use Rattle.mh_code.specs.declared.code.Piece.{Piece}
+use Rattle.std.specs.declared.sync.Arc.{Arc}
 use Rattle.mh_eval.specs.Quiet.{IsAnswered}
 use Rattle.mh_run.specs.Runs.{Answers, Ends, Leaves, MayRun}
 use Rattle.mh_run.proofs.Pieces.{err_given, if_err, if_ok, lower_go, routine_of_call, routine_of_forward, routine_of_let, routine_of_put}
 use Rattle.mh_run.proofs.Sites.{leading_many}
 use Rattle.mh_run.proofs.Sources.{gives, keep_ends, keeps, plain_answers}
+use Rattle.mh_run.proofs.Switches.{leaves_switch, lower_switch}
 use Rattle.mh_run.proofs.running.enter.Goals as goal
 use Rattle.mh_tree.specs.Laws.Scope.{in_arguments}
 use Rattle.mh_tree.specs.Prepared.{leading_arguments}
@@ -116,3 +123,24 @@ returns-in-Call-clause-ends g c =
 pub returns-in-Go-clause-lower : goal.returns-in-Go-clause-lower
 returns-in-Go-clause-lower g c =
     omega (arith, ap height c.in-Go.is ∙ lower_go c.in-Go.code c.in-Go.steps, c.entry.ensures.height ∙ ap code_height c.deref-in-Go.ensures)
+
+pub returns-in-Switch-clause-left : goal.returns-in-Switch-clause-left
+returns-in-Switch-clause-left g c =
+    let v = setting g.L.Lower.deep c.args.here.now.valid.now c.args.here.now.targets.now in
+    let w = c.in-Switch in
+    let ts = routines w.targets.items in
+    let o = routine_of (arc_value w.otherwise) in
+    let q = routine_of c.switched-steps.result.0.now in
+    let n = c.args.before + c.from-in-Switch.result in
+    let x = argument c.args.arguments.now w.place in
+    let target : q ≡ get_or ts (row_of x (arc_value w.index)) o =
+    c.switched-steps.ensures.piece ∙ (λ j. get_or (routines (c.deref-in-Switch-2.ensures.value j)) (row_of x (c.deref-in-Switch.ensures j)) (routine_of (c.deref-in-Switch-3.ensures j))) in
+    let steps : c.switched-steps.result.1 ≡ steps_to x (arc_value w.index) = c.switched-steps.ensures.steps ∙ ap (steps_to x) c.deref-in-Switch.ensures in
+    leaves_switch c.args.piece.now w.place w.index w.targets w.otherwise w.is v c.args.arguments.now c.args.level.now.locals.items c.args.before c.requires.may q n target (omega (arith, steps, c.from-in-Switch.ensures))
+
+pub returns-in-Switch-clause-lower : goal.returns-in-Switch-clause-lower
+returns-in-Switch-clause-lower g c =
+    let w = c.in-Switch in
+    let h = height c.switched-steps.result.0.now in
+    lower_switch c.args.piece.now w.place w.index w.targets w.otherwise w.is h
+    (subst (λ n. h ≤ n) (λ j. max (highest (map (λ (t : Arc Piece Global). height (arc_value t)) (c.deref-in-Switch-2.ensures.value j))) (height (c.deref-in-Switch-3.ensures j))) c.switched-steps.ensures.lower)

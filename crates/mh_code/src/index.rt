@@ -1,0 +1,176 @@
+//! Finding the test of a chain that holds, by halving.
+
+ghost use Rattle.std.specs.Prelude.{◌≡◌, ◌+◌, ◌<◌, ◌≤◌, ◌++◌, ◌∷◌, [], length, IfOk};
+ghost use Rattle.mh_code.specs.Entries.{AreEntries, AreRising, IsFound};
+ghost use Rattle.mh_code.specs.Rows.{row_of, steps_to, all_steps, most_rows};
+ghost use Rattle.mh_type.specs.declared.value.Value.TheVariants.{Int};
+
+use mh_base::NoMemory;
+use std::alloc::Global;
+use std::marker::Model;
+
+/// A test of a chain.
+#[derive(Clone, Copy, Debug)]
+pub struct Row {
+    /// The number that an int is compared with.
+    pub key: i32,
+    /// The steps that the test takes.
+    pub steps: u32,
+}
+
+// A number, the first row that has it, and the steps of the rows up to that one.
+#[derive(Clone, Copy)]
+struct Entry {
+    key: i32,
+    row: usize,
+    steps: u64,
+}
+
+/// The tests of a chain, at most 64 of them in its order, and where to find the first that holds of
+/// an int: in as many comparisons as the number of tests has binary digits.
+#[derive(Drop)]
+pub struct Index {
+    rows: Vec<Row>,
+    entries: Vec<Entry>,
+    total: u64,
+}
+
+impl Model for Index {
+    ghost use Rattle.std.specs.Prelude.{◌≡◌, ◌≤◌, ◌*◌, List, length};
+    ghost use Rattle.mh_code.specs.declared.index.Row.{Row as Kept};
+    ghost use Rattle.mh_code.specs.Entries.{AreEntries};
+    ghost use Rattle.mh_code.specs.Rows.{all_steps};
+
+    ghost Value = { List Kept };
+
+    ghost view = { λ i. i.rows.items };
+
+    ghost invariant = { λ i. AreEntries i.rows.items i.entries.items
+        × (i.total ≡ all_steps i.rows.items)
+        × (i.total ≤ length i.rows.items * 4294967295) };
+}
+
+impl Index {
+    // No tests yet.
+    #[tactic(auto, using(crate::proofs::Entries::entries_empty))]
+    pub(crate) fn new(alloc: Global) -> Index
+        ensures value { result ≡ [] }
+    {
+        Index {
+            rows: Vec::new(alloc),
+            entries: Vec::new(alloc),
+            total: 0,
+        }
+    }
+
+    // With one more test at the end.
+    pub(crate) fn with(self, row: Row) -> Result<Index, NoMemory>
+        requires few { length self < most_rows }
+        ensures value { IfOk result (λ i. i ≡ self ++ row ∷ []) }
+    {
+        let Index {
+            mut rows,
+            entries,
+            total,
+        } = self;
+        let total = total + u64::from(row.steps);
+        let entries = with_entry(entries, &rows, row, total)?;
+        rows.push(row).map_err(|_| NoMemory)?;
+        Ok(Index {
+            rows,
+            entries,
+            total,
+        })
+    }
+
+    // With more tests at the end.
+    pub(crate) fn with_all(self, rows: &[Row]) -> Result<Index, NoMemory>
+        requires few { length self + length rows.now ≤ most_rows }
+        ensures value { IfOk result (λ i. i ≡ self ++ rows.now) }
+    {
+        let mut index = self;
+        for row in rows {
+            index = index.with(*row)?;
+        }
+        Ok(index)
+    }
+
+    /// The tests, in the order of the chain.
+    #[inline(always)]
+    pub fn rows(&self) -> &[Row]
+        ensures value { result.now ≡ self.now }
+    {
+        &self.rows
+    }
+
+    /// The steps of all tests.
+    #[inline(always)]
+    pub fn steps(&self) -> u64
+        ensures value { result ≡ all_steps self.now }
+    {
+        self.total
+    }
+
+    /// The place of the first test that holds of an int, and the steps of the tests down to it, with
+    /// its own. Where none holds, the number of tests, and the steps of all.
+    pub fn find(&self, number: i32) -> (usize, u64)
+        ensures row { result.0 ≡ row_of (Int number) self.now }
+        ensures steps { result.1 ≡ steps_to (Int number) self.now }
+    {
+        match search(&self.entries, number) {
+            Ok(at) => {
+                let entry = self.entries[at];
+                (entry.row, entry.steps)
+            }
+            Err(_) => (self.rows.len(), self.total),
+        }
+    }
+}
+
+// The entries of rows and of one more behind them, where all take so many steps.
+fn with_entry(
+    entries: Vec<Entry>,
+    rows: &[Row],
+    row: Row,
+    steps: u64,
+) -> Result<Vec<Entry>, NoMemory>
+    requires entries { AreEntries rows.now entries.items }
+    requires steps { steps ≡ all_steps rows.now + row.steps }
+    ensures entries { IfOk result (λ v. AreEntries (rows.now ++ row ∷ []) v.items) }
+{
+    match search(&entries, row.key) {
+        Ok(_) => Ok(entries),
+        Err(at) => {
+            let entry = Entry {
+                key: row.key,
+                row: rows.len(),
+                steps,
+            };
+            let mut entries = entries;
+            entries.insert(at, entry).map_err(|_| NoMemory)?;
+            Ok(entries)
+        }
+    }
+}
+
+// Where a number stands among rising ones, and else between which two.
+fn search(entries: &[Entry], key: i32) -> Result<usize, usize>
+    requires rising { AreRising entries.now }
+    ensures found { IsFound entries.now key result }
+{
+    let mut low = 0;
+    let mut high = entries.len();
+    while low < high {
+        let middle = low + (high - low) / 2;
+        let found = entries[middle].key;
+        if found == key {
+            return Ok(middle);
+        }
+        if found < key {
+            low = middle + 1;
+        } else {
+            high = middle;
+        }
+    }
+    Err(low)
+}
