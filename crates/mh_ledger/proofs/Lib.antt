@@ -1,3 +1,4 @@
+mod Extended
 mod Held
 mod Lessened
 mod Resumed

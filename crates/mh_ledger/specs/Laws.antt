@@ -1,7 +1,9 @@
 -- Laws of the definitions, for the proofs of crates above. Each is proved: nothing here is to be believed.
 pub mod Added
+pub mod Extensions
 pub mod Flushes
 pub mod Renewing
 pub use Rattle.mh_ledger.specs.Laws.Added.{length-added}
+pub use Rattle.mh_ledger.specs.Laws.Extensions.{at-longer, length-longer}
 pub use Rattle.mh_ledger.specs.Laws.Flushes.{held_links}
-pub use Rattle.mh_ledger.specs.Laws.Renewing.{at-left, left_most, left_total, renewed_held}
+pub use Rattle.mh_ledger.specs.Laws.Renewing.{at-left, kept_totals, left_most, left_total, renewed_held}

@@ -1,4 +1,5 @@
 pub mod Codes
+pub mod Extensions
 pub mod Laws
 pub mod Ledgers
 pub mod Limits

@@ -3,6 +3,7 @@
 ghost use Rattle.std.specs.Prelude.{◌≡◌, ◌+◌, ◌<◌, ◌≤◌, ◌^◌, ◌↔◌, ℕ, List, length, replicate, slice_set, IfOk, OnOk, OnErr, IsTrue};
 ghost use Rattle.std.specs.List.{All};
 ghost use Rattle.mh_ledger.specs.Ledgers.{at, made, with_hit, settled, opened_ledger, AreHeld, Holds, IsLedger, LedgerState, TotalsState};
+ghost use Rattle.mh_ledger.specs.Extensions.{extended_ledger, longer as with_zeros};
 ghost use Rattle.mh_ledger.specs.Limits.{greatest_limit};
 ghost use Rattle.mh_ledger.specs.Renewals.{renewed_ledger};
 ghost use Rattle.mh_ledger.specs.Resumptions.{resumed_ledger, share_of_worker};
@@ -192,6 +193,18 @@ impl Ledger {
         clear(&mut self.unflushed);
     }
 
+    // The same ledger where there are so many links more.
+    pub(crate) fn extended(&self, alloc: Global, more: usize) -> Result<Ledger, NoMemory>
+        ensures value { IfOk result (λ l. l ≡ extended_ledger more self.now) }
+    {
+        Ok(Ledger {
+            worker: self.worker,
+            limit: self.limit,
+            unflushed: longer(alloc, &self.unflushed, more)?,
+            flushed: longer(alloc, &self.flushed, more)?,
+        })
+    }
+
     // Goes over into a new history, with what goes on counting of the flushed hits.
     pub(crate) fn renew(&mut self, hits: OldHits)
         ensures value { self.new ≡ renewed_ledger hits self.old }
@@ -220,4 +233,15 @@ pub(crate) fn resumed_share(
     } else {
         zeros(alloc, hits.len())
     }
+}
+
+// These numbers, and so many zeros behind them.
+pub(crate) fn longer(alloc: Global, counts: &[u64], more: usize) -> Result<Vec<u64>, NoMemory>
+    ensures value { IfOk result (λ v. v.items ≡ with_zeros more counts.now) }
+{
+    let mut all = Vec::from_slice(alloc, counts)?;
+    for _link in 0..more {
+        all.push(0)?;
+    }
+    Ok(all)
 }

@@ -3,11 +3,12 @@
 ghost use Rattle.std.specs.Prelude.{◌≡◌, ◌≢◌, ◌+◌, ◌<◌, ◌≤◌, ◌^◌, ◌↔◌, ℕ, List, length, map, replicate, slice_set, IfOk, OnOk, OnErr, IsTrue};
 ghost use Rattle.std.specs.List.{All, range_with_len, sum_by};
 ghost use Rattle.mh_ledger.specs.Ledgers.{at, ledger_at, made, opened_ledger, opened_totals, settled, flushed_into, share_of, AreHeld, HasRoom, Holds, IsLedger, IsTotals, LedgerState};
+ghost use Rattle.mh_ledger.specs.Extensions.{extended_ledger, extended_totals, longer as with_zeros};
 ghost use Rattle.mh_ledger.specs.Limits.{greatest_limit};
 ghost use Rattle.mh_ledger.specs.Renewals.{left_of, renewed_ledger, renewed_totals};
 ghost use Rattle.mh_ledger.specs.Resumptions.{resumed_ledger, resumed_totals, share_of_worker};
 
-use crate::ledger::{Ledger, resumed_share, zeros};
+use crate::ledger::{Ledger, longer, resumed_share, zeros};
 use crate::old_hits::{OldHits, lessen};
 use crate::sums::{add, all_fit, subtract};
 use mh_base::NoMemory;
@@ -246,6 +247,36 @@ impl Totals {
         renew_all(ledgers, hits);
     }
 
+    /// The same totals and held ledgers where there are so many links more, which have no hits.
+    /// O(links * workers), and nothing after it takes memory.
+    pub fn extended(
+        &self,
+        alloc: Global,
+        ledgers: &[Ledger],
+        more: usize,
+    ) -> Result<(Totals, Vec<Ledger>), NoMemory>
+        requires held { AreHeld self.now ledgers.now }
+        ensures totals { IfOk result (λ longer. longer.0 ≡ extended_totals more self.now) }
+        ensures ledgers { IfOk result (λ longer. longer.1.items
+            ≡ map (extended_ledger more) ledgers.now) }
+        ensures held { IfOk result (λ longer. AreHeld longer.0 longer.1.items) }
+    {
+        let totals = self.longer(alloc, more)?;
+        let ledgers = extend_ledgers(alloc, ledgers, more)?;
+        Ok((totals, ledgers))
+    }
+
+    // The same totals where there are so many links more.
+    fn longer(&self, alloc: Global, more: usize) -> Result<Totals, NoMemory>
+        ensures value { IfOk result (λ t. t ≡ extended_totals more self.now) }
+    {
+        Ok(Totals {
+            limit: self.limit,
+            totals: longer(alloc, &self.totals, more)?,
+            shares: extend_shares(alloc, &self.shares, more)?,
+        })
+    }
+
     // Leaves of each share what is to go on counting, and makes the totals their sums again.
     fn lessen(&mut self, hits: OldHits)
         ensures value { self.new ≡ renewed_totals hits self.old }
@@ -340,6 +371,29 @@ fn resume_ledgers(
         ledgers.push(Ledger::resume(alloc, worker, hits, limit)?)?;
     }
     Ok(ledgers)
+}
+
+// Each share, and so many zeros behind its numbers.
+fn extend_shares(alloc: Global, shares: &[Vec<u64>], more: usize) -> Result<Vec<Vec<u64>>, NoMemory>
+    ensures value { IfOk result (λ v. map (λ share. share.items) v.items
+        ≡ map (with_zeros more) (map (λ share. share.items) shares.now)) }
+{
+    let mut all = Vec::new(alloc);
+    for share in shares {
+        all.push(longer(alloc, share, more)?)?;
+    }
+    Ok(all)
+}
+
+// Each ledger where there are so many links more.
+fn extend_ledgers(alloc: Global, ledgers: &[Ledger], more: usize) -> Result<Vec<Ledger>, NoMemory>
+    ensures value { IfOk result (λ v. v.items ≡ map (extended_ledger more) ledgers.now) }
+{
+    let mut all = Vec::new(alloc);
+    for ledger in ledgers {
+        all.push(ledger.extended(alloc, more)?)?;
+    }
+    Ok(all)
 }
 
 // Whether two lists are one.
