@@ -14,6 +14,7 @@ mod Machines
 mod PlanLinks
 mod PlanTests
 mod Renewed
+mod Resumed
 mod Runs
 mod Runtimes
 mod Standing

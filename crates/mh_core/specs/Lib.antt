@@ -20,6 +20,7 @@ pub mod Standing
 pub mod State
 pub mod Runtimes
 pub mod Renewals
+pub mod Resumptions
 pub mod Machines
 pub mod ArgumentViews
 pub mod Pasts

@@ -160,7 +160,7 @@ fn share(tree: &Declared) -> Result<Declared, NoMemory>
 }
 
 // The world of a definition in which these points are invalid.
-fn open_without(
+pub(crate) fn open_without(
     alloc: Global,
     definition: &Definition,
     points: Listing<u32>,

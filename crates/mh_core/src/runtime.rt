@@ -43,10 +43,10 @@ use std::marker::Model;
 /// and the ledger of each worker in order.
 #[derive(Drop)]
 pub struct Runtime {
-    book: Book,
-    workers: u32,
-    ledgers: Vec<Ledger>,
-    stack: Stack,
+    pub(crate) book: Book,
+    pub(crate) workers: u32,
+    pub(crate) ledgers: Vec<Ledger>,
+    pub(crate) stack: Stack,
 }
 
 impl Model for Runtime {

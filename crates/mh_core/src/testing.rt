@@ -169,7 +169,7 @@ impl Book {
 }
 
 // Whether each number is below the bound.
-fn all_below(numbers: &[u32], bound: usize) -> bool
+pub(crate) fn all_below(numbers: &[u32], bound: usize) -> bool
     ensures value { IsTrue result ↔ All (λ n. n < bound) numbers.now }
 {
     numbers.iter().all(|number| (*number as usize) < bound)
