@@ -1,3 +1,4 @@
+mod Extended
 mod Lawful
 mod Listed
 mod Mapped

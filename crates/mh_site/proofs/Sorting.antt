@@ -5,6 +5,7 @@ use Rattle.std.specs.List.Sorted.{IsPermutation, IsSorted, IsNonDecreasing, IsSt
 use Rattle.std.specs.Ordering.{nat_cmp}
 use Rattle.std.proofs.lemmas.List.Sorted.{sum_by-IsPermutation, IsNonDecreasingBy-from_sort}
 use Rattle.std.proofs.lemmas.List.Sums.{sum_by-cons}
+use Rattle.std.proofs.lemmas.Map.Keys.{non_decreasing_from_sorted, sorted_from_strictly_increasing}
 use Rattle.std.proofs.lemmas.Bool.Decides.{nat_tests}
 use Rattle.std.proofs.lemmas.Bool.{leb-true}
 use Rattle.mh_site.specs.Ascending.{put_in, ascending}
@@ -211,3 +212,8 @@ ascending-strictly xs h k lt =
     let rise = strictly (ascending xs) (ascending-rises xs)
     (λ j. let same : count j (ascending xs) ≡ count j xs = ascending-count j xs in let once : count j xs ≤ 1 = differ-once j xs h in omega arith) k (omega arith) in
     rw (add-one k) rise
+
+-- numbers that rise are in ascending order
+pub ascending-same : (xs : List ℕ) → IsStrictlyIncreasing xs → ascending xs ≡ xs
+ascending-same xs h =
+    sym (unique xs (ascending xs) (rises xs (non_decreasing_from_sorted xs (sorted_from_strictly_increasing xs h))) (ascending-rises xs) (λ k. sym (ascending-count k xs)))

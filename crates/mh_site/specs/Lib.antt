@@ -2,6 +2,7 @@ pub mod Ascending
 pub mod Controls
 pub mod Defined
 pub mod Definitions
+pub mod Extensions
 pub mod Invoking
 pub mod Kept
 pub mod Lawful

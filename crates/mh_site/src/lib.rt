@@ -14,6 +14,7 @@ mod base;
 mod control;
 mod crossing;
 mod definition;
+mod extending;
 mod fault;
 mod invoking;
 mod laws;

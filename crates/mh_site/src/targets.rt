@@ -35,7 +35,7 @@ impl Definition {
 }
 
 // The same sites with other targets.
-fn with_targets(
+pub(crate) fn with_targets(
     alloc: Global,
     sites: &[Site],
     targets: &[Declared],
@@ -87,7 +87,7 @@ fn copy_link(link: &Link) -> Result<Link, NoMemory>
     })
 }
 
-fn copy_points(alloc: Global, points: &[Point]) -> Result<Listing<Point>, NoMemory>
+pub(crate) fn copy_points(alloc: Global, points: &[Point]) -> Result<Listing<Point>, NoMemory>
     ensures value { IfOk result (λ copies. copies ≡ points.now) }
 {
     let mut copies = Vec::new(alloc);
