@@ -4,6 +4,7 @@ mod Calls
 mod Changing
 mod CountedHits
 mod Deciding
+mod Extended
 mod FlushedCalls
 mod Growing
 mod HitCounts

@@ -30,7 +30,7 @@ use Rattle.mh_core.proofs.HitCounts.{hits_counted}
 use Rattle.mh_core.specs.Laws.Renewing.{length_carried, new_controls, new_plans, new_snapshots, renewed_lawful, renewed_links}
 
 -- ---- hits
-total_carried : (r : List Record) (shares : List (List ℕ)) (n j : ℕ) → n ≤ length shares → total (carried r shares n) j ≡ total r j + sum_by (λ share. at share j) (take n shares)
+pub total_carried : (r : List Record) (shares : List (List ℕ)) (n j : ℕ) → n ≤ length shares → total (carried r shares n) j ≡ total r j + sum_by (λ share. at share j) (take n shares)
 total_carried r shares zero j h = omega arith
 total_carried r shares (suc n) j h =
     let f : List ℕ → ℕ = λ share. at share j in
@@ -50,7 +50,7 @@ carried_same r xs ys (suc n) same =
 abbrev pub the_book : LimitsData → DefinitionData → List Record → WorldState → TotalsState → List SnapshotState → List PublishedPlan → Bool → BookState
 the_book l d r w t s p k = record { definition = d; limits = l; records = r; world = w; totals = t; snapshots = s; plans = p; room = k }
 
-all_fallen : (f : ℕ → Bool) (n : ℕ) → All (λ p. p < n) (filter f (numbers n))
+pub all_fallen : (f : ℕ → Bool) (n : ℕ) → All (λ p. p < n) (filter f (numbers n))
 all_fallen f n = All-filter f (λ p. p < n) (numbers n) (λ k e within. below n k e within)
   where
     below : (n k e : ℕ) → k < length (numbers n) → slice_index_or (numbers n) k e < n

@@ -1,9 +1,11 @@
 -- Laws of the definitions, for the proofs of crates above. Each is proved: nothing here is to be believed.
 pub mod Caches
 pub mod Changes
+pub mod Extending
 pub mod InvokedTrees
 pub mod LawfulLinks
 pub mod Members
+pub mod MoreSites
 pub mod Numbered
 pub mod PastSnapshots
 pub mod PlanTables

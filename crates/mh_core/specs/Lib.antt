@@ -21,6 +21,7 @@ pub mod State
 pub mod Runtimes
 pub mod Renewals
 pub mod Resumptions
+pub mod Extensions
 pub mod Machines
 pub mod ArgumentViews
 pub mod Pasts

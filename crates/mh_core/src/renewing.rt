@@ -175,7 +175,7 @@ pub(crate) fn open_without(
 
 // An invalidation of these points, and a flush of each worker of what goes on counting of the hits
 // that its ledger has flushed.
-fn first_records(
+pub(crate) fn first_records(
     alloc: Global,
     points: &Listing<u32>,
     ledgers: &[Ledger],

@@ -31,19 +31,19 @@ use Rattle.mh_core.specs.Laws.Numbered.{same_numbers}
 use Rattle.mh_core.specs.Laws.Worlds.{base_suits}
 
 -- ---- flushes change neither trees nor points
-plain_carried : (r : List Record) (shares : List (List ℕ)) (n : ℕ) → plain_controls (carried r shares n) ≡ plain_controls r
+pub plain_carried : (r : List Record) (shares : List (List ℕ)) (n : ℕ) → plain_controls (carried r shares n) ≡ plain_controls r
 plain_carried r shares zero = refl
 plain_carried r shares (suc n) = plain_carried r shares n
 
-controls_carried : (d : DefinitionData) (r : List Record) (shares : List (List ℕ)) (n : ℕ) → controls d (carried r shares n) ≡ controls d r
+pub controls_carried : (d : DefinitionData) (r : List Record) (shares : List (List ℕ)) (n : ℕ) → controls d (carried r shares n) ≡ controls d r
 controls_carried d r shares zero = refl
 controls_carried d r shares (suc n) = controls_carried d r shares n
 
-snapshots_carried : (d : DefinitionData) (r : List Record) (shares : List (List ℕ)) (n : ℕ) → snapshots_of d (carried r shares n) ≡ snapshots_of d r
+pub snapshots_carried : (d : DefinitionData) (r : List Record) (shares : List (List ℕ)) (n : ℕ) → snapshots_of d (carried r shares n) ≡ snapshots_of d r
 snapshots_carried d r shares zero = refl
 snapshots_carried d r shares (suc n) = snapshots_carried d r shares n
 
-plans_carried : (r : List Record) (shares : List (List ℕ)) (n : ℕ) → plans_of (carried r shares n) ≡ plans_of r
+pub plans_carried : (r : List Record) (shares : List (List ℕ)) (n : ℕ) → plans_of (carried r shares n) ≡ plans_of r
 plans_carried r shares zero = refl
 plans_carried r shares (suc n) = plans_carried r shares n
 
@@ -79,7 +79,7 @@ module _ (d : DefinitionData) (r : List Record) where
   renewed_lawful l is legal = sites.with_targets_lawful d (bases d r) is (bases_suit l is legal)
 
 -- ---- points
-absent_cond : (b : Bool) (a p : ℕ) (xs : List ℕ) → (a == p) ≡ false → member xs p ≡ false → member (cond b (a ∷ xs) xs) p ≡ false
+pub absent_cond : (b : Bool) (a p : ℕ) (xs : List ℕ) → (a == p) ≡ false → member xs p ≡ false → member (cond b (a ∷ xs) xs) p ≡ false
 absent_cond true a p xs e k = rw e k
 absent_cond false a p xs e k = k
 
@@ -103,11 +103,11 @@ step f a n p false e k = later (f a) a p (filter f (range_with_len (a + 1) n)) e
 past : (a p : ℕ) → a ≤ p → (a == p) ≡ false → a + 1 ≤ p
 past a p low e = grind (arith, nat_tests)
 
-among : (f : ℕ → Bool) (a n p : ℕ) → a ≤ p → p < a + n → member (filter f (range_with_len a n)) p ≡ f p
+pub among : (f : ℕ → Bool) (a n p : ℕ) → a ≤ p → p < a + n → member (filter f (range_with_len a n)) p ≡ f p
 among f a zero p low high = absurd (omega arith)
 among f a (suc n) p low high = step f a n p (a == p) refl (λ e. among f (a + 1) n p (past a p low e) (omega arith))
 
-twice : (b : Bool) → (not (not b) && true) ≡ b
+pub twice : (b : Bool) → (not (not b) && true) ≡ b
 twice true = refl
 twice false = refl
 
