@@ -1,12 +1,15 @@
 -- What a book keeps when it begins a new history.
-use Rattle.std.proofs.Common.{Bool, ◌≡◌, ℕ, zero, suc, ◌+◌, ◌<◌, ◌≤◌, List, [], ◌∷◌, ◌++◌, length, map, take, not, filter, slice_index_or, refl, ap, sym, subst, ◌∙◌, arith, add-one}
+use Rattle.std.proofs.Common.{Bool, true, false, cond, nat_lt, ◌≡◌, ℕ, zero, suc, ◌+◌, ◌<◌, ◌≤◌, List, [], ◌∷◌, ◌++◌, length, map, take, not, filter, slice_index_or, refl, ap, sym, subst, ◌∙◌, arith, add-one}
 use Rattle.std.specs.Prelude.{reverse}
-use Rattle.std.specs.List.{range_with_len, All, sum_by}
+use Rattle.std.specs.List.{All, sum_by}
 use Rattle.std.proofs.Math.Seq.{take-length}
-use Rattle.std.proofs.lemmas.List.{get_or-map, length-map, take_more}
-use Rattle.std.proofs.lemmas.List.Elements.{All-filter}
+use Rattle.std.proofs.lemmas.Bool.{ltb-false}
+use Rattle.std.proofs.lemmas.Bool.Decides.{nat_tests}
+use Rattle.std.proofs.lemmas.List.{append-nil, get_or-map, length-map, take_more}
+use Rattle.std.proofs.lemmas.List.Elements.{All-filter, filter-append}
 use Rattle.std.proofs.lemmas.List.FromFn.{get_or-map-range_with_len, get_or-range_with_len, length-map-range_with_len, length-range_with_len}
 use Rattle.std.proofs.lemmas.List.Sums.{sum_by-append, sum_by-le-sum_by, sum_by_more_le}
+use Rattle.mh_tree.specs.Typing.{IsTyped}
 use Rattle.mh_ledger.specs.declared.old_hits.OldHits.{OldHits}
 use Rattle.mh_ledger.specs.Ledgers.{at, ledger_at, no_ledger, AreHeld, IsTotals, LedgerState, TotalsState}
 use Rattle.mh_ledger.specs.Renewals.{left_of, renewed_ledger, renewed_shares, renewed_totals}
@@ -21,9 +24,9 @@ use Rattle.mh_core.specs.declared.record.Record.TheVariants.{Flushed, Invalidate
 use Rattle.mh_core.specs.Books.{AreTotals, BookState, IsBook, Legal}
 use Rattle.mh_core.specs.Installations.{PublishedPlan}
 use Rattle.mh_core.specs.Limits.{LimitsData}
-use Rattle.mh_core.specs.Records.{hits_in, is_valid, numbers, total}
-use Rattle.mh_core.specs.Renewals.{carried, fallen, renewed, renewed_records}
-use Rattle.mh_core.specs.Replayed.{controls, world}
+use Rattle.mh_core.specs.Records.{base, hits_in, numbers, total}
+use Rattle.mh_core.specs.Renewals.{carried, fallen, is_valid_anew, renewed, renewed_records}
+use Rattle.mh_core.specs.Replayed.{world}
 use Rattle.mh_core.specs.Snapshots.{SnapshotState}
 use Rattle.mh_core.specs.Runtimes.{IsRuntime}
 use Rattle.mh_core.proofs.HitCounts.{hits_counted}
@@ -59,24 +62,24 @@ all_fallen f n = All-filter f (λ p. p < n) (numbers n) (λ k e within. below n 
         let read = get_or-range_with_len 0 n k e inside in
         omega (arith, read, inside)
 
-module _ (b : BookState) (h : OldHits) (is : IsBook b) (counted : IsTotals b.totals) (room : length b.totals.shares < b.limits.history) where
+module _ (b : BookState) (again : List ℕ) (h : OldHits) (is : IsBook b) (counted : IsTotals b.totals) (room : length b.totals.shares < b.limits.history) where
   abbrev d : DefinitionData
-  d = renewed b.definition b.records
+  d = renewed b.definition b.records again
 
   abbrev shares : List (List ℕ)
   shares = renewed_shares h b.totals
 
   abbrev first : List Record
-  first = Invalidated (fallen b.definition b.records) ∷ []
+  first = Invalidated (fallen b.definition b.records again) ∷ []
 
   abbrev r : List Record
-  r = renewed_records b.definition b.records shares
+  r = renewed_records b.definition b.records again shares
 
   count : length shares ≡ length b.totals.shares
   count = length-map b.totals.shares (map (left_of h))
 
   links_same : length (links d) ≡ length (links b.definition)
-  links_same = ap length (renewed_links b.definition b.records)
+  links_same = ap length (renewed_links b.definition b.records again)
 
   known : (j : ℕ) → j < length (links d) → j < length b.totals.total
   known j inside = omega (arith, inside, links_same, is.totals.count)
@@ -95,7 +98,7 @@ module _ (b : BookState) (h : OldHits) (is : IsBook b) (counted : IsTotals b.tot
       omega (arith, now, left, most, was, bound, limit)
 
   legal_carried : (n : ℕ) → n ≤ length shares → Legal d b.limits (carried first shares n)
-  legal_carried zero few = ((0, (omega arith, (all_fallen (λ p. not (is_valid b.records p)) (length b.definition.points), (omega (arith, room), tt)))), tt)
+  legal_carried zero few = ((0, (omega arith, (all_fallen (λ p. not (is_valid_anew b.records again p)) (length b.definition.points), (omega (arith, room), tt)))), tt)
   legal_carried (suc n) few =
       let len = length_carried first shares n in (
         (
@@ -134,14 +137,14 @@ module _ (b : BookState) (h : OldHits) (is : IsBook b) (counted : IsTotals b.tot
   pub renewed_book : (w : WorldState) (k : Bool) → w ≡ world d r
       → IsBook record { definition = d; limits = b.limits; records = r; world = w; totals = renewed_totals h b.totals; snapshots = []; plans = []; room = k }
   renewed_book w k same = record {
-    definition = renewed_lawful b.definition b.records b.limits is.definition is.legal;
+    definition = renewed_lawful b.definition b.records again b.limits is.definition is.legal;
     limits = is.limits;
     legal = legal_carried (length shares) (omega arith);
     few = let len = length_carried first shares (length shares) in omega (arith, len, count, room);
     world = same;
     totals = renewed_totals_are;
-    snapshots = sym (new_snapshots b.definition b.records shares);
-    plans = sym (new_plans b.definition b.records shares);
+    snapshots = sym (new_snapshots b.definition b.records again shares);
+    plans = sym (new_plans b.definition b.records again shares);
   }
 
   -- the same, of what is put in place of what the book has
@@ -155,9 +158,9 @@ module _ (b : BookState) (h : OldHits) (is : IsBook b) (counted : IsTotals b.tot
       (subst (λ (x : List PublishedPlan). IsBook (the_book b.limits d r w (renewed_totals h b.totals) [] x k)) (sym plans) (renewed_book w k same)))))
 
 -- the world of the new history
-pub renewed_world : (d : DefinitionData) (r : List Record) (shares : List (List ℕ)) (w : WorldState) → w ≡ replay (opened (renewed d r)) (control.Invalidate (fallen d r) ∷ [])
-    → w ≡ world (renewed d r) (renewed_records d r shares)
-renewed_world d r shares w same = same ∙ sym (ap (λ (cs : List Control). replay (opened (renewed d r)) (reverse cs)) (new_controls d r shares))
+pub renewed_world : (d : DefinitionData) (r : List Record) (again : List ℕ) (shares : List (List ℕ)) (w : WorldState)
+    → w ≡ replay (opened (renewed d r again)) (control.Invalidate (fallen d r again) ∷ []) → w ≡ world (renewed d r again) (renewed_records d r again shares)
+renewed_world d r again shares w same = same ∙ sym (ap (λ (cs : List Control). replay (opened (renewed d r again)) (reverse cs)) (new_controls d r again shares))
 
 -- the shares that ledgers carry are those of the totals that hold them
 pub ledger_shares : (h : OldHits) (t : TotalsState) (ledgers : List LedgerState) → AreHeld t ledgers → (first : List Record)
@@ -173,16 +176,41 @@ ledger_shares h t ledgers are first =
     ∙ (ap left (sym held.1 ∙ ap (λ v. slice_index_or t.shares v []) (are.workers w inside)) ∙ sym (get_or-map left t.shares w [] [] (omega (arith, inside, are.count)))))
     ∙ ap (carried first (renewed_shares h t)) (sym count)
 
+-- ---- trees
+filter_step : (f : ℕ → Bool) (xs : List ℕ) (i x : ℕ) → i < length xs → x ≡ slice_index_or xs i x → filter f (take (i + 1) xs) ≡ filter f (take i xs) ++ cond (f x) (x ∷ []) []
+filter_step f xs i x inside found =
+    ap (filter f) (take_more xs i x inside ∙ ap (λ (y : ℕ). take i xs ++ y ∷ []) (sym found)) ∙ filter-append f (take i xs) (x ∷ [])
+
+-- of the sites below a number, and one more
+pub one_typed : (d : DefinitionData) (r : List Record) (n : ℕ) → ((s : ℕ) → s < n → IsTyped (base d r s).tree (base d r s).signature) → IsTyped (base d r n).tree (base d r n).signature
+    → (s : ℕ) → s < n + 1 → IsTyped (base d r s).tree (base d r s).signature
+one_typed d r n before here s inside = by_place (nat_lt s n) refl
+  where
+    by_place : (b : Bool) → nat_lt s n ≡ b → IsTyped (base d r s).tree (base d r s).signature
+    by_place true e = before s (grind (arith, nat_tests))
+    by_place false e =
+        let same : n ≡ s = omega (arith, inside, ltb-false s n e) in
+        subst (λ (m : ℕ). IsTyped (base d r m).tree (base d r m).signature) same here
+
+-- a step that looks at one more point, which is invalid, and one that is valid
+pub filter_pass : (f : ℕ → Bool) (xs : List ℕ) (i x : ℕ) (made new : List ℕ) → i < length xs → x ≡ slice_index_or xs i x → made ≡ filter f (take i xs) → f x ≡ true → new ≡ made ++ x ∷ [] → new ≡ filter f (take (i + 1) xs)
+filter_pass f xs i x made new inside found before passes push =
+    push ∙ (ap (λ ys. ys ++ x ∷ []) before ∙ (ap (λ (b : Bool). filter f (take i xs) ++ cond b (x ∷ []) []) (sym passes) ∙ sym (filter_step f xs i x inside found)))
+
+pub filter_skip : (f : ℕ → Bool) (xs : List ℕ) (i x : ℕ) (made : List ℕ) → i < length xs → x ≡ slice_index_or xs i x → made ≡ filter f (take i xs) → f x ≡ false → made ≡ filter f (take (i + 1) xs)
+filter_skip f xs i x made inside found before fails =
+    before ∙ (sym (append-nil (filter f (take i xs))) ∙ (ap (λ (b : Bool). filter f (take i xs) ++ cond b (x ∷ []) []) (sym fails) ∙ sym (filter_step f xs i x inside found)))
+
 -- ---- a runtime
-pub runtime_renews : (h : OldHits) (b new : BookState) (ledgers after : List LedgerState) → IsRuntime b ledgers → new.definition ≡ renewed b.definition b.records → new.limits ≡ b.limits
+pub runtime_renews : (again : List ℕ) (h : OldHits) (b new : BookState) (ledgers after : List LedgerState) → IsRuntime b ledgers → new.definition ≡ renewed b.definition b.records again → new.limits ≡ b.limits
     → after ≡ map (renewed_ledger h) ledgers → AreHeld new.totals after → IsRuntime new after
-runtime_renews h b new ledgers after is definition limits same held =
+runtime_renews again h b new ledgers after is definition limits same held =
     let count : length after ≡ length ledgers = ap length same ∙ length-map ledgers (renewed_ledger h) in
     let each : (w : ℕ) → w < length after → ledger_at after w ≡ renewed_ledger h (ledger_at ledgers w) =
     λ w inside. ap (λ (ls : List LedgerState). ledger_at ls w) same ∙ get_or-map (renewed_ledger h) ledgers w no_ledger no_ledger (omega (arith, inside, count)) in
     record {
       held = held;
       links = λ w inside. ap (λ (l : LedgerState). length l.unflushed) (each w inside) ∙ (is.links w (omega (arith, inside, count))
-          ∙ (ap length (sym (renewed_links b.definition b.records)) ∙ ap (λ (d : DefinitionData). length (links d)) (sym definition)));
+          ∙ (ap length (sym (renewed_links b.definition b.records again)) ∙ ap (λ (d : DefinitionData). length (links d)) (sym definition)));
       limit = λ w inside. ap (λ (l : LedgerState). l.limit) (each w inside) ∙ (is.limit w (omega (arith, inside, count)) ∙ ap (λ (l : LimitsData). l.ledger) (sym limits));
     }

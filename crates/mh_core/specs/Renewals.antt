@@ -1,8 +1,12 @@
 -- A new history over the trees, the points and the hits of now.
-use Rattle.std.specs.Prelude.{◌≡◌, ◌<◌, ℕ, zero, suc, not, List, [], ◌∷◌, map, filter, length, reverse, slice_index_or}
+use Rattle.std.specs.Prelude.{◌≡◌, ◌<◌, ℕ, zero, suc, Bool, not, ◌||◌, List, [], ◌∷◌, map, filter, length, reverse, slice_index_or}
+use Rattle.std.specs.List.{All}
 use Rattle.mh_base.specs.Tests.{Tests, test, only}
 use Rattle.mh_type.specs.declared.value.Value.{Value}
+use Rattle.mh_tree.specs.Handle.{TypedTree}
 use Rattle.mh_tree.specs.Meaning.{mean}
+use Rattle.mh_tree.specs.Typing.{IsTyped}
+use Rattle.mh_pic.specs.Specialised.{is_among, retired_tree}
 use Rattle.mh_ledger.specs.declared.old_hits.OldHits.{OldHits}
 use Rattle.mh_ledger.specs.Renewals.{renewed_shares, renewed_totals}
 use Rattle.mh_site.specs.Defined.{DefinitionData}
@@ -11,50 +15,73 @@ use Rattle.mh_core.specs.declared.record.Record.{Record}
 use Rattle.mh_core.specs.declared.record.Record.TheVariants.{Flushed, Invalidated}
 use Rattle.mh_core.specs.declared.renewing.Beginning.{Beginning}
 use Rattle.mh_core.specs.declared.refusal.Refusal.{Refusal}
-use Rattle.mh_core.specs.declared.refusal.Refusal.TheVariants.{HistoryFull}
+use Rattle.mh_core.specs.declared.refusal.Refusal.TheVariants.{HistoryFull, NoPoint}
 use Rattle.mh_core.specs.Books.{BookState}
 use Rattle.mh_core.specs.Limits.{LimitsData}
-use Rattle.mh_core.specs.Records.{base, bases, environment_of_bases, hits_in, is_valid, numbers, valid_points}
+use Rattle.mh_core.specs.Records.{base, environment_of_bases, hits_in, is_valid, numbers, valid_points}
 use Rattle.mh_core.specs.Refusals.{memory_last}
 use Rattle.mh_core.specs.Replayed.{world}
 
--- the definition that the new history is over: each site has its base tree as its target
-abbrev pub renewed : DefinitionData → List Record → DefinitionData
-renewed d r = with_targets d (bases d r)
+-- the points that are given back: of those that are to be valid again, the ones that are invalid
+abbrev pub given_back : List Record → List ℕ → List ℕ
+given_back r again = filter (λ p. not (is_valid r p)) again
 
--- the points that are invalid after the records
-abbrev pub fallen : DefinitionData → List Record → List ℕ
-fallen d r = filter (λ p. not (is_valid r p)) (numbers (length d.points))
+-- the base tree of each site, by number, in which each point given back gives way to its fallback
+abbrev pub renewed_bases : DefinitionData → List Record → List ℕ → List TypedTree
+renewed_bases d r again = map (λ s. retired_tree (given_back r again) (base d r s)) (numbers (length d.sites))
+
+-- the definition that the new history is over: each site has that tree as its target
+abbrev pub renewed : DefinitionData → List Record → List ℕ → DefinitionData
+renewed d r again = with_targets d (renewed_bases d r again)
+
+-- a point is valid in the new history where it was, or where it is to be valid again
+abbrev pub is_valid_anew : List Record → List ℕ → ℕ → Bool
+is_valid_anew r again p = is_valid r p || is_among again p
+
+-- the points that stay invalid
+abbrev pub fallen : DefinitionData → List Record → List ℕ → List ℕ
+fallen d r again = filter (λ p. not (is_valid_anew r again p)) (numbers (length d.points))
 
 -- a flush of each of the first shares, behind other records
 abbrev pub carried : List Record → List (List ℕ) → ℕ → List Record
 carried r shares zero = r
 carried r shares (suc w) = Flushed w (hits_in (slice_index_or shares w [])) ∷ carried r shares w
 
--- the new history: an invalidation of what is invalid, and a flush of each worker's share
-abbrev pub renewed_records : DefinitionData → List Record → List (List ℕ) → List Record
-renewed_records d r shares = carried (Invalidated (fallen d r) ∷ []) shares (length shares)
+-- the new history: an invalidation of what stays invalid, and a flush of each worker's share
+abbrev pub renewed_records : DefinitionData → List Record → List ℕ → List (List ℕ) → List Record
+renewed_records d r again shares = carried (Invalidated (fallen d r again) ∷ []) shares (length shares)
 
--- the book begins a new history
-pub record Renews (h : OldHits) (b new : BookState) : Type 0 where
-  pub definition : new.definition ≡ renewed b.definition b.records
+-- the book begins a new history, in which these points are valid again
+pub record Renews (again : List ℕ) (h : OldHits) (b new : BookState) : Type 0 where
+  pub definition : new.definition ≡ renewed b.definition b.records again
   pub limits : new.limits ≡ b.limits
-  pub records : new.records ≡ renewed_records b.definition b.records (renewed_shares h b.totals)
+  pub records : new.records ≡ renewed_records b.definition b.records again (renewed_shares h b.totals)
   pub totals : new.totals ≡ renewed_totals h b.totals
 
--- each site's calls mean what they meant, and the same points are valid
-pub record MeansTheSame (b new : BookState) : Type 0 where
+-- each site's calls mean what they meant, and the same points are valid, beside those that are to be valid again
+pub record MeansTheSame (again : List ℕ) (b new : BookState) : Type 0 where
   pub calls : (s : ℕ) → (a : List Value) → s < length b.definition.sites
       → mean (environment_of_bases new.definition new.records) (base new.definition new.records s).tree a
       ≡ mean (environment_of_bases b.definition b.records) (base b.definition b.records s).tree a
-  pub valid : valid_points new.definition new.records ≡ valid_points b.definition b.records
+  pub valid : valid_points new.definition new.records ≡ map (is_valid_anew b.records again) (numbers (length b.definition.points))
 
--- the tests of a renewal with so many workers: the new history has room for its first records
-abbrev pub renewal_tests : LimitsData → ℕ → Tests Refusal
-renewal_tests l workers = test (workers < l.history) (only HistoryFull) memory_last
+-- the points are there
+abbrev pub AreKnown : DefinitionData → List ℕ → Type 0
+AreKnown d points = All (λ p. p < length d.points) points
+
+-- the tests of a renewal with so many workers: the new history has room for its first records, and what is to be valid again is there
+abbrev pub renewal_tests : DefinitionData → LimitsData → ℕ → List ℕ → Tests Refusal
+renewal_tests d l workers again =
+    test (workers < l.history) (only HistoryFull)
+    (test (AreKnown d again) (only NoPoint) memory_last)
+
+-- each site's base tree has its type
+abbrev pub BasesAreTyped : DefinitionData → List Record → Type 0
+BasesAreTyped d r = (s : ℕ) → s < length d.sites → IsTyped (base d r s).tree (base d r s).signature
 
 -- what the new history begins with
-pub record Begins (h : OldHits) (b : BookState) (first : Beginning) : Type 0 where
-  pub definition : first.definition ≡ renewed b.definition b.records
-  pub world : first.world ≡ world (renewed b.definition b.records) (renewed_records b.definition b.records (renewed_shares h b.totals))
-  pub records : reverse first.records.items ≡ renewed_records b.definition b.records (renewed_shares h b.totals)
+pub record Begins (again : List ℕ) (h : OldHits) (b : BookState) (first : Beginning) : Type 0 where
+  pub definition : first.definition ≡ renewed b.definition b.records again
+  pub world : first.world ≡ world (renewed b.definition b.records again) (renewed_records b.definition b.records again (renewed_shares h b.totals))
+  pub records : reverse first.records.items ≡ renewed_records b.definition b.records again (renewed_shares h b.totals)
+  pub typed : BasesAreTyped b.definition b.records

@@ -74,6 +74,7 @@ pub use pending::PendingChange;
 pub use plan::SharedPlan;
 pub use record::Record;
 pub use refusal::Refusal;
+pub use renewing::Renewal;
 pub use reply::Reply;
 pub use resuming::ResumptionFault;
 pub use runtime::Runtime;

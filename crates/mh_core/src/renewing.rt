@@ -7,19 +7,34 @@ ghost use Rattle.mh_ledger.specs.Renewals.{left_of, renewed_ledger};
 ghost use Rattle.mh_site.specs.Links.{links as links_of};
 ghost use Rattle.mh_site.specs.Worlds.{opened, replay};
 ghost use Rattle.mh_site.specs.declared.control.Control.TheVariants.{Invalidate};
-ghost use Rattle.mh_core.specs.Records.{base, bases, hits_in};
-ghost use Rattle.mh_core.specs.Renewals.{Begins, MeansTheSame, Renews, carried, fallen, renewal_tests, renewed};
+ghost use Rattle.mh_tree.specs.Typing.{IsTyped};
+ghost use Rattle.mh_pic.specs.Specialised.{retired_tree};
+ghost use Rattle.mh_core.specs.Records.{base, hits_in, numbers};
+ghost use Rattle.mh_core.specs.Renewals.{AreKnown, BasesAreTyped, Begins, MeansTheSame, Renews, carried, fallen, given_back, is_valid_anew, renewal_tests, renewed, renewed_bases};
 ghost use Rattle.mh_core.specs.declared.record.Record.TheVariants.{Flushed, Invalidated};
 
 use crate::book::Book;
 use crate::hits::hits_of;
 use crate::record::Record;
 use crate::refusal::Refusal;
+use crate::testing::all_below;
 use mh_base::NoMemory;
 use mh_ledger::{Ledger, OldHits};
+use mh_pic::retire;
 use mh_site::{Control, Definition, Listing, World};
 use mh_tree::Declared;
 use std::alloc::Global;
+
+/// How a new history begins: what it takes over from the old one.
+#[derive(Clone, Copy, Debug)]
+pub struct Renewal<'a> {
+    /// Points that are to be valid again, by number; each may stand here more than once, and those
+    /// that are valid change nothing. In the base trees each that is invalid gives way to its
+    /// fallback, so that all calls mean what they meant; its number may then be used anew.
+    pub again: &'a [u32],
+    /// What becomes of the hits that were flushed.
+    pub hits: OldHits,
+}
 
 // What a new history begins with: its definition, the world after its first records, and these.
 #[derive(Drop)]
@@ -30,49 +45,95 @@ pub(crate) struct Beginning {
 }
 
 impl Book {
-    /// The definition of now, where each site has its base tree as its target. Points, sites and
-    /// links keep their numbers. O(points + sites + links).
+    /// The definition of now, where each site has its base tree as its target. Of the points that
+    /// are to be valid again, each that is invalid gives way to its fallback there. Points, sites
+    /// and links keep their numbers. O(points + sites + links), where no point is to be valid
+    /// again; else as `mh_pic::retire` for each base tree.
     ///
     /// Fails only if an allocation or a reference count is refused.
-    pub fn renewed(&self) -> Result<Definition, NoMemory>
-        ensures value { IfOk result (λ d. d ≡ renewed self.now.definition self.now.records) }
+    pub fn renewed(&self, again: &[u32]) -> Result<Definition, NoMemory>
+        requires known { AreKnown self.now.definition again.now }
+        ensures value { IfOk result (λ d. d
+            ≡ renewed self.now.definition self.now.records again.now) }
         ensures links { IfOk result (λ d. links_of d ≡ links_of self.now.definition) }
+        ensures typed { OnOk result (BasesAreTyped self.now.definition self.now.records) }
     {
         self.kept();
-        let bases = self.bases()?;
+        let bases = self.bases(again)?;
         let definition = self.definition.with_targets(self.alloc, &bases)?;
         Ok(definition)
     }
 
-    // The base tree of each site, by number.
-    fn bases(&self) -> Result<Vec<Declared>, NoMemory>
+    // Of the points that are to be valid again, the ones that are invalid.
+    fn given_back(&self, again: &[u32]) -> Result<Vec<u32>, NoMemory>
+        requires known { AreKnown self.now.definition again.now }
+        ensures value { IfOk result (λ v. v.items ≡ given_back self.now.records again.now) }
+    {
+        let mut points = Vec::new(self.alloc);
+        for point in again {
+            let valid = self.is_valid(*point as usize);
+            if !valid {
+                points.push(*point)?;
+            }
+        }
+        Ok(points)
+    }
+
+    // The base tree of each site, by number, without the points that are given back.
+    fn bases(&self, again: &[u32]) -> Result<Vec<Declared>, NoMemory>
+        requires known { AreKnown self.now.definition again.now }
         ensures value { IfOk result (λ v. v.items
-            ≡ bases self.now.definition self.now.records) }
+            ≡ renewed_bases self.now.definition self.now.records again.now) }
+        ensures typed { OnOk result (BasesAreTyped self.now.definition self.now.records) }
+    {
+        let points = self.given_back(again)?;
+        let bases = self.bases_without(&points)?;
+        Ok(bases)
+    }
+
+    // The base tree of each site, by number, without these points.
+    fn bases_without(&self, points: &[u32]) -> Result<Vec<Declared>, NoMemory>
+        ensures value { IfOk result (λ v. v.items
+            ≡ map (λ s. retired_tree points.now (base self.now.definition self.now.records s))
+            (numbers (length self.now.definition.sites))) }
+        ensures typed { OnOk result (BasesAreTyped self.now.definition self.now.records) }
     {
         let mut bases = Vec::new(self.alloc);
         for site in 0..self.definition.sites().len() {
-            bases.push(self.base(site)?)?;
+            bases.push(self.base(site, points)?)?;
         }
         Ok(bases)
     }
 
-    // Another owner of a site's base tree.
-    fn base(&self, site: usize) -> Result<Declared, NoMemory>
+    // A site's base tree, without these points.
+    fn base(&self, site: usize, points: &[u32]) -> Result<Declared, NoMemory>
         requires inside { site < length self.now.definition.sites }
-        ensures value { IfOk result (λ t. t ≡ base self.now.definition self.now.records site) }
+        ensures value { IfOk result (λ t. t
+            ≡ retired_tree points.now (base self.now.definition self.now.records site)) }
+        ensures typed { OnOk result (IsTyped
+            (base self.now.definition self.now.records site).tree
+            (base self.now.definition self.now.records site).signature) }
     {
-        let tree = share(self.world.base(site))?;
+        let tree = retire(self.alloc, self.world.base(site), points)?;
         Ok(tree)
     }
 
-    // The points that are invalid, ascending.
-    fn fallen(&self) -> Result<Listing<u32>, NoMemory>
+    // Whether a point is valid in the new history.
+    fn is_valid_anew(&self, point: u32, again: &[u32]) -> bool
+        requires inside { point < length self.now.definition.points }
+        ensures value { result ≡ is_valid_anew self.now.records again.now point }
+    {
+        self.is_valid(point as usize) || again.contains(&point)
+    }
+
+    // The points that stay invalid, ascending.
+    fn fallen(&self, again: &[u32]) -> Result<Listing<u32>, NoMemory>
         ensures value { IfOk result (λ points. points
-            ≡ fallen self.now.definition self.now.records) }
+            ≡ fallen self.now.definition self.now.records again.now) }
     {
         let mut fallen = Vec::new(self.alloc);
         for point in 0..self.definition.points().len() {
-            let valid = self.is_valid(point);
+            let valid = self.is_valid_anew(point as u32, again);
             if !valid {
                 fallen.push(point as u32)?;
             }
@@ -82,41 +143,66 @@ impl Book {
 
     /// Begins a new history, with one held ledger of each worker, as `Runtime::renew` does.
     ///
-    /// Refused with `HistoryFull` where the limit of events is not above the number of workers, and
+    /// Refused with `HistoryFull` where the limit of events is not above the number of workers, with
+    /// `NoPoint` where a number of a point that is to be valid again is past the last point, and
     /// then with `NoMemory`; nothing changes.
-    pub fn renew(&mut self, ledgers: &mut Vec<Ledger>, hits: OldHits) -> Result<(), Refusal>
+    pub fn renew(&mut self, ledgers: &mut Vec<Ledger>, renewal: Renewal<'_>) -> Result<(), Refusal>
         requires held { AreHeld self.old.totals ledgers.old.items }
         ensures passes { OnOk result (length ledgers.old.items < self.old.limits.history) }
-        ensures renewed { OnOk result (Renews hits self.old self.new) }
-        ensures means { OnOk result (MeansTheSame self.old self.new) }
+        ensures known { OnOk result (AreKnown self.old.definition renewal.entry.again.now) }
+        ensures renewed { OnOk result (Renews renewal.entry.again.now renewal.entry.hits
+            self.old self.new) }
+        ensures means { OnOk result (MeansTheSame renewal.entry.again.now self.old self.new) }
         ensures links { OnOk result (links_of self.new.definition
             ≡ links_of self.old.definition) }
         ensures ledgers { OnOk result (ledgers.new.items
-            ≡ map (renewed_ledger hits) ledgers.old.items) }
+            ≡ map (renewed_ledger renewal.entry.hits) ledgers.old.items) }
         ensures held { AreHeld self.new.totals ledgers.new.items }
         ensures refused { IfErr result (λ told. Refuses
-            (renewal_tests self.old.limits (length ledgers.old.items)) told) }
+            (renewal_tests self.old.definition self.old.limits (length ledgers.old.items)
+            renewal.entry.again.now) told) }
         ensures same { OnErr result (self.new ≡ self.old) }
         ensures kept { OnErr result (ledgers.new.items ≡ ledgers.old.items) }
     {
-        if ledgers.len() as u64 >= self.limits.history() {
+        let Renewal { again, hits } = renewal;
+        self.test_renewal(ledgers.len(), again)?;
+        let first = self
+            .beginning(ledgers, again, hits)
+            .map_err(|_| Refusal::NoMemory)?;
+        self.begin(first, ledgers, again, hits);
+        Ok(())
+    }
+
+    // The tests of a renewal with so many workers, reporting the first that fails.
+    fn test_renewal(&self, workers: usize, again: &[u32]) -> Result<(), Refusal>
+        ensures passes { OnOk result (workers < self.now.limits.history) }
+        ensures known { OnOk result (AreKnown self.now.definition again.now) }
+        ensures refuses { IfErr result (λ told. Refuses
+            (renewal_tests self.now.definition self.now.limits workers again.now) told) }
+    {
+        if workers as u64 >= self.limits.history() {
             return Err(Refusal::HistoryFull);
         }
-        let first = self
-            .beginning(ledgers, hits)
-            .map_err(|_| Refusal::NoMemory)?;
-        self.begin(first, ledgers, hits);
+        if !all_below(again, self.definition.points().len()) {
+            return Err(Refusal::NoPoint);
+        }
         Ok(())
     }
 
     // All growths of a renewal.
-    fn beginning(&self, ledgers: &[Ledger], hits: OldHits) -> Result<Beginning, NoMemory>
+    fn beginning(
+        &self,
+        ledgers: &[Ledger],
+        again: &[u32],
+        hits: OldHits,
+    ) -> Result<Beginning, NoMemory>
         requires held { AreHeld self.now.totals ledgers.now }
-        ensures begins { IfOk result (Begins hits self.now) }
+        requires known { AreKnown self.now.definition again.now }
+        ensures begins { IfOk result (Begins again.now hits self.now) }
     {
-        let fallen = self.fallen()?;
+        let fallen = self.fallen(again)?;
         let records = first_records(self.alloc, &fallen, ledgers, hits)?;
-        let definition = self.renewed()?;
+        let definition = self.renewed(again)?;
         let world = open_without(self.alloc, &definition, fallen)?;
         Ok(Beginning {
             definition,
@@ -126,12 +212,12 @@ impl Book {
     }
 
     // Takes the beginning in. It takes no memory.
-    fn begin(&mut self, first: Beginning, ledgers: &mut Vec<Ledger>, hits: OldHits)
+    fn begin(&mut self, first: Beginning, ledgers: &mut Vec<Ledger>, again: &[u32], hits: OldHits)
         requires held { AreHeld self.old.totals ledgers.old.items }
         requires room { length ledgers.old.items < self.old.limits.history }
-        requires begins { Begins hits self.old first }
-        ensures renewed { Renews hits self.old self.new }
-        ensures means { MeansTheSame self.old self.new }
+        requires begins { Begins again.now hits self.old first }
+        ensures renewed { Renews again.now hits self.old self.new }
+        ensures means { MeansTheSame again.now self.old self.new }
         ensures links { links_of self.new.definition ≡ links_of self.old.definition }
         ensures ledgers { ledgers.new.items ≡ map (renewed_ledger hits) ledgers.old.items }
         ensures held { AreHeld self.new.totals ledgers.new.items }
@@ -150,13 +236,6 @@ impl Book {
         self.snapshots = Vec::new(self.alloc);
         self.plans = Vec::new(self.alloc);
     }
-}
-
-// Another owner of a tree.
-fn share(tree: &Declared) -> Result<Declared, NoMemory>
-    ensures value { IfOk result (λ t. t ≡ tree.now) }
-{
-    tree.share().map_err(|_| NoMemory)
 }
 
 // The world of a definition in which these points are invalid.

@@ -13,7 +13,7 @@ ghost use Rattle.mh_core.specs.Installations.{report};
 ghost use Rattle.mh_core.specs.Legal.{answer_of_call, callee_tests};
 ghost use Rattle.mh_core.specs.Pending.{IsNoFlush};
 ghost use Rattle.mh_core.specs.Problems.{IsTaken, problem_at};
-ghost use Rattle.mh_core.specs.Renewals.{MeansTheSame, Renews, renewal_tests};
+ghost use Rattle.mh_core.specs.Renewals.{AreKnown, MeansTheSame, Renews, renewal_tests};
 ghost use Rattle.mh_core.specs.Runtimes.{CountsHit, HasRoom, IsRuntime, RefusesFlush, TakesNoMemory, call_tests, flush_of, opened_runtime, room_tests};
 ghost use Rattle.mh_core.specs.declared.record.Record.TheVariants.{Targeted, Invalidated, Snapped, Published, Installed};
 ghost use Rattle.mh_core.specs.declared.reply.Reply.TheVariants.{Called};
@@ -25,9 +25,10 @@ use crate::limits::Limits;
 use crate::plan::SharedPlan;
 use crate::record::Record;
 use crate::refusal::Refusal;
+use crate::renewing::Renewal;
 use crate::reply::Reply;
 use mh_base::NoMemory;
-use mh_ledger::{Ledger, OldHits};
+use mh_ledger::Ledger;
 use mh_run::Stack;
 use mh_site::{Definition, Listing};
 use mh_tree::Declared;
@@ -350,27 +351,36 @@ impl Runtime {
 
     /// Begins a new history, so that nothing of a history is used up any more. Its definition is
     /// that of now, where each site has its base tree as its target; its first records invalidate
-    /// the points that are invalid, and flush of each worker's hits what is to go on counting.
-    /// Each site's calls mean what they meant, the same points are valid, and sites, points and
-    /// links keep their numbers. Hits that were not flushed stay so. No site holds a link, and
-    /// snapshots and plans are numbered from 1 again.
-    /// O(points + sites + links * workers), beside the code of each base tree.
+    /// the points that stay invalid, and flush of each worker's hits what is to go on counting.
+    /// Each site's calls mean what they meant, the same points are valid, beside those that are to
+    /// be valid again, and sites, points and links keep their numbers. Of the points that are to be
+    /// valid again, each that is invalid gives way to its fallback in the base trees. Hits that
+    /// were not flushed stay so. No site holds a link, and snapshots and plans are numbered from 1
+    /// again. O(points + sites + links * workers), beside the code of each base tree; with points
+    /// that are to be valid again, the number of these for each point, and for each node of a
+    /// point.
     ///
-    /// Refused with `HistoryFull` where the limit of events is not above the number of workers, and
+    /// Refused with `HistoryFull` where the limit of events is not above the number of workers, with
+    /// `NoPoint` where a number of a point that is to be valid again is past the last point, and
     /// then with `NoMemory`; nothing changes.
-    pub fn renew(&mut self, hits: OldHits) -> Result<(), Refusal>
+    pub fn renew(&mut self, renewal: Renewal<'_>) -> Result<(), Refusal>
         ensures passes { OnOk result (length self.old.ledgers < self.old.book.limits.history) }
-        ensures renewed { OnOk result (Renews hits self.old.book self.new.book) }
-        ensures means { OnOk result (MeansTheSame self.old.book self.new.book) }
+        ensures known { OnOk result (AreKnown self.old.book.definition
+            renewal.entry.again.now) }
+        ensures renewed { OnOk result (Renews renewal.entry.again.now renewal.entry.hits
+            self.old.book self.new.book) }
+        ensures means { OnOk result (MeansTheSame renewal.entry.again.now self.old.book
+            self.new.book) }
         ensures links { OnOk result (links_of self.new.book.definition
             ≡ links_of self.old.book.definition) }
         ensures ledgers { OnOk result (self.new.ledgers
-            ≡ map (renewed_ledger hits) self.old.ledgers) }
+            ≡ map (renewed_ledger renewal.entry.hits) self.old.ledgers) }
         ensures refused { IfErr result (λ told. Refuses
-            (renewal_tests self.old.book.limits (length self.old.ledgers)) told) }
+            (renewal_tests self.old.book.definition self.old.book.limits
+            (length self.old.ledgers) renewal.entry.again.now) told) }
         ensures kept { OnErr result (self.new ≡ self.old) }
     {
-        self.book.renew(&mut self.ledgers, hits)?;
+        self.book.renew(&mut self.ledgers, renewal)?;
         Ok(())
     }
 }

@@ -35,8 +35,8 @@ pub record IsFresh (b : BookState) (workers : ℕ) : Type 0 where
 -- a new history begins, with what is left of the flushed hits
 pub record BeginsAnew (h : HostState) (hits : OldHits) (new : HostState) : Type 0 where
   pub passes : length h.runtime.ledgers < h.runtime.book.limits.history
-  pub renewed : Renews hits h.runtime.book new.runtime.book
-  pub means : MeansTheSame h.runtime.book new.runtime.book
+  pub renewed : Renews [] hits h.runtime.book new.runtime.book
+  pub means : MeansTheSame [] h.runtime.book new.runtime.book
   pub links : links_of new.runtime.book.definition ≡ links_of h.runtime.book.definition
   pub ledgers : new.runtime.ledgers ≡ map (renewed_ledger hits) h.runtime.ledgers
   pub fresh : IsFresh new.runtime.book (length h.runtime.ledgers)
@@ -45,7 +45,7 @@ pub record BeginsAnew (h : HostState) (hits : OldHits) (new : HostState) : Type 
 -- the first failing test of a renewal
 abbrev pub RefusesAnew : HostState → Fault → Type 0
 RefusesAnew h e =
-    (told : Refusal) × ((e ≡ Refused told) × Refuses (renewal_tests h.runtime.book.limits (length h.runtime.ledgers)) told)
+    (told : Refusal) × ((e ≡ Refused told) × Refuses (renewal_tests h.runtime.book.definition h.runtime.book.limits (length h.runtime.ledgers) []) told)
 
 -- as the number that C passes says
 abbrev pub IsRenewed : HostState → ℕ → HostState → Type 0

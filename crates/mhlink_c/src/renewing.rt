@@ -14,7 +14,7 @@ use crate::held::make_change;
 use crate::host::Host;
 use crate::request::Change;
 use core::mem::replace_with;
-use mh_core::OldHits;
+use mh_core::{OldHits, Renewal};
 use std::alloc::Global;
 
 /// How much of a history is used up: its records, of which there are at most as many as the limit
@@ -63,7 +63,8 @@ impl Host {
     {
         // Read for what a runtime keeps, and then a book.
         let _book = self.runtime.book();
-        self.runtime.renew(hits)?;
+        let renewal = Renewal { again: &[], hits };
+        self.runtime.renew(renewal)?;
         self.runtime.book().kept();
         Ok(())
     }

@@ -20,4 +20,6 @@ mod machines;
 #[cfg(test)]
 mod making;
 #[cfg(test)]
+mod renewals;
+#[cfg(test)]
 mod steps;

@@ -1,7 +1,7 @@
 use Rattle.std.proofs.Common.{◌∙◌, subst, sym}
 use Rattle.mh_site.specs.Targets.{AreTargets}
 use Rattle.mh_core.specs.Books.{BookState}
-use Rattle.mh_core.specs.Records.{bases}
+use Rattle.mh_core.specs.Renewals.{renewed_bases}
 use Rattle.mh_core.specs.Laws.Renewing.{bases_suit}
 use Rattle.mh_core.proofs.book.Book.renewed.Goals as goal
 
@@ -11,5 +11,5 @@ with_targets-requires c =
     let is = c.kept.ensures.book in
     record {
       targets = subst (AreTargets c.self.inside.definition) (sym (c.deref.ensures.value ∙ c.in_ok-bases.ensures.value))
-          (subst (λ (b : BookState). AreTargets b.definition (bases now.definition now.records)) (sym c.self.view_is) (bases_suit now.definition now.records now.limits is.definition is.legal));
+          (subst (λ (b : BookState). AreTargets b.definition (renewed_bases now.definition now.records c.args.again.now)) (sym c.self.view_is) (bases_suit now.definition now.records c.args.again.now now.limits is.definition is.legal));
     }
