@@ -1,8 +1,9 @@
--- No refusal has the number 0.
-use Rattle.std.proofs.Common.{◌≤◌, arith}
+-- No refusal has the number 0, and each is told by itself.
+use Rattle.std.proofs.Common.{◌≡◌, ◌≤◌, arith}
 use Rattle.mh_core.specs.declared.refusal.Refusal.{Refusal}
 use Rattle.mh_core.specs.declared.refusal.Refusal.TheVariants.{NoMemory, HistoryFull, NoSite, NoPoint, WrongType, NoSnapshot, NoPlan, PlanRefused, OldPlan, TotalTooLarge, LedgerFull, GainTooLarge, NoWorker, WrongLevel}
 use Rattle.mh_core.specs.Refusals.{refusal_number}
+use Rattle.mhlink_c.specs.declared.fault.Fault.TheVariants.{Refused}
 
 pub some_number : (told : Refusal) → 1 ≤ refusal_number told
 some_number NoMemory = omega arith
@@ -19,3 +20,6 @@ some_number LedgerFull = omega arith
 some_number GainTooLarge = omega arith
 some_number NoWorker = omega arith
 some_number WrongLevel = omega arith
+
+pub same_refusal : (told other : Refusal) → Refused told ≡ Refused other → told ≡ other
+same_refusal told other is = cc

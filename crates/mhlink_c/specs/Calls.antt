@@ -1,12 +1,13 @@
 -- What a call does, and what it is refused.
-use Rattle.std.specs.Prelude.{◌≡◌, ◌⊎◌, ℕ, List}
+use Rattle.std.specs.Prelude.{◌≡◌, ◌⊎◌, ◌≤◌, ℕ, List, length}
 use Rattle.mh_base.specs.Tests.{Passes, Refuses}
+use Rattle.mh_type.specs.Limits.{most_parameters}
 use Rattle.mh_core.specs.Legal.{answer_of_call}
-use Rattle.mh_core.specs.Runtimes.{CountsHit, call_tests}
+use Rattle.mh_core.specs.Runtimes.{CountsHit, TakesNoMemory, call_tests}
 use Rattle.mh_core.specs.Value.{Value}
 use Rattle.mh_core.specs.declared.refusal.Refusal.{Refusal}
 use Rattle.mh_core.specs.declared.reply.Reply.{Reply}
-use Rattle.mhlink_c.specs.Crossing.{AreNoValues, AreValues, IsReply, text_of_reply}
+use Rattle.mhlink_c.specs.Crossing.{AreNoValues, AreValues, HaveNoText, IsReply, text_of_reply}
 use Rattle.mhlink_c.specs.Hosts.{HostState}
 use Rattle.mhlink_c.specs.Statuses.{no_memory}
 use Rattle.mhlink_c.specs.declared.fault.Fault.{Fault}
@@ -32,6 +33,11 @@ Calls h w s values texts reply new = (a : List Value) × (AreValues values texts
 -- the first failing test of the call
 abbrev pub RefusesRun : HostState → ℕ → ℕ → List Value → Fault → Type 0
 RefusesRun h w s a e = (told : Refusal) × ((e ≡ Refused told) × Refuses (call_tests h.runtime w s a) told)
+
+-- a call that asks for no memory: of at most 16 values, none of them a text, on which no node that is entered has String in its type
+abbrev pub AsksForNone : HostState → ℕ → List MhlinkValue → List ℕ → Type 0
+AsksForNone h s values texts =
+    HaveNoText values × ((length values ≤ most_parameters) × ((a : List Value) → AreValues values texts a → TakesNoMemory h.runtime.book s a))
 
 -- a value is none, memory ran out in reading them, or the runtime refuses the call
 abbrev pub RefusesCall : HostState → ℕ → ℕ → List MhlinkValue → List ℕ → Fault → Type 0

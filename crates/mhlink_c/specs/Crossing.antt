@@ -1,5 +1,6 @@
 -- What crosses to C of values, and of what a call gave.
-use Rattle.std.specs.Prelude.{◌≡◌, ℕ, ◌^◌, ◌-◌, ℤ, pos, FitsSigned, Bool, true, false, List, [], ◌∷◌, drop, length, min, take, Option, Some, None}
+use Rattle.std.specs.List.{All}
+use Rattle.std.specs.Prelude.{◌≡◌, ◌≢◌, ℕ, ◌^◌, ◌-◌, ℤ, pos, FitsSigned, Bool, true, false, List, [], ◌∷◌, drop, length, min, take, Option, Some, None}
 use Rattle.core.specs.Int.{w32}
 use Rattle.mh_core.specs.declared.reply.Reply.{Reply}
 use Rattle.mh_core.specs.declared.reply.Reply.TheVariants.{Called}
@@ -60,6 +61,10 @@ AreValues _ texts _ = ⊥
 -- they are the values of no list
 abbrev pub AreNoValues : List MhlinkValue → List ℕ → Type 0
 AreNoValues given texts = (xs : List Value) → AreValues given texts xs → ⊥
+
+-- none of them is a text
+abbrev pub HaveNoText : List MhlinkValue → Type 0
+HaveNoText given = All (λ v. v.kind ≢ 4) given
 
 -- what a reply has of an outcome
 abbrev pub reply_kind : Outcome → ℕ

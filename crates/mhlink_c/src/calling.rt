@@ -1,8 +1,8 @@
 //! Calls.
 
 ghost use Rattle.std.specs.Prelude.{◌≡◌, ◌≢◌, true, IfErr, IfOk, OnErr};
-ghost use Rattle.mhlink_c.specs.Calls.{Calls, RefusesCall};
-ghost use Rattle.mhlink_c.specs.Statuses.{status_of};
+ghost use Rattle.mhlink_c.specs.Calls.{AsksForNone, Calls, RefusesCall};
+ghost use Rattle.mhlink_c.specs.Statuses.{no_memory, status_of};
 ghost use Rattle.mhlink_c.specs.declared.fault.Fault.{Fault as FaultOf};
 
 use crate::fault::Fault;
@@ -32,6 +32,8 @@ fn call_held(machine: MhlinkMachine, call: Call<'_>) -> (MhlinkMachine, Result<M
         call.entry.values.now call.entry.texts.now reply result.0.value) }
     ensures refused { IfErr result.1 (RefusesCall machine.value call.entry.worker call.entry.site
         call.entry.values.now call.entry.texts.now) }
+    ensures memory { AsksForNone machine.value call.entry.site call.entry.values.now
+        call.entry.texts.now → IfErr result.1 (λ e. e ≡ no_memory → ⊥) }
 {
     let mut host = machine.into_box();
     let reply = host.call(call.alloc, call.worker, call.site, call.values, call.texts);
@@ -39,7 +41,8 @@ fn call_held(machine: MhlinkMachine, call: Call<'_>) -> (MhlinkMachine, Result<M
 }
 
 /// A worker calls a site. `texts` has the bytes of all texts among the values, one behind another.
-/// Where the status is not 0, nothing changes, and `reply` is left alone.
+/// Where the status is not 0, nothing changes, and `reply` is left alone. No memory is asked for where
+/// there are at most 16 values, none is a text, and no node that is entered has String in its type.
 #[unsafe(no_mangle)]
 pub extern "C" fn mhlink_call(
     alloc: Global,
@@ -60,6 +63,8 @@ pub extern "C" fn mhlink_call(
         machine.new.value }
     ensures refused { result ≢ 0 → (e : FaultOf) × ((result ≡ status_of e)
         × RefusesCall machine.old.value worker site values.now texts.now e) }
+    ensures memory { AsksForNone machine.old.value site values.now texts.now
+        → result ≢ status_of no_memory }
 {
     let call = Call {
         alloc,

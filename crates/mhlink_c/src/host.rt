@@ -1,20 +1,22 @@
 //! What a handle leads to: a runtime, the names that its definition declares, and the text that the
 //! last call gave.
 
-ghost use Rattle.std.specs.Prelude.{◌≡◌, Some, IfErr, IfOk, OnErr};
-ghost use Rattle.mhlink_c.specs.Calls.{Answers, Calls, RefusesCall, RefusesRun};
+ghost use Rattle.std.specs.Prelude.{◌≡◌, ◌≤◌, Some, vec_capacity, IfErr, IfOk, OnErr};
+ghost use Rattle.mh_type.specs.Limits.{most_parameters};
+ghost use Rattle.mhlink_c.specs.Calls.{AsksForNone, Calls, RefusesCall};
 ghost use Rattle.mhlink_c.specs.Changes.{Makes, RefusesChange};
 ghost use Rattle.mhlink_c.specs.Crossing.{text_of_outcome};
 ghost use Rattle.mhlink_c.specs.Opening.{Opens, RefusesOpening};
 ghost use Rattle.mhlink_c.specs.Questions.{IsUnknown, Tells};
+ghost use Rattle.mhlink_c.specs.Statuses.{no_memory};
 ghost use Rattle.mhlink_c.specs.Texts.{HasNoText};
 
 use crate::fault::Fault;
 use crate::finding::{link_number, point_number, site_number};
 use crate::request::{Change, Question};
 use crate::texts::{MhlinkLimits, read_definition};
-use crate::value::{MhlinkReply, MhlinkValue, reply_of, value, values};
-use mh_core::{NoMemory, Outcome, Runtime, Text, Value};
+use crate::value::{MhlinkReply, MhlinkValue, read_values, reply_of, value};
+use mh_core::{MOST_PARAMETERS, NoMemory, Outcome, Runtime, Text, Value};
 use mh_text::readers::{Declarations, Scope};
 use std::alloc::Global;
 use std::marker::Model;
@@ -28,6 +30,8 @@ pub(crate) struct Host {
     pub(crate) runtime: Runtime,
     pub(crate) scope: Scope,
     given: Option<Text>,
+    // The arguments of the last call, with room for those of any call.
+    arguments: Vec<Value>,
 }
 
 impl Model for Host {
@@ -37,7 +41,20 @@ impl Model for Host {
 
     ghost coded = { coded_host };
 
+    ghost use Rattle.std.specs.Prelude.{◌≤◌, vec_capacity};
+    ghost use Rattle.mh_type.specs.Limits.{most_parameters};
+
     ghost view = { λ h. record { runtime = h.runtime; scope = h.scope; given = h.given } };
+
+    ghost invariant = { λ h. most_parameters ≤ vec_capacity h.arguments };
+}
+
+// Room for the arguments of any call.
+fn room_for_arguments(alloc: Global) -> Result<Vec<Value>, Fault>
+    ensures room { IfOk result (λ v. most_parameters ≤ vec_capacity v) }
+    ensures refused { IfErr result (λ e. e ≡ no_memory) }
+{
+    Ok(Vec::with_capacity(alloc, MOST_PARAMETERS)?)
 }
 
 impl Host {
@@ -55,12 +72,14 @@ impl Host {
         if workers == 0 || workers > MOST_WORKERS {
             return Err(Fault::BadLimits);
         }
+        let arguments = room_for_arguments(alloc)?;
         let Declarations { definition, scope } = read_definition(alloc, definition)?;
         let runtime = Runtime::open(alloc, &definition, workers, limits)?;
         Ok(Host {
             runtime,
             scope,
             given: None,
+            arguments,
         })
     }
 
@@ -79,30 +98,11 @@ impl Host {
         ensures book { self.new.runtime.book ≡ self.old.runtime.book }
         ensures scope { self.new.scope ≡ self.old.scope }
         ensures kept { OnErr result (self.new ≡ self.old) }
+        ensures memory { AsksForNone self.old site given.now texts.now
+            → IfErr result (λ e. e ≡ no_memory → ⊥) }
     {
-        match given {
-            [] => self.run(worker, site, &[]),
-            [only] => {
-                let argument = [value(alloc, only, texts)?];
-                self.run(worker, site, &argument)
-            }
-            _ => {
-                let arguments = values(alloc, given, texts)?;
-                self.run(worker, site, &arguments)
-            }
-        }
-    }
-
-    // Calls a site, and keeps the text that it gives.
-    #[inline(always)]
-    fn run(&mut self, worker: u32, site: usize, arguments: &[Value]) -> Result<MhlinkReply, Fault>
-        ensures answer { IfOk result (λ reply. Answers self.old worker site arguments.now reply
-            self.new) }
-        ensures refused { IfErr result (RefusesRun self.old worker site arguments.now) }
-        ensures book { self.new.runtime.book ≡ self.old.runtime.book }
-        ensures scope { self.new.scope ≡ self.old.scope }
-        ensures kept { OnErr result (self.new ≡ self.old) }
-    {
+        read_values(&mut self.arguments, alloc, given, texts)?;
+        let arguments = self.arguments.as_slice();
         let (outcome, steps) = self.runtime.call(worker, site, arguments)?;
         let reply = reply_of(&outcome, steps);
         self.given = text_of(outcome);

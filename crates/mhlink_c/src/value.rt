@@ -1,7 +1,7 @@
 //! Values as they cross to C.
 
-ghost use Rattle.std.specs.Prelude.{◌≡◌, ◌⊎◌, length, pos, take, IfErr, IfOk};
-ghost use Rattle.mhlink_c.specs.Crossing.{AreNoValues, AreValues, IsNoText, IsOfItsKind, IsValue, bytes_of, reply_kind, reply_number, reply_steps, value_kind};
+ghost use Rattle.std.specs.Prelude.{◌≡◌, ◌≢◌, ◌⊎◌, ◌≤◌, length, pos, take, vec_capacity, IfErr, IfOk, OnOk};
+ghost use Rattle.mhlink_c.specs.Crossing.{AreNoValues, AreValues, HaveNoText, IsNoText, IsOfItsKind, IsValue, bytes_of, reply_kind, reply_number, reply_steps, value_kind};
 ghost use Rattle.mh_core.specs.Value.{Value as AnyValue};
 ghost use Rattle.mhlink_c.specs.Statuses.{no_memory};
 ghost use Rattle.mhlink_c.specs.declared.fault.Fault.TheVariants.{BadValue};
@@ -34,17 +34,23 @@ pub struct MhlinkReply {
     pub steps: u64,
 }
 
-/// The arguments that C passes: the texts stand one behind another.
-pub(crate) fn values(
+/// Puts the arguments that C passes into a list, in place of what it had: the texts stand one behind
+/// another. Where none is a text and the list has room for all, this takes no memory.
+#[inline(always)]
+pub(crate) fn read_values(
+    values: &mut Vec<Value>,
     alloc: Global,
     given: &[MhlinkValue],
     texts: &[u8],
-) -> Result<Vec<Value>, Fault>
-    ensures values { IfOk result (λ a. AreValues given.now texts.now a.items) }
+) -> Result<(), Fault>
+    ensures values { OnOk result (AreValues given.now texts.now values.new.items) }
+    ensures room { vec_capacity values.old ≤ vec_capacity values.new }
     ensures refused { IfErr result (λ e. ((e ≡ BadValue) × AreNoValues given.now texts.now)
         ⊎ (e ≡ no_memory)) }
+    ensures memory { HaveNoText given.now → length given.now ≤ vec_capacity values.old
+        → IfErr result (λ e. e ≡ BadValue) }
 {
-    let mut values = Vec::new(alloc);
+    values.clear();
     let mut rest = texts;
     for one in given {
         let value = value(alloc, one, rest)?;
@@ -52,7 +58,7 @@ pub(crate) fn values(
         rest = &rest[used..];
         values.push(value)?;
     }
-    Ok(values)
+    Ok(())
 }
 
 // How many bytes of the texts a value has.
@@ -71,6 +77,7 @@ pub(crate) fn value(alloc: Global, given: &MhlinkValue, texts: &[u8]) -> Result<
     ensures value { IfOk result (IsValue given.now texts.now) }
     ensures refused { IfErr result (λ e. ((e ≡ BadValue)
         × ((x : AnyValue) → IsValue given.now texts.now x → ⊥)) ⊎ (e ≡ no_memory)) }
+    ensures memory { given.now.kind ≢ 4 → IfErr result (λ e. e ≡ BadValue) }
 {
     let number = given.number;
     match given.kind {

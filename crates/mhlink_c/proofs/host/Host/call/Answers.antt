@@ -1,9 +1,25 @@
-use Rattle.std.proofs.Common.{◌∷◌, []}
-use Rattle.mhlink_c.proofs.Values.{one_is, refused_call}
+use Rattle.std.proofs.Common.{inr, subst, sym, ◌∙◌}
+use Rattle.std.proofs.lemmas.Result.{err_from_is_err_and}
+use Rattle.mh_base.specs.Tests.{Refuses}
+use Rattle.mh_core.specs.Runtimes.{TakesNoMemory, call_tests}
+use Rattle.mhlink_c.specs.Crossing.{AreValues}
+use Rattle.mhlink_c.specs.Hosts.{HostState}
+use Rattle.mhlink_c.proofs.Statuses.{same_refusal}
 use Rattle.mhlink_c.proofs.host.Host.call.Goals as goal
 
-pub returns-in_ok-value-in-len1-clause-refused : goal.returns-in_ok-value-in-len1-clause-refused
-returns-in_ok-value-in-len1-clause-refused c =
-    let given = c.args.given.now in
-    let are = one_is given _ c.args.texts.now c.in_ok-value-in-len1.field-0 c.in-len1.len_at_least c.in-len1.len_below c.in_ok-value-in-len1.ensures.value in
-    refused_call c.args.self.now c.args.worker c.args.site given c.args.texts.now (c.in_ok-value-in-len1.field-0 ∷ []) c.run-in-len1.result are c.run-in-len1.ensures.refused
+pub returns-in_err-outcome-clause-refused : goal.returns-in_err-outcome-clause-refused
+returns-in_err-outcome-clause-refused c =
+    let p = err_from_is_err_and c.from_residual-in_err-outcome.result c.from_residual-in_err-outcome.ensures.1 in
+    let told = c.in_err-outcome.field-0.0 in
+    let a = c.as_slice-arguments.result.now in
+    let are = subst (AreValues c.args.given.now c.args.texts.now) (sym c.as_slice-arguments.ensures.value) c.in_ok-read_values.ensures.values in
+    let Tells : HostState → Type 0 = λ h. Refuses (call_tests h.runtime c.args.worker c.args.site a) told in
+    rw p.1 (inr (inr (a, (are, (told, (p.2, subst Tells c.self.view_is c.in_err-outcome.ensures.refused))))))
+
+pub returns-in_err-outcome-clause-memory : goal.returns-in_err-outcome-clause-memory
+returns-in_err-outcome-clause-memory c asks =
+    let p = err_from_is_err_and c.from_residual-in_err-outcome.result c.from_residual-in_err-outcome.ensures.1 in
+    let a = c.as_slice-arguments.result.now in
+    let are = subst (AreValues c.args.given.now c.args.texts.now) (sym c.as_slice-arguments.ensures.value) c.in_ok-read_values.ensures.values in
+    let Takes : HostState → Type 0 = λ h. TakesNoMemory h.runtime.book c.args.site a in
+    rw p.1 (λ is. c.in_err-outcome.ensures.memory (subst Takes (sym c.self.view_is) (asks.1.1 a are)) (same_refusal _ _ (sym p.2 ∙ is)))
