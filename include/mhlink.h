@@ -130,11 +130,13 @@ uint32_t mhlink_certificate(mhlink_machine *machine, size_t snapshot, uint8_t *b
 /* How much of the history is used up; it is never refused. */
 uint32_t mhlink_used(mhlink_machine *machine, mhlink_usage *used);
 /* Begins a new history, with MHLINK_KEEP_HITS, MHLINK_HALVE_HITS or MHLINK_DROP_HITS; another number is MHLINK_UNKNOWN. Each
-   call means what it meant, points that are invalid stay so, hits that are not flushed stay, and so do the machine, names, and
-   the numbers of sites, points and links. Snapshots and plans are numbered from 1 again, and no site holds a link: a host takes
-   a snapshot, plans and installs at once. One record more than there are workers is used up; where the limit of the history is
-   no more than the workers, the status is MHLINK_HISTORY_FULL. */
-uint32_t mhlink_renew(mhlink_machine *machine, uint32_t hits);
+   call means what it meant, hits that are not flushed stay, and so do the machine, names, and the numbers of sites, points and
+   links. Points that are invalid stay so, but for those in `again`, which are given back: they are valid again, and where a
+   site's tree has one that was invalid, its fallback stands in its place, so that a host may use its number for the next version
+   of a method. Snapshots and plans are numbered from 1 again, and no site holds a link: a host takes a snapshot, plans and
+   installs at once. One record more than there are workers is used up; where the limit of the history is no more than the
+   workers, the status is MHLINK_HISTORY_FULL. */
+uint32_t mhlink_renew(mhlink_machine *machine, const uint32_t *again, size_t count, uint32_t hits);
 
 /* Unflushed hits of a link by a worker, its hits in the totals, and how many links a site holds. */
 uint32_t mhlink_hits(mhlink_machine *machine, uint32_t worker, size_t link, uint64_t *hits);

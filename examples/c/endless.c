@@ -1,23 +1,25 @@
 /* A host that never ends: an interpreter whose four classes are redefined in every round, whose call sites are planned and linked
-   in every round, and which begins a new history whenever mhlink_used says that the one it has is nearly used up. Each answer,
-   total and number is compared with what plain arrays say. `endless ROUNDS` makes so many rounds, and else 500. */
+   in every round, and which begins a new history whenever mhlink_used says that the one it has is nearly used up. Points on which
+   methods rested are given back then, so that it needs no more of them than one history uses. Each answer, total and number is
+   compared with what plain arrays say, and the resident memory at the end with that after the first renewal. `endless ROUNDS`
+   makes so many rounds, and else 2,000. */
 #include "mhlink.h"
 #include <inttypes.h>
 #include <stdio.h>
 #include <stdlib.h>
 #include <string.h>
 
-enum { SITES = 4, CLASSES = 5, LINKED = 4, POINTS = 1024, CALLS = 500, HISTORY = 600, ROUND = 6 };
+enum { SITES = 4, CLASSES = 5, LINKED = 4, POINTS = 128, CALLS = 5000, HISTORY = 600, ROUND = 7 };
 
-/* What the host knows: the method of each class at each site, on which point it rests, or none, and whether that is valid; and
-   the hits of each link, flushed and not. The last class of a site has no link. */
+/* What the host knows: the method of each class at each site, on which point it rests, or none, and whether that is valid; the
+   points that it may use anew; and the hits of each link, flushed and not. The last class of a site has no link. */
 static int32_t methods[SITES][CLASSES];
-static uint32_t rests_on[SITES], next_point;
+static uint32_t rests_on[SITES] = {POINTS, POINTS, POINTS, POINTS}, free_points[POINTS], free_count;
 static int is_valid[SITES];
 static uint64_t flushed[SITES][LINKED], unflushed[SITES][LINKED];
 
 static mhlink_machine machine;
-static uint64_t calls, changes, plans, renewals, differ;
+static uint64_t calls, changes, plans, renewals, differ, pages_then;
 static char text[1 << 16];
 
 static const uint8_t *bytes(const char *it) { return (const uint8_t *)it; }
@@ -39,9 +41,19 @@ static char *put_tree(char *to, uint32_t site) {
     return to;
 }
 
-/* The methods of a site rest on the next point, as long as there is one. */
+/* All points on which no site rests may be used anew, the first one first. */
+static void free_others(void) {
+    free_count = 0;
+    for (uint32_t point = POINTS; point-- > 0;) {
+        int rests = 0;
+        for (int site = 0; site < SITES; site++) rests |= rests_on[site] == point;
+        if (!rests) free_points[free_count++] = point;
+    }
+}
+
+/* The methods of a site rest on a point that may be used, as long as there is one. */
 static void rest_on_next(uint32_t site) {
-    rests_on[site] = next_point < POINTS ? next_point++ : POINTS;
+    rests_on[site] = free_count ? free_points[--free_count] : POINTS;
     is_valid[site] = 1;
 }
 
@@ -49,6 +61,7 @@ static uint32_t open_machine(void) {
     char *to = text + sprintf(text, "{\"version\":2,\"points\":[");
     for (int point = 0; point < POINTS; point++) to += sprintf(to, "%s{\"name\":\"p%d\",\"cost\":1}", point ? "," : "", point);
     to += sprintf(to, "],\"sites\":[");
+    free_others();
     for (uint32_t site = 0; site < SITES; site++) {
         for (int class = 1; class <= CLASSES; class++) methods[site][class - 1] = (int32_t)site * 10 + class;
         rest_on_next(site);
@@ -153,14 +166,37 @@ static uint32_t is_nearly_used(int *nearly) {
     return status;
 }
 
-/* A new history, in which hits of the totals weigh half. Nothing of it is used up but its first two records, hits that were not
-   flushed are still there, and no site holds a link. */
+/* The pages of memory that stand in this process, or 0 where the system does not tell. */
+static uint64_t resident(void) {
+    uint64_t all = 0, pages = 0;
+    FILE *file = fopen("/proc/self/statm", "r");
+    if (!file) return 0;
+    if (fscanf(file, "%" SCNu64 " %" SCNu64, &all, &pages) != 2) pages = 0;
+    fclose(file);
+    return pages;
+}
+
+/* The methods of a site do not stand any more, and it has no other tree yet: it asks the host. */
+static uint32_t leave_to_host(uint32_t site) {
+    uint32_t status = mhlink_invalidate(&machine, &rests_on[site], 1);
+    if (status) return status;
+    changes++;
+    is_valid[site] = 0;
+    rests_on[site] = POINTS;
+    return MHLINK_OK;
+}
+
+/* A new history, in which hits of the totals weigh half, and points on which no site rests are valid again. Nothing of it is used
+   up but its first two records, hits that were not flushed are still there, and no site holds a link. */
 static uint32_t renew(void) {
     mhlink_usage used = {9, 9, 9};
-    uint32_t status = mhlink_renew(&machine, MHLINK_HALVE_HITS);
+    uint32_t status = leave_to_host(0);
+    free_others();
+    if (!status) status = mhlink_renew(&machine, free_points, free_count, MHLINK_HALVE_HITS);
     if (!status) status = mhlink_used(&machine, &used);
+    if (!status) status = send(0, CLASSES);
     if (status) return status;
-    renewals++;
+    if (!renewals++) pages_then = resident();
     same(used.records, 2);
     same(used.snapshots, 0);
     same(used.plans, 0);
@@ -195,7 +231,8 @@ int main(int count, char **words) {
         printf("open: status %" PRIu32 "\n", status);
         return 1;
     }
-    status = run(count > 1 ? strtoull(words[1], NULL, 10) : 500);
+    status = run(count > 1 ? strtoull(words[1], NULL, 10) : 2000);
+    if (renewals) same(resident() > 2 * pages_then, 0);
     mhlink_close(machine);
     printf("%" PRIu64 " calls, %" PRIu64 " changes, %" PRIu64 " plans, %" PRIu64 " renewals\n", calls, changes, plans, renewals);
     printf("status %" PRIu32 ", %" PRIu64 " differ\n", status, differ);

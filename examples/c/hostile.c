@@ -71,7 +71,8 @@ static void wrong_numbers(void) {
         expect("install", mhlink_install(&machine, n, &out), MHLINK_NO_PLAN);
         expect("flush", mhlink_flush(&machine, 1 + i), MHLINK_NO_WORKER);
         expect("invalidate", mhlink_invalidate(&machine, &point, 1), MHLINK_NO_POINT);
-        expect("renew", mhlink_renew(&machine, i ? UINT32_MAX >> i : 3), MHLINK_UNKNOWN);
+        expect("renew", mhlink_renew(&machine, NULL, 0, i ? UINT32_MAX >> i : 3), MHLINK_UNKNOWN);
+        expect("again", mhlink_renew(&machine, &point, 1, MHLINK_KEEP_HITS), MHLINK_NO_POINT);
         point = UINT32_MAX >> i;
     }
 }
@@ -179,12 +180,12 @@ static void renewals(void) {
     uint64_t part;
     expect("open", mhlink_open(bytes(definition), strlen(definition), 1, &limits, &short_one, &part), MHLINK_OK);
     for (uint32_t hits = MHLINK_KEEP_HITS; hits <= MHLINK_DROP_HITS; hits++)
-        expect("no room", mhlink_renew(&short_one, hits), MHLINK_HISTORY_FULL);
-    expect("no number", mhlink_renew(&short_one, MHLINK_DROP_HITS + 1), MHLINK_UNKNOWN);
+        expect("no room", mhlink_renew(&short_one, NULL, 0, hits), MHLINK_HISTORY_FULL);
+    expect("no number", mhlink_renew(&short_one, NULL, 0, MHLINK_DROP_HITS + 1), MHLINK_UNKNOWN);
     expect("used", mhlink_used(&short_one, &used), MHLINK_OK);
     if (used.records || used.snapshots || used.plans) wrong++;
     mhlink_close(short_one);
-    for (uint32_t hits = MHLINK_KEEP_HITS; hits <= MHLINK_DROP_HITS; hits++) expect("renew", mhlink_renew(&machine, hits), MHLINK_OK);
+    for (uint32_t hits = MHLINK_KEEP_HITS; hits <= MHLINK_DROP_HITS; hits++) expect("renew", mhlink_renew(&machine, NULL, 0, hits), MHLINK_OK);
     expect("used", mhlink_used(&machine, &used), MHLINK_OK);
     if (used.records != 2 || used.snapshots || used.plans) wrong++;
 }

@@ -83,7 +83,7 @@ int main(void) {
     ASK(mhlink_total(&machine, 0, &part));
     printf("f(1): %" PRId64 ", hits %" PRIu64 ", total %" PRIu64 "\n", reply.number, number, part);
     mhlink_usage used = {0, 0, 0};
-    ASK(mhlink_renew(&machine, MHLINK_HALVE_HITS));
+    ASK(mhlink_renew(&machine, &point, 1, MHLINK_HALVE_HITS));
     ASK(mhlink_used(&machine, &used));
     ASK(mhlink_call(&machine, 0, 0, &one, 1, bytes(""), 0, &reply));
     ASK(mhlink_hits(&machine, 0, 0, &number));

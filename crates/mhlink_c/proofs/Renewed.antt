@@ -26,9 +26,9 @@ plans_carried : (r : List Record) (shares : List (List ℕ)) (n : ℕ) → plans
 plans_carried r shares zero = refl
 plans_carried r shares (suc n) = plans_carried r shares n
 
-pub fresh_is : (h : OldHits) (b new : BookState) (ledgers : List LedgerState) → IsBook new → AreHeld b.totals ledgers → Renews [] h b new → IsFresh new (length ledgers)
-fresh_is h b new ledgers is held renews =
-    let first : List Record = Invalidated (fallen b.definition b.records []) ∷ [] in
+pub fresh_is : (again : List ℕ) (h : OldHits) (b new : BookState) (ledgers : List LedgerState) → IsBook new → AreHeld b.totals ledgers → Renews again h b new → IsFresh new (length ledgers)
+fresh_is again h b new ledgers is held renews =
+    let first : List Record = Invalidated (fallen b.definition b.records again) ∷ [] in
     let shares = renewed_shares h b.totals in
     let workers : length shares ≡ length ledgers = length-map b.totals.shares (map (left_of h)) ∙ sym held.count in
     record {

@@ -109,7 +109,7 @@ Makes h change.Snapshot n new = TakesSnapshot h n new
 Makes h (change.Plan snapshot) n new = PublishesBest h snapshot n new
 Makes h (change.Offer snapshot plan) n new = PublishesOffer h snapshot plan.now n new
 Makes h (change.Install plan) n new = Installs h plan n new
-Makes h (change.Renew hits) n new = IsRenewed h hits new
+Makes h (change.Renew again hits) n new = IsRenewed h again.now hits new
 
 -- what a change is refused with
 abbrev pub RefusesChange : HostState → Change → Fault → Type 0
@@ -120,4 +120,4 @@ RefusesChange h change.Snapshot e = RefusesRecord h Snapped e
 RefusesChange h (change.Plan snapshot) e = RefusesBest h snapshot e
 RefusesChange h (change.Offer snapshot plan) e = RefusesOffer h snapshot plan.now e
 RefusesChange h (change.Install plan) e = RefusesRecord h (Installed plan) e
-RefusesChange h (change.Renew hits) e = RefusesRenewal h hits e
+RefusesChange h (change.Renew again hits) e = RefusesRenewal h again.now hits e

@@ -1,5 +1,5 @@
 -- How much of a machine's history is used up, and what a renewal makes of a machine.
-use Rattle.std.specs.Prelude.{◌≡◌, ◌⊎◌, ◌<◌, ◌+◌, ℕ, [], length, map}
+use Rattle.std.specs.Prelude.{◌≡◌, ◌⊎◌, ◌<◌, ◌+◌, ℕ, List, [], length, map}
 use Rattle.mh_base.specs.Tests.{Refuses}
 use Rattle.mh_ledger.specs.Renewals.{renewed_ledger}
 use Rattle.mh_ledger.specs.declared.old_hits.OldHits.{OldHits}
@@ -32,27 +32,27 @@ pub record IsFresh (b : BookState) (workers : ℕ) : Type 0 where
   pub snapshots : b.snapshots ≡ []
   pub plans : b.plans ≡ []
 
--- a new history begins, with what is left of the flushed hits
-pub record BeginsAnew (h : HostState) (hits : OldHits) (new : HostState) : Type 0 where
+-- a new history begins, in which these points are valid again, with what is left of the flushed hits
+pub record BeginsAnew (h : HostState) (again : List ℕ) (hits : OldHits) (new : HostState) : Type 0 where
   pub passes : length h.runtime.ledgers < h.runtime.book.limits.history
-  pub renewed : Renews [] hits h.runtime.book new.runtime.book
-  pub means : MeansTheSame [] h.runtime.book new.runtime.book
+  pub renewed : Renews again hits h.runtime.book new.runtime.book
+  pub means : MeansTheSame again h.runtime.book new.runtime.book
   pub links : links_of new.runtime.book.definition ≡ links_of h.runtime.book.definition
   pub ledgers : new.runtime.ledgers ≡ map (renewed_ledger hits) h.runtime.ledgers
   pub fresh : IsFresh new.runtime.book (length h.runtime.ledgers)
   pub kept : IsKept h new
 
 -- the first failing test of a renewal
-abbrev pub RefusesAnew : HostState → Fault → Type 0
-RefusesAnew h e =
-    (told : Refusal) × ((e ≡ Refused told) × Refuses (renewal_tests h.runtime.book.definition h.runtime.book.limits (length h.runtime.ledgers) []) told)
+abbrev pub RefusesAnew : HostState → List ℕ → Fault → Type 0
+RefusesAnew h again e =
+    (told : Refusal) × ((e ≡ Refused told) × Refuses (renewal_tests h.runtime.book.definition h.runtime.book.limits (length h.runtime.ledgers) again) told)
 
 -- as the number that C passes says
-abbrev pub IsRenewed : HostState → ℕ → HostState → Type 0
-IsRenewed h number new = (hits : OldHits) × ((number ≡ hits_number hits) × BeginsAnew h hits new)
+abbrev pub IsRenewed : HostState → List ℕ → ℕ → HostState → Type 0
+IsRenewed h again number new = (hits : OldHits) × ((number ≡ hits_number hits) × BeginsAnew h again hits new)
 
 -- the number is none, or the first failing test of a renewal
-abbrev pub RefusesRenewal : HostState → ℕ → Fault → Type 0
-RefusesRenewal h number e =
+abbrev pub RefusesRenewal : HostState → List ℕ → ℕ → Fault → Type 0
+RefusesRenewal h again number e =
     (((hits : OldHits) → number ≡ hits_number hits → ⊥) × (e ≡ Unknown))
-    ⊎ ((hits : OldHits) × ((number ≡ hits_number hits) × RefusesAnew h e))
+    ⊎ ((hits : OldHits) × ((number ≡ hits_number hits) × RefusesAnew h again e))

@@ -152,7 +152,7 @@ impl Host {
             Change::Plan(snapshot) => self.plan(alloc, snapshot),
             Change::Offer { snapshot, plan } => self.offer(alloc, snapshot, plan),
             Change::Install(plan) => self.install(plan),
-            Change::Renew(hits) => self.renew(hits),
+            Change::Renew { again, hits } => self.renew(again, hits),
         }
     }
 }

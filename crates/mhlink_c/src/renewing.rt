@@ -43,28 +43,29 @@ impl Host {
         }
     }
 
-    /// Begins a new history, with what the number says of the flushed hits.
-    pub(crate) fn renew(&mut self, hits: u32) -> Result<u64, Fault>
-        ensures renewed { OnOk result (IsRenewed self.old hits self.new) }
-        ensures refused { IfErr result (RefusesRenewal self.old hits) }
+    /// Begins a new history, in which these points are valid again, with what the number says of the
+    /// flushed hits.
+    pub(crate) fn renew(&mut self, again: &[u32], hits: u32) -> Result<u64, Fault>
+        ensures renewed { OnOk result (IsRenewed self.old again.now hits self.new) }
+        ensures refused { IfErr result (RefusesRenewal self.old again.now hits) }
         ensures kept { OnErr result (self.new ≡ self.old) }
     {
         let hits = old_hits(hits)?;
-        self.begin_anew(hits)?;
+        self.begin_anew(again, hits)?;
         Ok(0)
     }
 
-    // Begins a new history with what is left of the flushed hits.
+    // Begins a new history, in which these points are valid again, with what is left of the flushed
+    // hits.
     #[tactic(auto, using(crate::proofs::Renewed::fresh_is))]
-    fn begin_anew(&mut self, hits: OldHits) -> Result<(), Fault>
-        ensures renewed { OnOk result (BeginsAnew self.old hits self.new) }
-        ensures refused { IfErr result (RefusesAnew self.old) }
+    fn begin_anew(&mut self, again: &[u32], hits: OldHits) -> Result<(), Fault>
+        ensures renewed { OnOk result (BeginsAnew self.old again.now hits self.new) }
+        ensures refused { IfErr result (RefusesAnew self.old again.now) }
         ensures kept { OnErr result (self.new ≡ self.old) }
     {
         // Read for what a runtime keeps, and then a book.
         let _book = self.runtime.book();
-        let renewal = Renewal { again: &[], hits };
-        self.runtime.renew(renewal)?;
+        self.runtime.renew(Renewal { again, hits })?;
         self.runtime.book().kept();
         Ok(())
     }
@@ -111,23 +112,31 @@ pub extern "C" fn mhlink_used(machine: &mut MhlinkMachine, used: &mut MhlinkUsed
 }
 
 /// Begins a new history, of which nothing is used up but its first records, one more than there are
-/// workers. Each site's calls mean what they meant, the same points are valid, and the handle,
-/// names, and the numbers of sites, points and links stay. Of the flushed hits all go on counting
-/// where `hits` is 0, half of each worker's at a link, rounded down, where it is 1, and none where
-/// it is 2; hits that were not flushed stay. No site holds a link, and snapshots and plans are
-/// numbered from 1 again. The text of the last call stays.
+/// workers. Each site's calls mean what they meant, and the handle, names, and the numbers of sites,
+/// points and links stay. The same points are valid, and those in `again`: where one of them was
+/// invalid, it gives way to its fallback in each site's tree, so that its number may be used anew.
+/// Of the flushed hits all go on counting where `hits` is 0, half of each worker's at a link,
+/// rounded down, where it is 1, and none where it is 2; hits that were not flushed stay. No site
+/// holds a link, and snapshots and plans are numbered from 1 again. The text of the last call stays.
 ///
 /// Refused as unknown with another number of `hits`, then where the limit of the history is not
-/// above the number of workers, and then where memory runs out.
+/// above the number of workers, where a point in `again` is not there, and then where memory runs
+/// out.
 #[unsafe(no_mangle)]
-pub extern "C" fn mhlink_renew(alloc: Global, machine: &mut MhlinkMachine, hits: u32) -> u32
+pub extern "C" fn mhlink_renew(
+    alloc: Global,
+    machine: &mut MhlinkMachine,
+    again: &[u32],
+    hits: u32,
+) -> u32
     requires full { machine.old.full ≡ true }
     ensures full { machine.new.full ≡ true }
-    ensures renewed { result ≡ 0 → IsRenewed machine.old.value hits machine.new.value }
+    ensures renewed { result ≡ 0 → IsRenewed machine.old.value again.now hits machine.new.value }
     ensures refused { result ≢ 0 → (e : FaultOf) × ((result ≡ status_of e)
-        × RefusesRenewal machine.old.value hits e) }
+        × RefusesRenewal machine.old.value again.now hits e) }
     ensures kept { result ≢ 0 → machine.new.value ≡ machine.old.value }
 {
     let mut nothing = 0;
-    make_change(alloc, machine, Change::Renew(hits), &mut nothing)
+    let change = Change::Renew { again, hits };
+    make_change(alloc, machine, change, &mut nothing)
 }

@@ -43,6 +43,7 @@ pub(crate) enum Change<'a> {
     Offer { snapshot: usize, plan: &'a [u8] },
     /// A plan is installed; answered with the number of sites that it links.
     Install(usize),
-    /// A new history begins, with what this number says of the flushed hits; answered with 0.
-    Renew(u32),
+    /// A new history begins, in which these points are valid again, with what the number says of the
+    /// flushed hits; answered with 0.
+    Renew { again: &'a [u32], hits: u32 },
 }
