@@ -12,6 +12,8 @@ mod definitions;
 #[cfg(test)]
 mod events;
 #[cfg(test)]
+mod extending;
+#[cfg(test)]
 mod invocations;
 #[cfg(test)]
 mod ledger;
@@ -21,5 +23,7 @@ mod machines;
 mod making;
 #[cfg(test)]
 mod renewals;
+#[cfg(test)]
+mod resuming;
 #[cfg(test)]
 mod steps;
