@@ -99,6 +99,13 @@ uint32_t mhlink_fault_text(uint32_t status, uint64_t part, uint8_t *buffer, size
 /* A machine of a definition in JSON (docs/FORMATS.md), with 1 to 64 workers. `part` gets the number of the fault's cause. */
 uint32_t mhlink_open(const uint8_t *definition, size_t length, uint32_t workers, const mhlink_limits *limits,
                      mhlink_machine *machine, uint64_t *part);
+/* The same, where the machine goes on from what an earlier one kept: these points are invalid, and the totals, one for each link
+   of the definition, count already. The first two records are these. Other than mhlink_open, the status may be MHLINK_NO_POINT,
+   MHLINK_UNKNOWN for another number of totals than of links, MHLINK_HISTORY_FULL for a limit of the history below 2, and
+   MHLINK_TOTAL_TOO_LARGE. */
+uint32_t mhlink_resume(const uint8_t *definition, size_t length, uint32_t workers, const mhlink_limits *limits,
+                       const uint32_t *invalid, size_t count, const uint64_t *totals, size_t links, mhlink_machine *machine,
+                       uint64_t *part);
 void mhlink_close(mhlink_machine machine);
 
 /* Numbers by name, and of a site's link by its key, which are looked up once. */

@@ -190,6 +190,34 @@ static void renewals(void) {
     if (used.records != 2 || used.snapshots || used.plans) wrong++;
 }
 
+static uint32_t resume(uint32_t workers, mhlink_limits limits, uint32_t invalid, size_t links, mhlink_machine *resumed) {
+    static const uint64_t totals[] = {7, 7};
+    uint64_t part;
+    return mhlink_resume(bytes(definition), strlen(definition), workers, &limits, &invalid, 1, totals, links, resumed, &part);
+}
+
+/* A machine does not go on from what is not there or past a limit, and one that goes on has the points and totals of before. */
+static void resumptions(void) {
+    const mhlink_limits short_one = {1, 1, 7}, narrow = {2, 1, 6};
+    const mhlink_value one = {MHLINK_INT, 1};
+    mhlink_machine resumed = {NULL};
+    mhlink_reply reply = {0, 0, 0};
+    mhlink_usage used = {9, 9, 9};
+    uint64_t total = 0;
+    expect("resume without a worker", resume(0, widest, 0, 1, &resumed), MHLINK_BAD_LIMITS);
+    expect("resume without a point", resume(1, widest, 1, 1, &resumed), MHLINK_NO_POINT);
+    expect("resume without a total", resume(1, widest, 0, 0, &resumed), MHLINK_UNKNOWN);
+    expect("resume with two totals", resume(1, widest, 0, 2, &resumed), MHLINK_UNKNOWN);
+    expect("resume without room", resume(1, short_one, 0, 1, &resumed), MHLINK_HISTORY_FULL);
+    expect("resume past a limit", resume(1, narrow, 0, 1, &resumed), MHLINK_TOTAL_TOO_LARGE);
+    expect("resume", resume(1, widest, 0, 1, &resumed), MHLINK_OK);
+    expect("resumed total", mhlink_total(&resumed, 0, &total), MHLINK_OK);
+    expect("resumed call", mhlink_call(&resumed, 0, 0, &one, 1, bytes(""), 0, &reply), MHLINK_OK);
+    expect("resumed records", mhlink_used(&resumed, &used), MHLINK_OK);
+    if (total != 7 || reply.number != -1 || used.records != 2) wrong++;
+    mhlink_close(resumed);
+}
+
 static void wrong_problems(void) {
     const uint64_t costs[] = {5};
     const uint32_t needs[] = {0, 0, 1};
@@ -262,6 +290,7 @@ int main(void) {
     cut_json();
     wrong_openings();
     renewals();
+    resumptions();
     wrong_problems();
     flows();
     mhlink_close(machine);

@@ -9,6 +9,7 @@ pub mod Questions
 pub mod Renewals
 pub mod Changes
 pub mod Opening
+pub mod Resumptions
 pub mod Texts
 pub mod Problems
 pub mod Flows

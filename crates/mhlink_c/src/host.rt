@@ -1,22 +1,23 @@
 //! What a handle leads to: a runtime, the names that its definition declares, and the text that the
 //! last call gave.
 
-ghost use Rattle.std.specs.Prelude.{◌≡◌, ◌≤◌, Some, vec_capacity, IfErr, IfOk, OnErr};
+ghost use Rattle.std.specs.Prelude.{◌≡◌, ◌≤◌, Some, None, vec_capacity, IfErr, IfOk, OnErr};
 ghost use Rattle.mh_type.specs.Limits.{most_parameters};
 ghost use Rattle.mhlink_c.specs.Calls.{AsksForNone, Calls, RefusesCall};
 ghost use Rattle.mhlink_c.specs.Changes.{Makes, RefusesChange};
 ghost use Rattle.mhlink_c.specs.Crossing.{text_of_outcome};
-ghost use Rattle.mhlink_c.specs.Opening.{Opens, RefusesOpening};
+ghost use Rattle.mhlink_c.specs.Opening.{AreLimits, Opens, RefusesOpening, limits_of};
 ghost use Rattle.mhlink_c.specs.Questions.{IsUnknown, Tells};
 ghost use Rattle.mhlink_c.specs.Statuses.{no_memory};
 ghost use Rattle.mhlink_c.specs.Texts.{HasNoText};
+ghost use Rattle.mhlink_c.specs.declared.fault.Fault.TheVariants.{BadLimits};
 
 use crate::fault::Fault;
 use crate::finding::{link_number, point_number, site_number};
 use crate::request::{Change, Question};
 use crate::texts::{MhlinkLimits, read_definition};
 use crate::value::{MhlinkReply, MhlinkValue, read_values, reply_of, value};
-use mh_core::{MOST_PARAMETERS, NoMemory, Outcome, Runtime, Text, Value};
+use mh_core::{Limits, MOST_PARAMETERS, NoMemory, Outcome, Runtime, Text, Value};
 use mh_text::readers::{Declarations, Scope};
 use std::alloc::Global;
 use std::marker::Model;
@@ -49,8 +50,20 @@ impl Model for Host {
     ghost invariant = { λ h. most_parameters ≤ vec_capacity h.arguments };
 }
 
+// The limits, where each and the number of workers is in its range.
+pub(crate) fn limits_for(workers: u32, given: &MhlinkLimits) -> Result<Limits, Fault>
+    ensures value { IfOk result (λ l. (l ≡ limits_of given.now) × AreLimits workers given.now) }
+    ensures bad { IfErr result (λ e. (AreLimits workers given.now → ⊥) × (e ≡ BadLimits)) }
+{
+    let limits = given.limits()?;
+    if workers == 0 || workers > MOST_WORKERS {
+        return Err(Fault::BadLimits);
+    }
+    Ok(limits)
+}
+
 // Room for the arguments of any call.
-fn room_for_arguments(alloc: Global) -> Result<Vec<Value>, Fault>
+pub(crate) fn room_for_arguments(alloc: Global) -> Result<Vec<Value>, Fault>
     ensures room { IfOk result (λ v. most_parameters ≤ vec_capacity v) }
     ensures refused { IfErr result (λ e. e ≡ no_memory) }
 {
@@ -68,19 +81,24 @@ impl Host {
         ensures opened { IfOk result (Opens definition.now workers limits.now) }
         ensures refused { IfErr result (RefusesOpening definition.now workers limits.now) }
     {
-        let limits = limits.limits()?;
-        if workers == 0 || workers > MOST_WORKERS {
-            return Err(Fault::BadLimits);
-        }
+        let limits = limits_for(workers, limits)?;
         let arguments = room_for_arguments(alloc)?;
         let Declarations { definition, scope } = read_definition(alloc, definition)?;
         let runtime = Runtime::open(alloc, &definition, workers, limits)?;
-        Ok(Host {
+        Ok(Host::over(runtime, scope, arguments))
+    }
+
+    // The host of a runtime and of the names of its definition, with room for the arguments of calls.
+    pub(crate) fn over(runtime: Runtime, scope: Scope, arguments: Vec<Value>) -> Host
+        requires room { most_parameters ≤ vec_capacity arguments }
+        ensures value { result ≡ record { runtime = runtime; scope = scope; given = None } }
+    {
+        Host {
             runtime,
             scope,
             given: None,
             arguments,
-        })
+        }
     }
 
     /// What a worker's call of a site gives. A text is kept until the next call.

@@ -22,6 +22,7 @@ mod planning;
 mod reading;
 mod renewing;
 mod request;
+mod resuming;
 mod texts;
 mod value;
 mod wording;

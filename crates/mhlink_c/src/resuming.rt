@@ -1,0 +1,151 @@
+//! Machines that go on from what an earlier one kept.
+
+ghost use Rattle.std.specs.Prelude.{◌≡◌, ◌≢◌, ◌⊎◌, true, IfErr, IfOk};
+ghost use Rattle.mh_base.specs.Tests.{Refuses};
+ghost use Rattle.mh_core.specs.Resumptions.{IsResumed, resumption_tests};
+ghost use Rattle.mh_core.specs.declared.resuming.ResumptionFault.{ResumptionFault as ResumptionFaultOf};
+ghost use Rattle.mhlink_c.specs.Resumptions.{RefusesResuming, Resumes, of_resumption};
+ghost use Rattle.mhlink_c.specs.Statuses.{no_memory, part_of, status_of};
+ghost use Rattle.mhlink_c.specs.declared.fault.Fault.{Fault as FaultOf};
+
+use crate::fault::Fault;
+use crate::handle::MhlinkMachine;
+use crate::host::{Host, limits_for, room_for_arguments};
+use crate::texts::{MhlinkLimits, read_definition};
+use mh_core::{Definition, Limits, Listing, Refusal, ResumptionFault, Runtime};
+use mh_text::readers::Declarations;
+use std::alloc::Global;
+
+/// What an earlier machine kept, as C passes it.
+#[derive(Clone, Copy, Debug)]
+pub(crate) struct Earlier<'a> {
+    /// The points that were invalid.
+    pub(crate) invalid: &'a [u32],
+    /// The total of each link.
+    pub(crate) totals: &'a [u64],
+}
+
+impl From<ResumptionFault> for Fault {
+    ghost use Rattle.std.specs.Prelude.{◌≡◌};
+    ghost use Rattle.mhlink_c.specs.Resumptions.{of_resumption};
+
+    ghost from_gives = { λ told e. e ≡ of_resumption told };
+
+    fn from(fault: ResumptionFault) -> Fault {
+        match fault {
+            ResumptionFault::NoWorker => Fault::BadLimits,
+            ResumptionFault::NoPoint => Fault::Refused(Refusal::NoPoint),
+            ResumptionFault::WrongCount => Fault::Unknown,
+            ResumptionFault::HistoryFull => Fault::Refused(Refusal::HistoryFull),
+            ResumptionFault::TotalTooLarge => Fault::Refused(Refusal::TotalTooLarge),
+            ResumptionFault::NoMemory => Fault::Refused(Refusal::NoMemory),
+        }
+    }
+}
+
+impl Host {
+    /// The host of a definition in JSON, which goes on from what an earlier one kept.
+    pub(crate) fn resume(
+        alloc: Global,
+        definition: &[u8],
+        workers: u32,
+        limits: &MhlinkLimits,
+        earlier: Earlier<'_>,
+    ) -> Result<Host, Fault>
+        ensures resumed { IfOk result (Resumes definition.now workers limits.now
+            earlier.entry.invalid.now earlier.entry.totals.now) }
+        ensures refused { IfErr result (RefusesResuming definition.now workers limits.now
+            earlier.entry.invalid.now earlier.entry.totals.now) }
+    {
+        let limits = limits_for(workers, limits)?;
+        let arguments = room_for_arguments(alloc)?;
+        let Declarations { definition, scope } = read_definition(alloc, definition)?;
+        let runtime = resumed(alloc, &definition, workers, limits, earlier)?;
+        Ok(Host::over(runtime, scope, arguments))
+    }
+}
+
+// The runtime of a definition, which goes on from what an earlier one kept.
+fn resumed(
+    alloc: Global,
+    definition: &Definition,
+    workers: u32,
+    limits: Limits,
+    earlier: Earlier<'_>,
+) -> Result<Runtime, Fault>
+    ensures resumed { IfOk result (IsResumed definition.now workers limits
+        earlier.entry.invalid.now earlier.entry.totals.now) }
+    ensures refused { IfErr result (λ e. (e ≡ no_memory) ⊎ ((told : ResumptionFaultOf)
+        × ((e ≡ of_resumption told) × Refuses (resumption_tests definition.now workers limits
+        earlier.entry.invalid.now earlier.entry.totals.now) told))) }
+{
+    let invalid = Listing::from_vec(Vec::from_slice(alloc, earlier.invalid)?);
+    let runtime = Runtime::resume(alloc, definition, workers, limits, invalid, earlier.totals)?;
+    Ok(runtime)
+}
+
+/// Opens a machine as `mhlink_open` does, which goes on from what an earlier one kept: the points
+/// that were invalid, and the total of each link, by number. They are the first two records, an
+/// invalidation, and a flush of the totals by the first worker, so that snapshots count them. No hit
+/// is unflushed, and no site holds a link.
+///
+/// Refused as `mhlink_open` is, then where a point is not there, as unknown where there is not a
+/// total for each link, where the limit of the history is below 2, where a total is past its limit,
+/// and then where memory runs out. `machine` is left alone, and `part` gets the number of the
+/// fault's cause, or 0.
+#[unsafe(no_mangle)]
+pub extern "C" fn mhlink_resume(
+    alloc: Global,
+    definition: &[u8],
+    workers: u32,
+    limits: &MhlinkLimits,
+    invalid: &[u32],
+    totals: &[u64],
+    machine: &mut MhlinkMachine,
+    part: &mut u64,
+) -> u32
+    ensures full { result ≡ 0 → machine.new.full ≡ true }
+    ensures resumed { result ≡ 0 → Resumes definition.now workers limits.now invalid.now
+        totals.now machine.new.value }
+    ensures no_part { result ≡ 0 → part.new ≡ 0 }
+    ensures refused { result ≢ 0 → (e : FaultOf) × ((result ≡ status_of e)
+        × ((part.new ≡ part_of e) × RefusesResuming definition.now workers limits.now invalid.now
+        totals.now e)) }
+    ensures kept { result ≢ 0 → machine.new ≡ machine.old }
+{
+    match resume(
+        alloc,
+        definition,
+        workers,
+        limits,
+        Earlier { invalid, totals },
+    ) {
+        Ok(opened) => {
+            *machine = opened;
+            *part = 0;
+            0
+        }
+        Err(fault) => {
+            *part = fault.part();
+            fault.number()
+        }
+    }
+}
+
+fn resume(
+    alloc: Global,
+    definition: &[u8],
+    workers: u32,
+    limits: &MhlinkLimits,
+    earlier: Earlier<'_>,
+) -> Result<MhlinkMachine, Fault>
+    ensures full { IfOk result (λ machine. machine.full ≡ true) }
+    ensures resumed { IfOk result (λ machine. Resumes definition.now workers limits.now
+        earlier.entry.invalid.now earlier.entry.totals.now machine.value) }
+    ensures refused { IfErr result (RefusesResuming definition.now workers limits.now
+        earlier.entry.invalid.now earlier.entry.totals.now) }
+{
+    let host = Host::resume(alloc, definition, workers, limits, earlier)?;
+    let boxed = Box::new(alloc, host)?;
+    Ok(MhlinkMachine::of(boxed))
+}
