@@ -6,7 +6,7 @@ use mh_code::{Code, CodeCache, Piece, Prepared};
 use mh_eval::{fits, lawful};
 use mh_run::{Here, Stack, run};
 use mh_tree::Handle;
-use mh_type::{Kind, Op, Value};
+use mh_type::{Op, Value};
 use std::alloc::Global;
 use std::test::Fail;
 
@@ -177,87 +177,6 @@ fn a_guard_below_a_point_runs(rt: HostRuntime) -> Result<(), Fail> {
     assert_eq!(rt; ran(alloc, &[true], &code, 1)?, int(100, 6));
     assert_eq!(rt; ran(alloc, &[true], &code, 7)?, int(8, 6));
     assert_eq!(rt; ran(alloc, &[false], &code, 7)?, int(-7, 2));
-    Ok(())
-}
-
-/// Guards on these ints, one behind another, each with a number of its own from 1000 on; behind all
-/// the argument itself.
-fn guards(alloc: Global, keys: &[i32]) -> Result<Prepared, Fail> {
-    let ieq = op(alloc, Op::Ieq)?;
-    let mut handle = Handle::identity(alloc, Kind::Int)?;
-    let mut number = 1000 + keys.len() as i32;
-    for key in keys.iter().rev() {
-        number -= 1;
-        let test = Handle::insert(alloc, &ieq, 1, &[Value::Int(*key)])?;
-        let constant = Handle::constant(alloc, &Value::Int(number))?;
-        let target = Handle::drop(alloc, &constant, 0, &[Kind::Int])?;
-        handle = Handle::guard(alloc, &test, &target, &handle)?;
-    }
-    Ok(Prepared::new(alloc, &handle)?)
-}
-
-/// As many ints from one on, each the one before and the distance.
-fn keys(alloc: Global, count: usize, first: i32, distance: i32) -> Result<Vec<i32>, Fail> {
-    let mut keys = Vec::new(alloc);
-    let mut key = first;
-    for _ in 0..count {
-        keys.push(key)?;
-        key += distance;
-    }
-    Ok(keys)
-}
-
-#[test]
-fn seven_guards_are_a_piece_each(rt: HostRuntime) -> Result<(), Fail> {
-    let alloc = rt.alloc();
-    let code = guards(alloc, &keys(alloc, 7, 1, 1)?)?;
-    let pieces = (Kindred::Case(1, 3), Kindred::Leaf(2), Kindred::Case(2, 3));
-    assert_eq!(rt; first_pieces(code.code()), pieces);
-    assert_eq!(rt; ran(alloc, &[], &code, 7)?, int(1006, 23));
-    assert_eq!(rt; ran(alloc, &[], &code, 8)?, int(8, 22));
-    Ok(())
-}
-
-#[test]
-fn fifty_six_guards_are_one_piece(rt: HostRuntime) -> Result<(), Fail> {
-    let alloc = rt.alloc();
-    let code = guards(alloc, &keys(alloc, 56, -81, 3)?)?;
-    assert_eq!(rt; kindred_of(code.code().entry()), Kindred::Switch(56));
-    assert_eq!(rt; ran(alloc, &[], &code, -81)?, int(1000, 5));
-    assert_eq!(rt; ran(alloc, &[], &code, -21)?, int(1020, 65));
-    assert_eq!(rt; ran(alloc, &[], &code, 0)?, int(1027, 86));
-    assert_eq!(rt; ran(alloc, &[], &code, 84)?, int(1055, 170));
-    assert_eq!(rt; ran(alloc, &[], &code, 1)?, int(1, 169));
-    assert_eq!(rt; ran(alloc, &[], &code, i32::MIN)?, int(i32::MIN, 169));
-    assert_eq!(rt; ran(alloc, &[], &code, i32::MAX)?, int(i32::MAX, 169));
-    Ok(())
-}
-
-#[test]
-fn the_first_of_equal_keys_stands(rt: HostRuntime) -> Result<(), Fail> {
-    let alloc = rt.alloc();
-    let code = guards(alloc, &[i32::MIN, -1, 0, 1, i32::MAX, 7, 7, i32::MIN])?;
-    assert_eq!(rt; kindred_of(code.code().entry()), Kindred::Switch(8));
-    assert_eq!(rt; ran(alloc, &[], &code, i32::MIN)?, int(1000, 5));
-    assert_eq!(rt; ran(alloc, &[], &code, -1)?, int(1001, 8));
-    assert_eq!(rt; ran(alloc, &[], &code, i32::MAX)?, int(1004, 17));
-    assert_eq!(rt; ran(alloc, &[], &code, 7)?, int(1005, 20));
-    assert_eq!(rt; ran(alloc, &[], &code, 5)?, int(5, 25));
-    Ok(())
-}
-
-#[test]
-fn ninety_four_guards_are_several_pieces(rt: HostRuntime) -> Result<(), Fail> {
-    let alloc = rt.alloc();
-    let code = guards(alloc, &keys(alloc, 94, 0, 1)?)?;
-    assert_eq!(rt; kindred_of(code.code().entry()), Kindred::Case(0, 3));
-    assert_eq!(rt; ran(alloc, &[], &code, 0)?, int(1000, 5));
-    assert_eq!(rt; ran(alloc, &[], &code, 5)?, int(1005, 20));
-    assert_eq!(rt; ran(alloc, &[], &code, 6)?, int(1006, 23));
-    assert_eq!(rt; ran(alloc, &[], &code, 29)?, int(1029, 92));
-    assert_eq!(rt; ran(alloc, &[], &code, 30)?, int(1030, 95));
-    assert_eq!(rt; ran(alloc, &[], &code, 93)?, int(1093, 284));
-    assert_eq!(rt; ran(alloc, &[], &code, 94)?, int(94, 283));
     Ok(())
 }
 
