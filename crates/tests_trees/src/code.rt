@@ -147,17 +147,17 @@ fn a_guard_on_a_not_exchanges_its_branches(rt: HostRuntime) -> Result<(), Fail> 
 }
 
 #[test]
-fn a_guard_goes_to_code_that_stands(rt: HostRuntime) -> Result<(), Fail> {
+fn a_guard_goes_on_with_the_first_pieces(rt: HostRuntime) -> Result<(), Fail> {
     let code = guard_over_parts(rt.alloc())?;
-    let pieces = (Kindred::Case(1, 3), Kindred::Go(0), Kindred::Go(0));
+    let pieces = (Kindred::Case(1, 3), Kindred::Leaf(2), Kindred::Apply(2));
     assert_eq!(rt; first_pieces(code.code()), pieces);
     Ok(())
 }
 
 #[test]
-fn a_point_goes_to_code_that_stands(rt: HostRuntime) -> Result<(), Fail> {
+fn a_point_goes_on_with_the_first_pieces(rt: HostRuntime) -> Result<(), Fail> {
     let code = point_over_parts(rt.alloc())?.share()?;
-    let pieces = (Kindred::Point(1), Kindred::Go(0), Kindred::Go(0));
+    let pieces = (Kindred::Point(1), Kindred::Case(1, 3), Kindred::Apply(1));
     assert_eq!(rt; first_pieces(code.code()), pieces);
     Ok(())
 }
