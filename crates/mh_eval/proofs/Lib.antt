@@ -4,7 +4,6 @@ mod EntersLeading
 pub mod Extending
 mod FilterRuns
 mod FilterWalks
-mod Forwards
 pub mod Invocations
 mod LawfulTrees
 pub mod QuietCalls

@@ -1,39 +1,22 @@
 -- What memory a handle's code takes in a call.
-use Rattle.std.proofs.Common.{◌≡◌, ◌+◌, ◌≤◌, ap, sym, ◌∙◌, List, [], length, map, arith, zero-add, subst, ℕ, suc, Result, Ok, Err, IfOk}
+use Rattle.std.proofs.Common.{◌≡◌, ◌≤◌, ap, sym, List, [], length, map, arith, subst, suc}
 use Rattle.std.specs.List.{range_with_len}
 use Rattle.mh_type.specs.declared.value.Value.{Value}
-use Rattle.mh_type.specs.declared.outcome.Outcome.{Outcome}
 use Rattle.mh_tree.specs.Code.{Code}
 use Rattle.mh_tree.specs.Handle.{TypedTree, IsSound}
-use Rattle.mh_tree.specs.Meaning.{mean, steps}
 use Rattle.mh_tree.specs.Prepared.{handle_code}
-use Rattle.mh_tree.specs.Running.{run_code, code_steps, weight}
+use Rattle.mh_tree.specs.Running.{weight}
 use Rattle.mh_tree.specs.Sites.{Setting, env, most_at, EachInvoke, MayReach}
 use Rattle.mh_tree.specs.declared.operand.Operand.TheVariants.{Argument}
-use Rattle.mh_tree.specs.Laws.{call_means, call_costs, call_weighs, reads_arguments, steps_at}
+use Rattle.mh_tree.specs.Laws.{call_weighs, reads_arguments, steps_at}
 use Rattle.mh_eval.specs.Entered.{EntersPlain}
-use Rattle.mh_eval.specs.Height.{height}
 use Rattle.mh_eval.specs.Quiet.{IsQuiet, NoTexts, deep}
-use Rattle.mh_eval.proofs.QuietTrees.{quiet, shallow, low}
+use Rattle.mh_eval.proofs.QuietTrees.{quiet, shallow}
 
 module _ (v : Setting) (h : TypedTree) (a : List Value) (code : Code) (kept : code ≡ handle_code h) (sound : IsSound h.tree h.signature) (count : length h.signature.parameters ≡ length a) where
-  pub call_outcome : {E : Type 0} (r : Result (Outcome × ℕ) E) → IfOk r (λ p. p.0 ≡ run_code (env v) code a []) → IfOk r (λ p. p.0 ≡ mean (env v) h.tree a)
-  call_outcome r told =
-      let P : Outcome → Type 0 = λ o. IfOk r (λ p. p.0 ≡ o) in
-      subst P (call_means (env v) h a code kept sound count) told
-
-  pub call_steps : {E : Type 0} (r : Result (Outcome × ℕ) E) → IfOk r (λ p. p.1 ≡ 0 + code_steps (env v) code a []) → IfOk r (λ p. p.1 ≡ steps (env v) h.tree a)
-  call_steps r told =
-      let P : ℕ → Type 0 = λ m. IfOk r (λ p. p.1 ≡ m) in
-      subst P (zero-add _ ∙ call_costs (env v) h a code kept sound count) told
-
   -- it takes at most the steps of its level
   pub call_small : weight (most_at v.level) code ≤ most_at (suc v.level)
   call_small = omega (arith, call_weighs (env v) h a code kept sound count (most_at v.level), steps_at v.level h.tree sound.small)
-
-  pub call_few : {E : Type 0} (r : Result (Outcome × ℕ) E) → IfOk r (λ p. p.1 ≤ 0 + weight (most_at v.level) code) → IfOk r (λ p. p.1 ≤ most_at (suc v.level))
-  call_few (Ok p) few = omega (arith, few, call_small)
-  call_few (Err e) few = tt
 
   pub call_quiet : EachInvoke (MayReach v.level v.targets (length v.valid)) h.tree → NoTexts a → EntersPlain v h.tree a → IsQuiet v code a []
   call_quiet reach none plain =
@@ -45,8 +28,3 @@ module _ (v : Setting) (h : TypedTree) (a : List Value) (code : Code) (kept : co
   call_shallow =
       let e = ap deep kept in
       omega (arith, e, shallow h.tree h.signature (map (λ i. Argument i) (range_with_len 0 (length h.signature.parameters))) 0 0 sound.typed, sound.shallow)
-
-  pub call_low : height code ≤ 262144
-  call_low =
-      let e = ap height kept in
-      omega (arith, e, low h.tree (map (λ i. Argument i) (range_with_len 0 (length h.signature.parameters))) 0 0, sound.small)

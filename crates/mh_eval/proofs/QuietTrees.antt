@@ -15,14 +15,13 @@ use Rattle.mh_type.specs.declared.outcome.Outcome.TheVariants.{Thrown, Value as 
 use Rattle.mh_type.specs.Kinds.{kind_of}
 use Rattle.mh_type.specs.Operations.{operate, op_signature, two_ints, two_longs, two_booleans, two_texts, one_int, one_long, first, with_boolean, with_text, is_zero}
 use Rattle.mh_type.specs.Signature.{Signature}
-use Rattle.mh_tree.specs.Limits.{depth, deepest, size, total_size}
+use Rattle.mh_tree.specs.Limits.{depth, deepest}
 use Rattle.mh_tree.specs.Meaning.{◌>>=◌, mean, filtered, with_arguments, with_value, argument, put_in, taken_out, choose, is_valid}
 use Rattle.mh_tree.specs.Tree.{Tree, Filters, constant, identity, operation, insert, discard, permute, filter, filter_return, fold, guard, point, invoke, no_more, absent, present}
 use Rattle.mh_tree.specs.TypeOf.{type_of}
 use Rattle.mh_tree.specs.Typing.{IsTyped, AreTyped}
 use Rattle.mh_tree.specs.Laws.{few_parameters, type_computed, mean_leading, filtered_length, Reads, reads_now, reads_at, reads_inserted, reads_discarded, reads_permuted, reads_one, reads_newest, reads_set, reads_nothing, permuted_wide, filter_wide, shorter, one_more, means}
 use Rattle.mh_tree.specs.Code.{Code, leaf, apply, bind, branch, switch, call}
-use Rattle.mh_eval.specs.Height.{height}
 use Rattle.mh_tree.specs.Running.{value_of}
 use Rattle.mh_eval.proofs.EntersLeading.{chosen_along, one_along, enters_leading}
 use Rattle.mh_eval.specs.Entered.{WithValue, Chosen, OneOf, IsPlainKind, ArePlain, IsPlain, WithArguments, EntersPlain, FiltersPlain, plain_below}
@@ -412,48 +411,3 @@ mutual
       omega arith
   shallow_filters (present f fs) [] new p env d s go most typed k h = absurd typed
   shallow_filters (present f fs) (z ∷ old) [] p env d s go most typed k h = absurd typed
-
--- each tree has a node, and each code a piece
-some_size : (t : Tree) → 1 ≤ size t
-some_size (constant x) = omega arith
-some_size (identity k) = omega arith
-some_size (operation o) = omega arith
-some_size (insert t p xs) = omega arith
-some_size (discard t p ks) = omega arith
-some_size (permute t m r) = omega arith
-some_size (filter t p fs) = omega arith
-some_size (filter_return t f) = omega arith
-some_size (fold t c) = omega arith
-some_size (guard c x y) = omega arith
-some_size (point p x y) = omega arith
-some_size (invoke s n) = omega arith
-
-some_height : (c : Code) → 1 ≤ height c
-some_height (leaf s o) = omega arith
-some_height (apply s op x y) = omega arith
-some_height (bind s f g) = omega arith
-some_height (branch s c x y) = omega arith
-some_height (switch s p x y) = omega arith
-some_height (call s k os) = omega arith
-
--- the height of a tree's code
-mutual
-  pub low : (t : Tree) (env : List Operand) (d s : ℕ) → height (prepared t env d s) ≤ size t
-  low (constant x) env d s = omega arith
-  low (identity k) env d s = omega arith
-  low (operation o) env d s = omega arith
-  low (insert t p xs) env d s = omega (arith, low t (take p env ++ (map Constant xs ++ drop p env)) d (s + 1))
-  low (discard t p ks) env d s = omega (arith, low t (take p env ++ drop (p + length ks) env) d (s + 1))
-  low (permute t m r) env d s = omega (arith, low t (map (operand_at env) r) d (s + 1))
-  low (filter t p fs) env d s = omega (arith, low_filters fs p env d (s + 1) (prepared t) (size t) (λ env' d' s'. low t env' d' s'))
-  low (filter_return t f) env d s = omega (arith, low t env d 0, low f (Local d ∷ []) (d + 1) 0, some_size t, some_size f)
-  low (fold t c) env d s = omega (arith, low c env d 0, low t (Local d ∷ env) (d + 1) 0, some_size t, some_size c)
-  low (guard c x y) env d s = omega (arith, low c env d 0, low x env d 0, low y env d 0)
-  low (point p x y) env d s = omega (arith, low x env d 0, low y env d 0)
-  low (invoke k n) env d s = omega arith
-
-  low_filters : (fs : Filters) (p : ℕ) (env : List Operand) (d s : ℕ) (go : List Operand → ℕ → ℕ → Code) (n : ℕ) → ((env' : List Operand) (d' s' : ℕ) → height (go env' d' s') ≤ n) → height (prepared_filters fs p env d s go) ≤ total_size fs + n
-  low_filters no_more p env d s go n k = omega (arith, k env d s)
-  low_filters (absent fs) p env d s go n k = low_filters fs (p + 1) env d s go n k
-  low_filters (present f fs) p env d s go n k =
-      omega (arith, low f (operand_at env p ∷ []) d 0, low_filters fs (p + 1) (slice_set env p (Local d)) (d + 1) 0 go n k, some_size f, k env d s, some_height (go env d s))

@@ -1,12 +1,8 @@
 -- What an answer says of an outcome.
-use Rattle.std.specs.Prelude.{◌≡◌, ℕ, List, [], ◌∷◌, ◌++◌, length}
+use Rattle.std.specs.Prelude.{◌≡◌, ℕ}
 use Rattle.mh_type.specs.declared.value.Value.TheVariants as value
 use Rattle.mh_type.specs.declared.outcome.Outcome.{Outcome}
 use Rattle.mh_type.specs.declared.outcome.Outcome.TheVariants as outcome
-use Rattle.mh_type.specs.declared.value.Value.{Value}
-use Rattle.mh_tree.specs.Meaning.{argument}
-use Rattle.mh_eval.specs.declared.answer.Pushed.{Pushed}
-use Rattle.mh_eval.specs.declared.answer.Pushed.TheVariants as pushed
 use Rattle.mh_eval.specs.declared.answer.Answer.{Answer}
 use Rattle.mh_eval.specs.declared.answer.Answer.TheVariants.{Int, Long, Boolean, Text, Thrown, NoMemory}
 
@@ -27,14 +23,3 @@ Ran (Boolean x) n o m = (o ≡ outcome.Value (value.Boolean x)) × (n ≡ m)
 Ran (Text x) n o m = (o ≡ outcome.Value (value.Text x)) × (n ≡ m)
 Ran (Thrown t) n o m = (o ≡ outcome.Thrown t) × (n ≡ m)
 Ran NoMemory n o m = Unit {0}
-
--- a value was put on the stack, or memory was refused
-abbrev pub PushedBy : Pushed → ℕ → Outcome → ℕ → List Value → List Value → Type 0
-PushedBy pushed.Value n o m old new =
-    (o ≡ outcome.Value (argument new (length old))) × (n ≡ m) × (new ≡ old ++ argument new (length old) ∷ [])
-PushedBy (pushed.Thrown t) n o m old new = (o ≡ outcome.Thrown t) × (n ≡ m) × (new ≡ old)
-PushedBy pushed.NoMemory n o m old new = new ≡ old
-
-abbrev pub IsPushed : Pushed → Type 0
-IsPushed pushed.NoMemory = ⊥
-IsPushed _ = Unit {0}

@@ -1,10 +1,7 @@
 pub mod Answers
 pub mod Entered
-pub mod Entering
 pub mod Frames
-pub mod Height
 pub mod Lawful
 pub mod Limits
-pub mod Lower
 pub mod Quiet
 pub mod Walked

@@ -20,14 +20,6 @@ pub enum Answer {
     NoMemory,
 }
 
-/// Whether a value was put on the stack.
-#[derive(Debug, Drop)]
-pub enum Pushed {
-    Value,
-    Thrown(Throw),
-    NoMemory,
-}
-
 // An answer as the outcome that it is, with the steps. A text returns first, so that its outcome is
 // written by one store in place of several.
 #[inline]

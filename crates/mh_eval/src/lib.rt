@@ -3,11 +3,9 @@
 //! ```
 //! let mut stack = Stack::new(alloc)?;
 //! let arguments = [Value::Int(1)];
-//! let handle = prepared.handle();
 //! let is_alone = handle.point_bound() == 0 && handle.site_bound() == 0;
 //! if is_alone && fits(handle.method_type(), &arguments) {
-//!     let here = Here { valid: &[], targets: &[] };
-//!     let (outcome, steps) = run(&mut stack, &here, &prepared, &arguments)?;
+//!     let (outcome, steps) = eval(&mut stack, &[], &[], &[], &handle, &arguments)?;
 //!     println!(rt; "{outcome} in {steps} steps")?;
 //! }
 //! ```
@@ -18,26 +16,18 @@ mod evaluating;
 mod evaluator;
 mod fault;
 mod fitting;
-mod forwarding;
 mod frames;
-mod here;
 mod invoking;
 mod operations;
-mod prepared;
-mod reading;
-mod running;
 mod stack;
-mod walking;
 
-pub use answer::{Answer, Pushed};
+pub use answer::Answer;
 pub use evaluating::evaluate;
 pub use evaluator::eval;
 pub use fault::Unevaluated;
 pub use fitting::fits;
 pub use frames::put_owner;
-pub use here::Here;
 pub use invoking::lawful;
 pub use mh_base::NoMemory;
 pub use operations::{operate, outcome_of_number, share, truth};
-pub use prepared::run;
 pub use stack::{ROOM, Stack};

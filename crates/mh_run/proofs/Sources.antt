@@ -7,7 +7,7 @@ use Rattle.mh_code.specs.Runs.{source_outcome, source_steps, source_weight, put,
 use Rattle.mh_code.specs.Scope.{IsRoutineIn}
 use Rattle.mh_eval.specs.Answers.{Gives, Ran}
 use Rattle.mh_eval.specs.Entered.{WithValue, Chosen, OneOf}
-use Rattle.mh_eval.specs.Limits.{lower_room}
+use Rattle.mh_run.specs.Limits.{lower_room}
 use Rattle.mh_eval.specs.Quiet.{IsAnswered}
 use Rattle.mh_eval.proofs.AnswersGiven.{gives_ran}
 use Rattle.mh_eval.specs.declared.answer.Answer.{Answer}

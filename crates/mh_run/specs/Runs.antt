@@ -4,7 +4,7 @@ use Rattle.mh_code.specs.Routine.{Source, Routine}
 use Rattle.mh_code.specs.Runs.{source_outcome, source_steps, source_weight, run_routine, routine_steps, weight}
 use Rattle.mh_code.specs.Scope.{IsRoutineIn}
 use Rattle.mh_eval.specs.Answers.{Ran}
-use Rattle.mh_eval.specs.Limits.{lower_room}
+use Rattle.mh_run.specs.Limits.{lower_room}
 use Rattle.mh_eval.specs.Quiet.{IsAnswered}
 use Rattle.mh_eval.specs.declared.answer.Answer.{Answer}
 use Rattle.mh_eval.specs.declared.answer.Answer.TheVariants.{Thrown, NoMemory}

@@ -5,7 +5,7 @@ ghost use Rattle.std.specs.Arc.{arc_value};
 ghost use Rattle.mh_code.specs.Height.{height, highest};
 ghost use Rattle.mh_code.specs.PieceOf.{routine_of, routines};
 ghost use Rattle.mh_code.specs.Rows.{is_key as tests_key, row_of, steps_to};
-ghost use Rattle.mh_eval.specs.Limits.{lower_room};
+ghost use Rattle.mh_run.specs.Limits.{lower_room};
 ghost use Rattle.mh_run.specs.Picks.{is_truth};
 ghost use Rattle.mh_run.specs.Runs.{Goes, MayGo};
 ghost use Rattle.mh_tree.specs.Meaning.{argument};

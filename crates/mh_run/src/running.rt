@@ -9,7 +9,7 @@ ghost use Rattle.mh_eval.specs.Answers.{Gives};
 ghost use Rattle.mh_eval.specs.Quiet.{IsAnswered};
 ghost use Rattle.mh_code.specs.Height.{height};
 ghost use Rattle.mh_run.specs.Levels.{IsOpen, IsReady};
-ghost use Rattle.mh_eval.specs.Limits.{lower_room};
+ghost use Rattle.mh_run.specs.Limits.{lower_room};
 ghost use Rattle.mh_run.specs.Picks.{picked};
 ghost use Rattle.mh_run.specs.Runs.{Answers, Ends, Goes, Leaves, MayGo, MayRun, Stops};
 ghost use Rattle.mh_tree.specs.Prepared.{leading_arguments};

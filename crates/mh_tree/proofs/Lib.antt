@@ -1,6 +1,3 @@
 mod FilterKinds
-mod LeadingOperands
-mod PlacesBehind
-mod PreparedParts
 mod Sound
 mod WorkedTrees

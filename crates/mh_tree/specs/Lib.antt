@@ -1,14 +1,10 @@
 pub mod Arity
-pub mod Cached
 pub mod Code
-pub mod CodeOf
 pub mod Constructors
 pub mod Environment
 pub mod Faults
 pub mod Handle
 pub mod Invocations
-pub mod Kept
-pub mod KeptCode
 pub mod Laws
 pub mod Limits
 pub mod Meaning

@@ -8,14 +8,11 @@
 //! let hundred = Handle::drop(alloc, &hundred, 0, &[Kind::Int])?;
 //! let more = Handle::insert(alloc, &Handle::op(alloc, Op::Iadd)?, 1, &one)?;
 //! let f = Handle::guard(alloc, &test, &hundred, &more)?;
-//! let prepared = Prepared::new(&f)?;
 //! ```
 #![tactic(auto)]
 
 mod arguments;
 mod branches;
-mod code_cache;
-mod comparing;
 mod crossing;
 mod declared;
 mod fault;
@@ -29,13 +26,8 @@ mod limits;
 mod measures;
 mod node;
 mod operand;
-mod operands;
-mod piece;
-mod prepared;
-mod preparing;
 mod reordering;
 
-pub use code_cache::CodeCache;
 pub use crossing::trees_cross_threads;
 pub use declared::{DEEPEST_DECLARED, Declared, LARGEST_DECLARED};
 pub use fault::TreeFault;
@@ -45,5 +37,3 @@ pub use laws::invocations_mean_trees;
 pub use limits::{DEEPEST, LARGEST};
 pub use node::Node;
 pub use operand::Operand;
-pub use piece::{KeyTest, Piece};
-pub use prepared::Prepared;

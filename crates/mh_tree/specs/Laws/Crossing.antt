@@ -2,13 +2,10 @@
 use denote.Param.Send.{IsSend, IsSync}
 use Rattle.mh_tree.specs.contracts.declared.Declared as declared
 use Rattle.mh_tree.specs.contracts.handle.Handle as handles
-use Rattle.mh_tree.specs.contracts.prepared.Prepared as prepared
 
--- handles, declared trees and prepared trees may go to another thread, and threads may share them
+-- handles and declared trees may go to another thread, and threads may share them
 pub record TreesCross : Type 0 where
   pub handle_send : IsSend handles.the_row
   pub handle_sync : IsSync handles.the_row
   pub declared_send : IsSend declared.the_row
   pub declared_sync : IsSync declared.the_row
-  pub prepared_send : IsSend prepared.the_row
-  pub prepared_sync : IsSync prepared.the_row

@@ -3,20 +3,15 @@ use Rattle.std.proofs.Crossing as crossing
 use Rattle.std.proofs.alloc.Global.TheSendSync as global
 use Rattle.std.proofs.vec.Vec.TheSendSync as vec
 use Rattle.mh_tree.proofs.node.Node.TheLaws.TheKnot as nodes
-use Rattle.mh_tree.proofs.operand.Operand.TheSendSync as operand
-use Rattle.mh_tree.proofs.piece.Piece.TheLaws.TheKnot as pieces
 use Rattle.mh_tree.proofs.crossing.trees_cross_threads.Goals as goal
 
--- what trees and their code are made of, beside kinds, method types, operations and values
+-- what trees are made of, beside kinds, method types, operations and values
 ruleset parts = (
   global.the_field_send,
   global.the_field_sync,
-  operand.the_field_send,
-  operand.the_field_sync,
   vec.the_sync,
   crossing.crosses,
   nodes.crosses_both,
-  pieces.crosses_both,
   sendable,
 )
 
@@ -41,7 +36,5 @@ returns c =
         handle_sync = search parts depth 60 fits 20000;
         declared_send = search parts depth 60 fits 20000;
         declared_sync = search parts depth 60 fits 20000;
-        prepared_send = search parts depth 60 fits 20000;
-        prepared_sync = search parts depth 60 fits 20000;
       };
     }

@@ -1,8 +1,0 @@
-use Rattle.std.proofs.Common.{◌≡◌, ◌++◌, ◌≤◌, take, map, vec_capacity}
-use Rattle.mh_tree.specs.Running.{value_of}
-use Rattle.mh_eval.proofs.running.put_operands.Given as goal
-
-abbrev pub invariant-loop-operand : goal.invariant-loop-operand
-invariant-loop-operand l =
-    (l.stack.items ≡ l.initial.stack.items ++ take l.operand-index (map (value_of l.arguments l.locals) l.operands))
-    × (vec_capacity l.initial.stack ≤ vec_capacity l.stack)
