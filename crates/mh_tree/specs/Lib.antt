@@ -5,6 +5,7 @@ pub mod Environment
 pub mod Faults
 pub mod Handle
 pub mod Invocations
+pub mod Kept
 pub mod Laws
 pub mod Limits
 pub mod Meaning
