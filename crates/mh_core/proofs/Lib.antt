@@ -1,6 +1,6 @@
 mod BestPlans
 mod CachedLinks
-mod Calls
+pub mod Calls
 mod Changing
 mod CountedHits
 mod Deciding

@@ -5,10 +5,10 @@ ghost use Rattle.std.specs.List.{All};
 ghost use Rattle.mh_tree.specs.Handle.{IsDeclared};
 ghost use Rattle.mh_tree.specs.Typing.{IsTyped};
 ghost use Rattle.mh_site.specs.Worlds.{WorldState, AreTyped, linkeds, opened, opening, after, replay, state_at, no_state, retargeted, relink_site, clear_point};
-ghost use Rattle.mh_site.specs.SiteStates.{site_state, site_states};
+ghost use Rattle.mh_site.specs.SiteStates.{plain_site, site_state, site_states};
 ghost use Rattle.mh_site.specs.declared.control.Control.{Control};
 
-use crate::base::BaseTree;
+use crate::base::{BaseTree, share_tree};
 use crate::control::{Control, Installation, KeptLinks, Relinking, Retargeting};
 use crate::definition::Definition;
 use crate::site::Site;
@@ -25,6 +25,19 @@ pub(crate) struct SiteWorld {
     base: BaseTree,
     kept: KeptLinks,
     version: u64,
+}
+
+impl SiteWorld {
+    // Another owner of the base tree.
+    fn share(&self) -> Result<SiteWorld, NoMemory>
+        ensures value { IfOk result (λ s. plain_site s ≡ plain_site self.now) }
+    {
+        Ok(SiteWorld {
+            base: self.base.share()?,
+            kept: KeptLinks::try_from(self.kept.as_slice()).map_err(|_| NoMemory)?,
+            version: self.version,
+        })
+    }
 }
 
 /// Which points are valid, and the trees of each site: what a list of controls made of a
@@ -83,6 +96,26 @@ impl World {
             sites,
             linked,
             front: 0,
+            incoming,
+        })
+    }
+
+    /// A world like this one, over the same trees and their code: what this world absorbs later does
+    /// not change it. O(points + sites), with no tree copied. Fails only if an allocation or a
+    /// reference count is refused.
+    pub fn share(&self) -> Result<World, NoMemory>
+        ensures value { IfOk result (λ w. w ≡ self.now) }
+    {
+        let alloc = *self.linked.allocator();
+        let valid = copy_valid(alloc, self.valid.as_slice())?;
+        let sites = share_sites(alloc, self.sites.as_slice())?;
+        let linked = share_trees(alloc, self.linked.as_slice())?;
+        let incoming = VecDeque::with_capacity(alloc, sites.len()).map_err(|_| NoMemory)?;
+        Ok(World {
+            valid,
+            sites,
+            linked,
+            front: self.front,
             incoming,
         })
     }
@@ -242,6 +275,35 @@ fn open_site(cache: &mut CodeCache, site: &Site) -> Result<(SiteWorld, Prepared)
         version: 0,
     };
     Ok((opened, linked))
+}
+
+// Which points are valid, once more.
+fn copy_valid(alloc: Global, valid: &[bool]) -> Result<Vec<bool>, NoMemory>
+    ensures value { IfOk result (λ v. v.items ≡ valid.now) }
+{
+    Vec::from_slice(alloc, valid).map_err(|_| NoMemory)
+}
+
+// Other owners of the base trees of sites.
+fn share_sites(alloc: Global, sites: &[SiteWorld]) -> Result<Vec<SiteWorld>, NoMemory>
+    ensures value { IfOk result (λ v. map plain_site v.items ≡ map plain_site sites.now) }
+{
+    let mut shared = Vec::new(alloc);
+    for site in sites {
+        shared.push(site.share()?).map_err(|_| NoMemory)?;
+    }
+    Ok(shared)
+}
+
+// Other owners of linked trees.
+fn share_trees(alloc: Global, trees: &[Prepared]) -> Result<Vec<Prepared>, NoMemory>
+    ensures value { IfOk result (λ v. v.items ≡ trees.now) }
+{
+    let mut shared = Vec::new(alloc);
+    for tree in trees {
+        shared.push(share_tree(tree)?).map_err(|_| NoMemory)?;
+    }
+    Ok(shared)
 }
 
 // Another base and linked tree of a site.

@@ -1,5 +1,5 @@
 -- Tables of sites.
-use Rattle.std.proofs.Common.{Bool, ◌≡◌, ℕ, zero, suc, ◌+◌, ◌<◌, ◌≤◌, List, [], ◌∷◌, ◌++◌, length, map, take, slice_set, slice_index_or, fold, refl, ap, sym, subst, ◌∙◌, arith, inl, inr, ◌⊎◌}
+use Rattle.std.proofs.Common.{Bool, ◌≡◌, ℕ, zero, suc, ◌+◌, ◌<◌, ◌≤◌, List, [], ◌∷◌, ◌++◌, length, map, take, drop, slice_set, slice_index_or, fold, refl, ap, sym, subst, ◌∙◌, arith, inl, inr, ◌⊎◌}
 use Rattle.std.specs.List.{All, zip}
 use Rattle.std.proofs.lemmas.Slice.Zip.{get_or-zip, length-zip, seconds-zip}
 use Rattle.std.proofs.lemmas.List.{map-append, map-set, get_or-map, get_or_past, length-map, set_past, take_more}
@@ -13,7 +13,7 @@ use Rattle.mh_site.specs.declared.site.Site.{Site}
 use Rattle.mh_site.specs.declared.world.SiteWorld.{SiteWorld}
 use Rattle.mh_tree.specs.Handle.{TypedTree}
 use Rattle.mh_tree.specs.Typing.{IsTyped}
-use Rattle.mh_site.specs.SiteStates.{site_state, site_states}
+use Rattle.mh_site.specs.SiteStates.{plain_site, site_state, site_states}
 use Rattle.mh_site.specs.Defined.{no_site, no_tree}
 use Rattle.mh_site.specs.Worlds.{AreTyped, opening, SiteState, WorldState, no_state, retargeted, relinked, relink_site, after, replay, IsWorld, state_at}
 
@@ -153,6 +153,25 @@ states_push xs ts x t many = ap (map site_state) (zip_push xs ts many) ∙ map-a
     zip_push [] (u ∷ ts) many = absurd (omega arith)
     zip_push (y ∷ xs) [] many = absurd (omega arith)
     zip_push (y ∷ xs) (u ∷ ts) many = ap (λ r. (y, u) ∷ r) (zip_push xs ts (omega arith))
+
+-- what sites have beside their linked trees decides their states
+states_alike : (xs ys : List SiteWorld) (ts : List TypedTree) → map plain_site xs ≡ map plain_site ys → site_states xs ts ≡ site_states ys ts
+states_alike [] [] ts same = refl
+states_alike [] (y ∷ ys) ts same = absurd (omega (arith, ap length same))
+states_alike (x ∷ xs) [] ts same = absurd (omega (arith, ap length same))
+states_alike (x ∷ xs) (y ∷ ys) [] same = refl
+states_alike (x ∷ xs) (y ∷ ys) (t ∷ ts) same =
+    let one = ap (λ l. slice_index_or l 0 (plain_site x)) same in
+    let head : site_state (x, t) ≡ site_state (y, t) = ap (λ p. record { base = p.0; linked = t; kept = p.1.0; version = p.1.1 }) one in
+    ap (λ s. s ∷ site_states xs ts) head ∙ ap (λ l. site_state (y, t) ∷ l) (states_alike xs ys ts (ap (drop 1) same))
+
+abbrev world_with : List Bool → List SiteState → ℕ → WorldState
+world_with valid sites front = record { valid = valid; sites = sites; front = front }
+
+pub shared_world : (u v : List Bool) (xs ys : List SiteWorld) (ts us : List TypedTree) (f : ℕ) → u ≡ v → map plain_site xs ≡ map plain_site ys → ts ≡ us
+    → world_with u (site_states xs ts) f ≡ world_with v (site_states ys us) f
+shared_world u v xs ys ts us f points sites trees =
+    ap (λ l. world_with l (site_states xs ts) f) points ∙ ap (λ l. world_with v l f) (states_alike xs ys ts sites ∙ ap (site_states ys) trees)
 
 -- the opening of one site more
 pub opening_typed : (xs : List Site) (i : ℕ) (s : Site) → i < length xs → s ≡ slice_index_or xs i s → AreTyped (map opening (take i xs)) → IsTypedTree s.target → AreTyped (map opening (take (i + 1) xs))
