@@ -2,7 +2,7 @@
 use Rattle.std.proofs.Common.{◌≡◌, ℕ, suc, ℤ, Bool, true, false, ◌+◌, ◌-◌, ◌<◌, ◌≤◌, refl, ap, sym, subst, ◌∙◌, List, [], ◌∷◌, ◌++◌, length, length-append, arith, if◌then◌else◌}
 use Rattle.std.proofs.lemmas.Int.{ints}
 use Rattle.std.specs.Prelude.{get_or, Err}
-use Rattle.std.specs.Int.Signed.{◌<ℤ◌}
+use Rattle.std.specs.Int.Signed.{◌<ℤ◌, ◌≤ℤ◌}
 use Rattle.std.specs.List.{insert}
 use Rattle.std.specs.Ordering.{int_eq}
 use Rattle.std.proofs.Math.Dec.{ltb}
@@ -161,12 +161,11 @@ entries_put rs r es at e h found key row steps =
     }
 
 -- what is lower than a number, and what is higher, by one element
-pub lower_all : (es : List Entry) (k : ℤ) (middle : ℕ) (e : Entry) → AreRising es → middle < length es → (get_or es middle e).key <ℤ k → (j : ℕ) (d : Entry) → j < middle + 1 → (get_or es j d).key <ℤ k
+pub lower_all : (es : List Entry) (k : ℤ) (middle : ℕ) (e : Entry) → AreRising es → middle < length es → (get_or es middle e).key ≤ℤ k → (j : ℕ) (d : Entry) → j < middle → (get_or es j d).key <ℤ k
 lower_all es k middle e rising inside h j d below =
-    let at : (get_or es middle d).key <ℤ k = subst (λ (x : Entry). x.key <ℤ k) (get_or_default es middle e d inside) h in
-    either (ltb j middle)
-    (λ is. let less = rising j middle d ((Decides-ltb j middle).0 is) inside in omega (arith, ints, less, at))
-    (λ no. subst (λ n. (get_or es n d).key <ℤ k) (omega (arith, below, not_from_Decides (ltb j middle) (Decides-ltb j middle) no)) at)
+    let at : (get_or es middle d).key ≤ℤ k = subst (λ (x : Entry). x.key ≤ℤ k) (get_or_default es middle e d inside) h in
+    let less = rising j middle d below inside in
+    omega (arith, ints, less, at)
 
 pub higher_all : (es : List Entry) (k : ℤ) (middle : ℕ) (e : Entry) → AreRising es → k <ℤ (get_or es middle e).key → (j : ℕ) (d : Entry) → middle ≤ j → j < length es → k <ℤ (get_or es j d).key
 higher_all es k middle e rising h j d above inside =

@@ -28,3 +28,7 @@ pub record AreEntries (rs : List Row) (es : List Entry) : Type 0 where
   pub rising : AreRising es
   pub each : (i : ℕ) (d : Entry) → i < length es → IsEntry rs (get_or es i d)
   pub all : (k : ℤ) → ((i : ℕ) (d : Entry) → i < length es → (get_or es i d).key ≡ k → ⊥) → row_of (Int k) rs ≡ length rs
+
+-- the guesses of an index
+abbrev pub guess_count : ℕ
+guess_count = 128

@@ -28,3 +28,7 @@ all_steps (r ∷ rs) = r.steps + all_steps rs
 -- the most rows of an index
 abbrev pub most_rows : ℕ
 most_rows = 64
+
+-- the tests in a row that become one piece
+abbrev pub run_length : ℕ
+run_length = 4

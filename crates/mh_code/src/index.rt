@@ -1,7 +1,7 @@
-//! Finding the test of a chain that holds, by halving.
+//! Finding the test of a chain that holds: at once by a guess, or else by halving.
 
 ghost use Rattle.std.specs.Prelude.{◌≡◌, ◌+◌, ◌<◌, ◌≤◌, ◌++◌, ◌∷◌, [], length, IfOk};
-ghost use Rattle.mh_code.specs.Entries.{AreEntries, AreRising, IsFound};
+ghost use Rattle.mh_code.specs.Entries.{AreEntries, AreRising, IsFound, guess_count};
 ghost use Rattle.mh_code.specs.Rows.{row_of, steps_to, all_steps, most_rows};
 ghost use Rattle.mh_type.specs.declared.value.Value.TheVariants.{Int};
 
@@ -26,13 +26,22 @@ struct Entry {
     steps: u64,
 }
 
+// How many guesses an index has: twice its most tests.
+const GUESSES: usize = 128;
+
+// 2^32 by the golden ratio, which spreads numbers that follow one another as evenly as can be.
+const GOLDEN: u32 = 2_654_435_769;
+
 /// The tests of a chain, at most 64 of them in its order, and where to find the first that holds of
-/// an int: in as many comparisons as the number of tests has binary digits.
+/// an int: by a guess, which is right of all numbers that lie in a row and of most others, and else
+/// in as many comparisons as the number of tests has binary digits.
 #[derive(Drop)]
 pub struct Index {
     rows: Vec<Row>,
     entries: Vec<Entry>,
     total: u64,
+    // Where the numbers of a guess may stand among the entries. It is tested when it is used.
+    guesses: [u8; GUESSES],
 }
 
 impl Model for Index {
@@ -60,6 +69,7 @@ impl Index {
             rows: Vec::new(alloc),
             entries: Vec::new(alloc),
             total: 0,
+            guesses: [0; GUESSES],
         }
     }
 
@@ -72,6 +82,7 @@ impl Index {
             mut rows,
             entries,
             total,
+            guesses,
         } = self;
         let total = total + u64::from(row.steps);
         let entries = with_entry(entries, &rows, row, total)?;
@@ -80,6 +91,7 @@ impl Index {
             rows,
             entries,
             total,
+            guesses,
         })
     }
 
@@ -93,6 +105,17 @@ impl Index {
             index = index.with(*row)?;
         }
         Ok(index)
+    }
+
+    // With guesses for its numbers, where several have one for the greatest.
+    pub(crate) fn guessing(self) -> Index
+        ensures value { result ≡ self }
+    {
+        let mut guesses = [0; GUESSES];
+        for (at, entry) in (0..=u8::MAX).zip(self.entries.iter()) {
+            guesses[guess_of(entry.key)] = at;
+        }
+        Index { guesses, ..self }
     }
 
     /// The tests, in the order of the chain.
@@ -113,11 +136,13 @@ impl Index {
 
     /// The place of the first test that holds of an int, and the steps of the tests down to it, with
     /// its own. Where none holds, the number of tests, and the steps of all.
+    #[inline(never)]
     pub fn find(&self, number: i32) -> (usize, u64)
         ensures row { result.0 ≡ row_of (Int number) self.now }
         ensures steps { result.1 ≡ steps_to (Int number) self.now }
     {
-        match search(&self.entries, number) {
+        let guess = usize::from(self.guesses[guess_of(number)]);
+        match locate(&self.entries, guess, number) {
             Ok(at) => {
                 let entry = self.entries[at];
                 (entry.row, entry.steps)
@@ -153,24 +178,49 @@ fn with_entry(
     }
 }
 
-// Where a number stands among rising ones, and else between which two.
+// Which guess is a number's: the highest seven binary digits of its hash. Up to 89 numbers in a row
+// have guesses of their own.
+#[inline(always)]
+fn guess_of(number: i32) -> usize
+    ensures inside { result < guess_count }
+{
+    (number.cast_unsigned().wrapping_mul(GOLDEN) >> 25) as usize
+}
+
+// Where a number stands among rising ones: at the guess, or where it is found.
+#[inline(always)]
+fn locate(entries: &[Entry], guess: usize, key: i32) -> Result<usize, usize>
+    requires rising { AreRising entries.now }
+    ensures found { IsFound entries.now key result }
+{
+    match entries.get(guess) {
+        Some(entry) if entry.key == key => Ok(guess),
+        _ => search(entries, key),
+    }
+}
+
+// Where a number stands among rising ones, and else between which two. How often it halves depends on
+// how many they are alone.
+#[inline(never)]
 fn search(entries: &[Entry], key: i32) -> Result<usize, usize>
     requires rising { AreRising entries.now }
     ensures found { IsFound entries.now key result }
 {
     let mut low = 0;
-    let mut high = entries.len();
-    while low < high {
-        let middle = low + (high - low) / 2;
-        let found = entries[middle].key;
-        if found == key {
-            return Ok(middle);
-        }
-        if found < key {
-            low = middle + 1;
+    let mut count = entries.len();
+    while count > 1 {
+        let half = count / 2;
+        let middle = low + half;
+        low = if entries[middle].key <= key {
+            middle
         } else {
-            high = middle;
-        }
+            low
+        };
+        count -= half;
     }
-    Err(low)
+    match entries.get(low) {
+        Some(entry) if entry.key == key => Ok(low),
+        Some(entry) if entry.key < key => Err(low + 1),
+        _ => Err(low),
+    }
 }

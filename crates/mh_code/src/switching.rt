@@ -4,7 +4,7 @@ ghost use Rattle.std.specs.Prelude.{◌≡◌, ◌+◌, ◌≤◌, ◌++◌, ◌
 ghost use Rattle.std.specs.Arc.{arc_value};
 ghost use Rattle.mh_code.specs.PieceOf.{chain as chain_of, key_source, routine_of, routines};
 ghost use Rattle.mh_code.specs.Routine.{pick};
-ghost use Rattle.mh_code.specs.Rows.{most_rows};
+ghost use Rattle.mh_code.specs.Rows.{most_rows, run_length};
 
 use crate::code::{KeyTest, Piece};
 use crate::index::{Index, Row};
@@ -15,9 +15,9 @@ use std::sync::Arc;
 
 // How many tests of one argument become one piece, and the most tests of a piece behind them that
 // become part of it.
-const RUN: usize = 8;
+const RUN: usize = 4;
 
-const MOST_BEHIND: usize = 56;
+const MOST_BEHIND: usize = 60;
 
 // Tests of one argument and their targets.
 #[derive(Drop)]
@@ -26,7 +26,7 @@ struct Chain {
     targets: Vec<Arc<Piece>>,
 }
 
-// One of two pieces, by whether an int argument is a key. Where that is the eighth test of the
+// One of two pieces, by whether an int argument is a key. Where that is the fourth test of the
 // argument before a piece of another kind, all are one piece, with those of a switch behind them.
 pub(crate) fn key_test(
     alloc: Global,
@@ -49,7 +49,7 @@ pub(crate) fn key_test(
     })
 }
 
-// Whether seven tests of one argument follow one another.
+// Whether three tests of one argument follow one another.
 fn is_run(first: &Piece, place: u32) -> bool {
     let mut piece = first;
     for _ in 1..RUN {
@@ -77,19 +77,19 @@ fn run(
     switch(alloc, test.place, chain, behind)
 }
 
-// The tests of an argument that follow one another, at most seven of them, behind those of a chain,
+// The tests of an argument that follow one another, at most three of them, behind those of a chain,
 // and what is behind them.
 fn gather<'a>(
     first: Chain,
     place: u32,
     piece: &'a Arc<Piece>,
 ) -> Result<(Chain, &'a Arc<Piece>), NoMemory>
-    requires few { length first.index ≤ 1 }
+    requires one { length first.index ≤ 1 }
     requires even { length first.index ≡ length first.targets.items }
     ensures value { IfOk result (λ r. chain_of place r.0.index (routines r.0.targets.items)
         (routine_of (arc_value r.1.now)) ≡ chain_of place first.index (routines first.targets.items)
         (routine_of (arc_value piece.now))) }
-    ensures few { IfOk result (λ r. length r.0.index ≤ 8) }
+    ensures few { IfOk result (λ r. length r.0.index ≤ run_length) }
     ensures even { IfOk result (λ r. length r.0.index ≡ length r.0.targets.items) }
 {
     let mut chain = first;
@@ -113,7 +113,7 @@ fn gather<'a>(
 
 // The piece of a chain, with the tests of a switch behind it.
 fn switch(alloc: Global, place: u32, chain: Chain, behind: &Arc<Piece>) -> Result<Piece, NoMemory>
-    requires few { length chain.index ≤ 8 }
+    requires few { length chain.index ≤ run_length }
     requires even { length chain.index ≡ length chain.targets.items }
     ensures value { IfOk result (λ p. routine_of p ≡ chain_of place chain.index
         (routines chain.targets.items) (routine_of (arc_value behind.now))) }
@@ -175,7 +175,7 @@ impl Chain {
             (routines self.targets.items) (routine_of (arc_value otherwise))) }
     {
         let Chain { index, targets } = self;
-        let index = Arc::new(alloc, index).map_err(|_| NoMemory)?;
+        let index = Arc::new(alloc, index.guessing()).map_err(|_| NoMemory)?;
         Ok(Piece::Switch {
             place,
             index,
