@@ -11,7 +11,7 @@ use mh_type::{Outcome, Value};
 
 // An answer as the outcome that it is, with the steps. A text returns first, so that its outcome is
 // written by one store in place of several.
-#[inline(always)]
+#[inline]
 pub(crate) fn outcome_of(answer: Answer, steps: u128) -> Result<(Outcome, u128), NoMemory>
     ensures outcome { (o : Outcome) → (m : ℕ) → Ran answer steps o m → IfOk result (λ r. r.0 ≡ o) }
     ensures steps { (o : Outcome) → (m : ℕ) → Ran answer steps o m → IfOk result (λ r. r.1 ≡ m) }
