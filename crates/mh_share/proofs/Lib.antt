@@ -1,0 +1,3 @@
+mod Fieldless
+mod HeldLinks
+mod Sending
