@@ -1,8 +1,10 @@
 -- Calls of a site over a definition: what stands before the answer.
-use Rattle.std.specs.Prelude.{ℕ, ◌<◌, ◌≤◌, List, length}
+use Rattle.std.specs.Prelude.{◌≡◌, ℕ, ◌<◌, ◌≤◌, true, false, List, length}
 use Rattle.mh_type.specs.Fits.{Fits}
 use Rattle.mh_type.specs.declared.value.Value.{Value}
+use Rattle.mh_ledger.specs.Ledgers.{LedgerState, with_hit}
 use Rattle.mh_site.specs.Defined.{DefinitionData, site_at}
+use Rattle.mh_core.specs.Hits.{hits}
 use Rattle.mh_core.specs.declared.caller.CalleeFault.{CalleeFault}
 use Rattle.mh_core.specs.declared.caller.CalleeFault.TheVariants.{NoSite, WrongType}
 use Rattle.mh_core.specs.declared.refusal.Refusal.{Refusal}
@@ -21,3 +23,8 @@ RefusesCallee d s a WrongType = (s < length d.sites) × (Fits (site_at d s).meth
 abbrev pub refusal_of_callee : CalleeFault → Refusal
 refusal_of_callee NoSite = refusal.NoSite
 refusal_of_callee WrongType = refusal.WrongType
+
+-- the link that is hit has one more hit, and no other
+pub record Counts (d : DefinitionData) (s : ℕ) (a : List Value) (l new : LedgerState) : Type 0 where
+  pub hit : (j : ℕ) → hits d s a j ≡ true → new ≡ with_hit l j
+  pub none : ((j : ℕ) → hits d s a j ≡ false) → new ≡ l

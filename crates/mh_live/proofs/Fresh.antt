@@ -1,7 +1,7 @@
 -- The ledgers and the passes of an opening, and the shares that its book keeps.
-use Rattle.std.proofs.Common.{◌≡◌, ◌<◌, ℕ, List, [], ◌∷◌, ◌∙◌, ap, arith, length, map, refl, replicate}
-use Rattle.std.specs.List.{All, range_with_len}
-use Rattle.std.proofs.lemmas.List.{get_or-map, length-map, length-replicate}
+use Rattle.std.proofs.Common.{◌≡◌, ℕ, List, [], ◌∷◌, ap, length, map, refl, replicate}
+use Rattle.std.specs.List.{range_with_len}
+use Rattle.std.proofs.lemmas.List.{length-replicate}
 use Rattle.std.proofs.lemmas.Simd.{map-map}
 use Rattle.mh_ledger.specs.Ledgers.{LedgerState, opened_ledger}
 use Rattle.mh_site.specs.Defined.{DefinitionData}
@@ -9,11 +9,6 @@ use Rattle.mh_site.specs.Links.{links}
 use Rattle.mh_core.specs.Books.{opened_book}
 use Rattle.mh_core.specs.Limits.{LimitsData}
 use Rattle.mh_live.specs.Passes.{PassState, new_pass, new_passes}
-
-pub opened_lengths : (count limit workers : ℕ) → All (λ (l : LedgerState). length l.unflushed ≡ count) (map (opened_ledger count limit) (range_with_len 0 workers))
-opened_lengths count limit workers i l h =
-    let inside : i < length (range_with_len 0 workers) = omega (arith, h, length-map (range_with_len 0 workers) (opened_ledger count limit)) in
-    ap (λ (m : LedgerState). length m.unflushed) (get_or-map (opened_ledger count limit) (range_with_len 0 workers) i 0 l inside) ∙ length-replicate count 0
 
 pub ledgers_back : (ls : List LedgerState) → map (λ (p : PassState). p.ledger) (map new_pass ls) ≡ ls
 ledgers_back [] = refl

@@ -1,10 +1,10 @@
 -- What a call of a pass answers, counts and is refused.
-use Rattle.std.specs.Prelude.{ℕ, ◌≡◌, ◌⊎◌, ◌<◌, ◌≤◌, true, false, List, ◌∷◌, length}
+use Rattle.std.specs.Prelude.{ℕ, ◌≡◌, ◌⊎◌, ◌<◌, ◌≤◌, true, List, ◌∷◌, length}
 use Rattle.mh_type.specs.Fits.{Fits}
 use Rattle.mh_type.specs.declared.value.Value.{Value}
 use Rattle.mh_tree.specs.Meaning.{mean, steps}
 use Rattle.mh_eval.specs.Entered.{EntersPlain}
-use Rattle.mh_ledger.specs.Ledgers.{LedgerState, at, with_hit}
+use Rattle.mh_ledger.specs.Ledgers.{LedgerState, at}
 use Rattle.mh_site.specs.Defined.{DefinitionData, site_at}
 use Rattle.mh_site.specs.Worlds.{environment_of_bases, environment_of_links, linked_sites, state_at}
 use Rattle.mh_site.specs.declared.control.Control.{Control}
@@ -27,11 +27,6 @@ pub record AnswersBy (d : DefinitionData) (controls : List Control) (s : ℕ) (a
   pub value : let w = world_after d controls in answer.outcome ≡ mean (environment_of_bases w) (state_at w s).base.tree a
   pub entered : let w = world_after d controls in answer.steps ≡ steps (environment_of_links w) (state_at w s).linked.tree a
   pub count : answer.front ≡ length controls
-
--- the link that is hit has one more hit, and no other
-pub record Counts (d : DefinitionData) (s : ℕ) (a : List Value) (l new : LedgerState) : Type 0 where
-  pub hit : (j : ℕ) → hits d s a j ≡ true → new ≡ with_hit l j
-  pub none : ((j : ℕ) → hits d s a j ≡ false) → new ≡ l
 
 -- the first test that fails is told; one of the last two, where none does
 abbrev pub RefusesCall : DefinitionData → LedgerState → ℕ → List Value → CallFault → Type 0

@@ -9,8 +9,8 @@ ghost use Rattle.mh_ledger.specs.Ledgers.{at, made, with_hit};
 ghost use Rattle.mh_site.specs.Defined.{site_at};
 ghost use Rattle.mh_site.specs.Links.{links};
 ghost use Rattle.mh_site.specs.Worlds.{environment_of_bases, environment_of_links, state_at};
-ghost use Rattle.mh_core.specs.Callers.{IsCallable};
-ghost use Rattle.mh_live.specs.Calls.{MayCall, AnswersBy, Counts, RefusesCall, IsKeptOut, IsUntried, TakesNoMemory};
+ghost use Rattle.mh_core.specs.Callers.{Counts, IsCallable};
+ghost use Rattle.mh_live.specs.Calls.{MayCall, AnswersBy, RefusesCall, IsKeptOut, IsUntried, TakesNoMemory};
 ghost use Rattle.mh_live.specs.Rules.{Stands, newcomer, world_after};
 
 use crate::call_fault::CallFault;

@@ -1,3 +1,3 @@
 mod Fieldless
-mod HeldLinks
+mod Results
 mod Sending

@@ -1,12 +1,12 @@
 -- What contracts see of a caller, and what its calls count and are refused.
-use Rattle.std.specs.Prelude.{◌≡◌, ℕ, ◌<◌, true, false, List, length, refl}
+use Rattle.std.specs.Prelude.{◌≡◌, ℕ, ◌<◌, true, List, length, refl}
 use Rattle.std.specs.Coded.{Coded, code_by, coded×}
 use Rattle.mh_base.specs.Tests.{Tests, test, only}
 use Rattle.mh_type.specs.Fits.{Fits}
 use Rattle.mh_type.specs.declared.value.Value.{Value}
 use Rattle.mh_ledger.specs.Codes.{coded_ledger}
-use Rattle.mh_ledger.specs.Ledgers.{LedgerState, at, with_hit}
-use Rattle.mh_site.specs.Defined.{DefinitionData, site_at}
+use Rattle.mh_ledger.specs.Ledgers.{LedgerState, at}
+use Rattle.mh_site.specs.Defined.{site_at}
 use Rattle.mh_core.specs.Books.{BookState, coded_book}
 use Rattle.mh_core.specs.Hits.{hits}
 use Rattle.mh_core.specs.Refusals.{memory_last}
@@ -35,8 +35,3 @@ call_tests c s a =
     test (s < length c.shown.definition.sites) (only NoSite)
     (test (Fits (site_at c.shown.definition s).method_type a) (only WrongType)
     (test (HasRoom c s a) (only LedgerFull) memory_last))
-
--- the link that is hit has one hit more, and no other
-pub record Counts (d : DefinitionData) (s : ℕ) (a : List Value) (l new : LedgerState) : Type 0 where
-  pub hit : (j : ℕ) → hits d s a j ≡ true → new ≡ with_hit l j
-  pub none : ((j : ℕ) → hits d s a j ≡ false) → new ≡ l

@@ -5,10 +5,11 @@ ghost use Rattle.std.specs.Arc.{arc_value};
 ghost use Rattle.mh_base.specs.Tests.{Passes, Refuses};
 ghost use Rattle.mh_site.specs.Links.{links};
 ghost use Rattle.mh_core.specs.Books.{IsBook};
+ghost use Rattle.mh_core.specs.Callers.{Counts};
 ghost use Rattle.mh_core.specs.Legal.{answer_of_call};
 ghost use Rattle.mh_core.specs.Runtimes.{TakesNoMemory};
 ghost use Rattle.mh_core.specs.declared.reply.Reply.TheVariants.{Called};
-ghost use Rattle.mh_share.specs.Callers.{Counts, call_tests, caller_by};
+ghost use Rattle.mh_share.specs.Callers.{call_tests, caller_by};
 ghost use Rattle.mh_share.specs.Desks.{RefusesLook};
 
 use crate::desk::Desk;

@@ -8,7 +8,7 @@ use Rattle.mh_type.specs.declared.value.Value.{Value}
 use Rattle.mh_ledger.specs.Ledgers.{LedgerState, added, at, made, settled}
 use Rattle.mh_site.specs.Defined.{DefinitionData}
 use Rattle.mh_core.specs.Hits.{hits}
-use Rattle.mh_live.specs.Calls.{Counts}
+use Rattle.mh_core.specs.Callers.{Counts}
 use Rattle.mh_live.specs.Passes.{PassState}
 use Rattle.mh_stress.specs.Rounds.{HasCalled, HasWorked, MakesCall, hits_by, times_hit}
 use Rattle.mh_stress.specs.declared.division.Call.{Call}

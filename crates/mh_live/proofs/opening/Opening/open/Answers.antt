@@ -2,6 +2,7 @@ use Rattle.std.proofs.Common.{arith, ◌≡◌, ◌∙◌, List, ap, length, map
 use Rattle.std.specs.List.{All}
 use Rattle.std.proofs.lemmas.List.{get_or-map, length-map}
 use Rattle.std.proofs.lemmas.Simd.{map-map}
+use Rattle.mh_ledger.specs.Laws.{opened_lengths}
 use Rattle.mh_ledger.specs.Ledgers.{AreHeld, LedgerState, TotalsState}
 use Rattle.mh_site.specs.Defined.{DefinitionData}
 use Rattle.mh_site.specs.Links.{links}
@@ -9,7 +10,7 @@ use Rattle.mh_core.specs.Books.{BookState, opened_book}
 use Rattle.mh_live.specs.Openings.{OpeningState}
 use Rattle.mh_live.specs.Passes.{PassState, new_pass, new_passes}
 use Rattle.mh_live.specs.declared.opening.Seat.{Seat}
-use Rattle.mh_live.proofs.Fresh.{ledgers_back, opened_lengths, passes_are}
+use Rattle.mh_live.proofs.Fresh.{ledgers_back, passes_are}
 use Rattle.mh_live.proofs.opening.Opening.open.Goals as goal
 
 pub seat_all-requires-clause-links : goal.seat_all-requires-clause-links

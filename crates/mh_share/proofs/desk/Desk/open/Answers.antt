@@ -1,11 +1,11 @@
 use Rattle.std.proofs.Common.{◌≡◌, ◌∙◌, List, ap, length, map, subst, sym}
 use Rattle.std.specs.List.{All, range_with_len}
 use Rattle.std.proofs.lemmas.Simd.{map-map}
+use Rattle.mh_ledger.specs.Laws.{opened_lengths}
 use Rattle.mh_ledger.specs.Ledgers.{LedgerState, opened_ledger}
 use Rattle.mh_site.specs.Links.{links}
 use Rattle.mh_core.specs.Books.{BookState, opened_book}
 use Rattle.mh_share.specs.Callers.{caller_by}
-use Rattle.mh_share.proofs.HeldLinks.{opened_lengths}
 use Rattle.mh_share.proofs.desk.Desk.open.Goals as goal
 
 pub callers-requires : goal.callers-requires
