@@ -1,6 +1,7 @@
 -- Laws of the definitions, for the proofs of crates above. Each is proved: nothing here is to be believed.
 pub mod Caches
 pub mod Changes
+pub mod Crossing
 pub mod Extending
 pub mod InvokedTrees
 pub mod LawfulLinks
