@@ -57,14 +57,29 @@ fn site(alloc: Global) -> anyhow::Result<Site> {
 
 /// The site `joined`, without a link.
 fn joining_site(alloc: Global) -> anyhow::Result<Site> {
+    plain_site(alloc, "joined")
+}
+
+/// A site that joins two texts, without a link.
+fn plain_site(alloc: Global, name: &str) -> anyhow::Result<Site> {
     Ok(Site {
-        name: Name::new(alloc, "joined")?,
+        name: Name::new(alloc, name)?,
         method_type: MethodType::new(Kind::Text, &[Kind::Text, Kind::Text])?,
         level: 0,
         key: None,
         target: Declared::new(&Handle::op(alloc, Op::Concat)?)?,
         links: Listing::from_vec(Vec::new(alloc)),
     })
+}
+
+/// A point `c` of cost 3, for a longer definition.
+pub(crate) fn further_point(alloc: Global) -> anyhow::Result<Listing<Point>> {
+    Ok(Listing::from_vec(vec![in alloc; point(alloc, "c", 3)?]?))
+}
+
+/// A site `further` without a link, for a longer definition.
+pub(crate) fn further_site(alloc: Global) -> anyhow::Result<Listing<Site>> {
+    Ok(Listing::from_vec(vec![in alloc; plain_site(alloc, "further")?]?))
 }
 
 /// A link for 1, which needs the first point, and one for 2, which needs both.

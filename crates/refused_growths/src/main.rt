@@ -13,6 +13,7 @@ mod offices;
 mod openings;
 mod passes;
 mod plans;
+mod runtimes;
 mod settling;
 mod subject;
 mod telling;

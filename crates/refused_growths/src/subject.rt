@@ -6,6 +6,7 @@ use crate::offices;
 use crate::openings::{try_new, try_open};
 use crate::passes::{Called, try_call};
 use crate::plans::{try_large_plan, try_large_problem, try_plan};
+use crate::runtimes::{Beginning, try_beginning, try_resumption};
 use crate::settling::try_settle;
 use crate::trees::{Maker, try_maker};
 use std::alloc::Global;
@@ -33,6 +34,10 @@ pub(crate) enum Subject {
     Book(Change),
     /// A method of an office, through its lock.
     Office(Change),
+    /// A new history of a runtime.
+    Runtime(Beginning),
+    /// `Runtime::resume`.
+    Resumption,
     /// `Machine::run`.
     Run,
     /// `Machine::step` and the planner.
@@ -48,7 +53,7 @@ pub(crate) enum Subject {
 }
 
 /// All subjects with their words.
-const ALL: [(&str, Subject); 40] = [
+const ALL: [(&str, Subject); 43] = [
     ("constant", Subject::Tree(Maker::Constant)),
     ("identity", Subject::Tree(Maker::Identity)),
     ("operation", Subject::Tree(Maker::Operation)),
@@ -82,6 +87,9 @@ const ALL: [(&str, Subject); 40] = [
     ("office-snapshot", Subject::Office(Change::Snapshot)),
     ("office-publication", Subject::Office(Change::Publication)),
     ("office-installation", Subject::Office(Change::Installation)),
+    ("runtime-renewal", Subject::Runtime(Beginning::Renewal)),
+    ("runtime-extension", Subject::Runtime(Beginning::Extension)),
+    ("runtime-resumption", Subject::Resumption),
     ("machine-run", Subject::Run),
     ("machine-steps", Subject::Steps),
     ("opening-new", Subject::OpeningNew),
@@ -119,6 +127,8 @@ pub(crate) fn try_subject<R: Print + Threads + Wait + Sync>(
         Subject::BookProblem => books::try_problem(rt, alloc),
         Subject::Book(change) => books::try_change(rt, alloc, change),
         Subject::Office(change) => offices::try_change(rt, alloc, change),
+        Subject::Runtime(beginning) => try_beginning(rt, alloc, beginning),
+        Subject::Resumption => try_resumption(rt, alloc),
         Subject::Run => try_run(rt, alloc),
         Subject::Steps => try_steps(rt, alloc),
         Subject::OpeningNew => try_new(rt, alloc),
