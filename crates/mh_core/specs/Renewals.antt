@@ -10,12 +10,14 @@ use Rattle.mh_pic.specs.Specialised.{is_among, retired_tree}
 use Rattle.mh_ledger.specs.declared.old_hits.OldHits.{OldHits}
 use Rattle.mh_ledger.specs.Renewals.{renewed_shares, renewed_totals}
 use Rattle.mh_site.specs.Defined.{DefinitionData}
+use Rattle.mh_site.specs.Links.{links}
 use Rattle.mh_site.specs.Targets.{with_targets}
 use Rattle.mh_core.specs.declared.record.Record.{Record}
 use Rattle.mh_core.specs.declared.record.Record.TheVariants.{Flushed, Invalidated}
 use Rattle.mh_core.specs.declared.renewing.Beginning.{Beginning}
 use Rattle.mh_core.specs.declared.refusal.Refusal.{Refusal}
 use Rattle.mh_core.specs.declared.refusal.Refusal.TheVariants.{HistoryFull, NoPoint}
+use Rattle.mh_core.specs.declared.succession.Succession.{Succession}
 use Rattle.mh_core.specs.Books.{BookState}
 use Rattle.mh_core.specs.Limits.{LimitsData}
 use Rattle.mh_core.specs.Records.{base, environment_of_bases, hits_in, is_valid, numbers, valid_points}
@@ -65,15 +67,24 @@ pub record MeansTheSame (again : List ℕ) (b new : BookState) : Type 0 where
       ≡ mean (environment_of_bases b.definition b.records) (base b.definition b.records s).tree a
   pub valid : valid_points new.definition new.records ≡ map (is_valid_anew b.records again) (numbers (length b.definition.points))
 
+-- what another book begins with that goes on where this one stands, once its first record invalidates the points that are not valid again
+pub record Succeeds (again : List ℕ) (b : BookState) (next : Succession) : Type 0 where
+  pub definition : next.definition ≡ renewed b.definition b.records again
+  pub invalid : next.invalid ≡ fallen b.definition b.records again
+  pub links : links next.definition ≡ links b.definition
+  pub means : (new : BookState) → new.definition ≡ next.definition → new.records ≡ Invalidated next.invalid ∷ [] → MeansTheSame again b new
+
 -- the points are there
 abbrev pub AreKnown : DefinitionData → List ℕ → Type 0
 AreKnown d points = All (λ p. p < length d.points) points
 
+-- the tests of points that are to be valid again: they are there
+abbrev pub again_tests : DefinitionData → List ℕ → Tests Refusal
+again_tests d again = test (AreKnown d again) (only NoPoint) memory_last
+
 -- the tests of a renewal with so many workers: the new history has room for its first records, and what is to be valid again is there
 abbrev pub renewal_tests : DefinitionData → LimitsData → ℕ → List ℕ → Tests Refusal
-renewal_tests d l workers again =
-    test (workers < l.history) (only HistoryFull)
-    (test (AreKnown d again) (only NoPoint) memory_last)
+renewal_tests d l workers again = test (workers < l.history) (only HistoryFull) (again_tests d again)
 
 -- each site's base tree has its type
 abbrev pub BasesAreTyped : DefinitionData → List Record → Type 0

@@ -41,6 +41,7 @@ mod resuming;
 mod runtime;
 mod snapshot;
 mod state;
+mod succession;
 mod testing;
 mod used;
 
@@ -80,4 +81,5 @@ pub use renewing::Renewal;
 pub use reply::Reply;
 pub use resuming::ResumptionFault;
 pub use runtime::Runtime;
+pub use succession::Succession;
 pub use used::Used;

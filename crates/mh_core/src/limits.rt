@@ -65,6 +65,17 @@ impl Limits {
         })
     }
 
+    /// The same limits.
+    pub fn copy(&self) -> Limits
+        ensures value { result ≡ self.now }
+    {
+        Limits {
+            history: self.history,
+            ledger: self.ledger,
+            total: self.total,
+        }
+    }
+
     /// The most events of a history, at most 2^20.
     pub fn history(&self) -> u64
         ensures value { result ≡ self.now.history }

@@ -127,7 +127,7 @@ impl Book {
     }
 
     // The points that stay invalid, ascending.
-    fn fallen(&self, again: &[u32]) -> Result<Listing<u32>, NoMemory>
+    pub(crate) fn fallen(&self, again: &[u32]) -> Result<Listing<u32>, NoMemory>
         ensures value { IfOk result (λ points. points
             ≡ fallen self.now.definition self.now.records again.now) }
     {

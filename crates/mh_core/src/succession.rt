@@ -1,0 +1,55 @@
+//! What another book begins with, so that it goes on where one stands.
+
+ghost use Rattle.std.specs.Prelude.{IfErr, IfOk, OnOk};
+ghost use Rattle.mh_base.specs.Tests.{Refuses};
+ghost use Rattle.mh_core.specs.Renewals.{AreKnown, Succeeds, again_tests};
+
+use crate::book::Book;
+use crate::refusal::Refusal;
+use crate::testing::all_below;
+use mh_base::NoMemory;
+use mh_site::{Definition, Listing};
+
+/// What another book begins with, so that it goes on where one stands.
+#[derive(Debug, Drop)]
+pub struct Succession {
+    /// The definition, as `Book::renewed` gives it.
+    pub definition: Definition,
+    /// The points that are to be invalidated first, ascending.
+    pub invalid: Listing<u32>,
+}
+
+impl Book {
+    /// What another book begins with, so that each site's calls mean what they mean here once its
+    /// first record invalidates these points. Points that are to be valid again are valid there;
+    /// each that is invalid gives way to its fallback in the base trees. Points, sites and links
+    /// keep their numbers. No hits go over. In the time of `renewed`.
+    ///
+    /// Refused with `NoPoint` where a number of a point that is to be valid again is past the last
+    /// point, and then with `NoMemory`.
+    pub fn succession(&self, again: &[u32]) -> Result<Succession, Refusal>
+        ensures known { OnOk result (AreKnown self.now.definition again.now) }
+        ensures succeeds { IfOk result (Succeeds again.now self.now) }
+        ensures refused { IfErr result (λ told. Refuses
+            (again_tests self.now.definition again.now) told) }
+    {
+        if !all_below(again, self.definition.points().len()) {
+            return Err(Refusal::NoPoint);
+        }
+        self.succession_of_known(again)
+            .map_err(|_| Refusal::NoMemory)
+    }
+
+    // The same where the points are there.
+    fn succession_of_known(&self, again: &[u32]) -> Result<Succession, NoMemory>
+        requires known { AreKnown self.now.definition again.now }
+        ensures succeeds { IfOk result (Succeeds again.now self.now) }
+    {
+        let definition = self.renewed(again)?;
+        let invalid = self.fallen(again)?;
+        Ok(Succession {
+            definition,
+            invalid,
+        })
+    }
+}
