@@ -5,7 +5,7 @@ use crate::definition::{
 };
 use crate::telling::{tell_again, tell_book, tell_opened, tell_part, tell_worked};
 use mh_live::mh_core::{
-    Definition, DefinitionFault, ExtensionFault, Listing, OldHits, Point, Refusal, Renewal,
+    Definition, DefinitionFault, ExtensionFault, Limits, Listing, OldHits, Point, Refusal, Renewal,
     ResumptionFault, Runtime, Site, Value,
 };
 use std::alloc::Global;
@@ -40,15 +40,27 @@ fn hit(runtime: &mut Runtime) -> anyhow::Result<()> {
     Ok(())
 }
 
-/// Two hits, which are flushed, a plan for them, which is installed, a hit more, and the point 1
-/// invalid.
-fn make_ready(alloc: Global, runtime: &mut Runtime) -> anyhow::Result<()> {
+/// A runtime of one worker.
+fn open(alloc: Global) -> anyhow::Result<Runtime> {
+    let definition = define(alloc)?;
+    let runtime = Runtime::open(alloc, &definition, 1, limits()?)?;
+    Ok(runtime)
+}
+
+/// Two hits, which are flushed, and a plan for them, which is installed.
+fn link(alloc: Global, runtime: &mut Runtime) -> anyhow::Result<()> {
     hit(runtime)?;
     hit(runtime)?;
     runtime.flush(0)?;
     runtime.snapshot()?;
     runtime.publish(1, plan_of_two_hits(alloc)?)?;
     runtime.install(1)?;
+    Ok(())
+}
+
+/// Links the site `f`, hits once more, and invalidates the point 1.
+fn make_ready(alloc: Global, runtime: &mut Runtime) -> anyhow::Result<()> {
+    link(alloc, runtime)?;
     hit(runtime)?;
     runtime.invalidate(second_point(alloc)?)?;
     Ok(())
@@ -81,8 +93,7 @@ pub(crate) fn try_beginning(
     alloc: Global,
     beginning: Beginning,
 ) -> anyhow::Result<()> {
-    let definition = define(alloc)?;
-    let mut runtime = Runtime::open(alloc, &definition, 1, limits()?)?;
+    let mut runtime = open(alloc)?;
     try_opened(rt, alloc, &mut runtime, beginning)
 }
 
@@ -115,11 +126,9 @@ fn tell(rt: &impl Print, runtime: &Runtime) -> anyhow::Result<()> {
 fn count_resumed(
     alloc: Global,
     definition: &Definition,
+    limits: Limits,
     invalid: Listing<u32>,
 ) -> Result<usize, Refusal> {
-    let Ok(limits) = limits() else {
-        return Err(Refusal::HistoryFull);
-    };
     match Runtime::resume(alloc, definition, 1, limits, invalid, &[2, 0]) {
         Ok(runtime) => Ok(runtime.used().records),
         Err(ResumptionFault::NoMemory) => Err(Refusal::NoMemory),
@@ -133,9 +142,9 @@ pub(crate) fn try_resumption(rt: &impl Print, alloc: Global) -> anyhow::Result<(
     tell_part(rt, "definition", &definition)?;
     let invalid = second_point(alloc)?;
     tell_opened(rt)?;
-    tell_worked(rt, &count_resumed(alloc, &definition, invalid))?;
+    tell_worked(rt, &count_resumed(alloc, &definition, limits()?, invalid))?;
     tell_part(rt, "definition", &definition)?;
     let invalid = second_point(alloc)?;
-    tell_again(rt, &count_resumed(alloc, &definition, invalid))?;
+    tell_again(rt, &count_resumed(alloc, &definition, limits()?, invalid))?;
     tell_part(rt, "definition", &definition)
 }
