@@ -11,9 +11,10 @@
    A history ends: after 1,024 snapshots or plans, or as many records as its limit allows, changes are refused with
    MHLINK_HISTORY_FULL. A host renews the machine before that, when mhlink_used says that records, snapshots or plans near
    their limits: mhlink_renew begins a new history, and a machine need never end. After an invalidation or a retargeting that
-   was refused the sites that it concerns answer as before, so a host that relies on the change makes no call of them. Each
-   flush, retargeting and snapshot keeps some memory until mhlink_renew or mhlink_close. docs/EMBEDDING.md, "From C", has the
-   figures, and how a site dispatches to methods of the host. */
+   was refused, for memory too, the sites that it concerns answer as before. A host that relies on the change makes no call of
+   them: it lets memory go, and asks again until the status is MHLINK_OK, which it may, since the machine is as before; or it
+   closes the machine. Each flush, retargeting and snapshot keeps some memory until mhlink_renew or mhlink_close.
+   docs/EMBEDDING.md, "From C", has the figures, and how a site dispatches to methods of the host. */
 #ifndef MHLINK_H
 #define MHLINK_H
 
@@ -144,6 +145,16 @@ uint32_t mhlink_used(mhlink_machine *machine, mhlink_usage *used);
    installs at once. One record more than there are workers is used up; where the limit of the history is no more than the
    workers, the status is MHLINK_HISTORY_FULL. */
 uint32_t mhlink_renew(mhlink_machine *machine, const uint32_t *again, size_t count, uint32_t hits);
+
+/* Further points and sites, which stand behind those that are there, and a new history over them. The text is an object with
+   `points`, `sites`, and where it likes `shared`, each as in a definition of version 2 (docs/FORMATS.md); other keys mean nothing.
+   Its trees name any point, the shared trees of the text itself, and sites that stand earlier, those that are there among them.
+   From then on a tree that a caller passes names the shared trees of the newest text, and no earlier ones. All is as after
+   mhlink_renew with MHLINK_KEEP_HITS and no point given back: each call means what it meant, numbers stay, points are valid that
+   were, and the new ones are; hits stay; snapshots and plans are numbered from 1 again, and no site holds a link. The status may be
+   that of a text that mhlink_open refuses, with the number of the cause in `part`, and MHLINK_HISTORY_FULL where the limit of the
+   history is no more than the workers. The limits of a definition hold of all points and sites together: 4,096 of each. */
+uint32_t mhlink_extend(mhlink_machine *machine, const uint8_t *json, size_t length, uint64_t *part);
 
 /* Unflushed hits of a link by a worker, its hits in the totals, and how many links a site holds. */
 uint32_t mhlink_hits(mhlink_machine *machine, uint32_t worker, size_t link, uint64_t *hits);

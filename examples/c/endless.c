@@ -1,8 +1,8 @@
 /* A host that never ends: an interpreter whose four classes are redefined in every round, whose call sites are planned and linked
    in every round, and which begins a new history whenever mhlink_used says that the one it has is nearly used up. Points on which
-   methods rested are given back then, so that it needs no more of them than one history uses. Each answer, total and number is
-   compared with what plain arrays say, and the resident memory at the end with that after the first renewal. `endless ROUNDS`
-   makes so many rounds, and else 2,000. */
+   methods rested are given back then, so that it needs no more of them than one history uses, and code is loaded: a further site
+   and a point of its own. Each answer, total and number is compared with what plain arrays say, and the resident memory at the end
+   with that after the first renewal. `endless ROUNDS` makes so many rounds, and else 2,000. */
 #include "mhlink.h"
 #include <inttypes.h>
 #include <stdio.h>
@@ -19,7 +19,7 @@ static int is_valid[SITES];
 static uint64_t flushed[SITES][LINKED], unflushed[SITES][LINKED];
 
 static mhlink_machine machine;
-static uint64_t calls, changes, plans, renewals, differ, pages_then;
+static uint64_t calls, changes, plans, renewals, loads, differ, pages_then;
 static char text[1 << 16];
 
 static const uint8_t *bytes(const char *it) { return (const uint8_t *)it; }
@@ -186,6 +186,62 @@ static uint32_t leave_to_host(uint32_t site) {
     return MHLINK_OK;
 }
 
+/* The text of loaded code: a point, and a site with one link that rests on it, and that asks the first site where it does not
+   stand. */
+static size_t put_code(char *to, uint64_t load) {
+    return (size_t)sprintf(to, "{\"points\":[{\"name\":\"c%" PRIu64 "\",\"cost\":1}],"
+        "\"shared\":[[\"own\",[\"drop\",[\"const\",\"int\",%" PRIu64 "],0,[\"int\"]]]],"
+        "\"sites\":[{\"name\":\"l%" PRIu64 "\",\"type\":\"(int)int\",\"level\":1,\"key\":0,"
+        "\"target\":[\"point\",\"c%" PRIu64 "\",[\"ref\",\"own\"],[\"invoke\",\"s0\"]],"
+        "\"links\":[{\"when\":1,\"weight\":1,\"needs\":[\"c%" PRIu64 "\"]}]}]}", load, 1000 + load, load, load, load);
+}
+
+/* The numbers of the point, the site and the link that were loaded last are the next ones. */
+static uint32_t find_loaded(void) {
+    char name[16];
+    uint64_t site = 0, point = 0, link = 0;
+    const mhlink_value key = {MHLINK_INT, 1};
+    size_t length = (size_t)sprintf(name, "l%" PRIu64, loads);
+    uint32_t status = mhlink_site(&machine, bytes(name), length, &site);
+    name[0] = 'c';
+    if (!status) status = mhlink_point(&machine, bytes(name), length, &point);
+    if (!status) status = mhlink_link(&machine, site, &key, bytes(""), 0, &link);
+    same(site, SITES + loads);
+    same(point, POINTS + loads);
+    same(link, SITES * LINKED + loads);
+    return status;
+}
+
+/* A call of the site that was loaded last. */
+static uint32_t call_loaded(int64_t wanted) {
+    const mhlink_value value = {MHLINK_INT, 1};
+    mhlink_reply reply = {MHLINK_THROWN, 0, 0};
+    uint32_t status = mhlink_call(&machine, 0, SITES + loads, &value, 1, bytes(""), 0, &reply);
+    calls++;
+    if (reply.kind != MHLINK_INT || reply.number != wanted) differ++;
+    return status;
+}
+
+/* Code is loaded: the machine gets a further point and a further site, and its history begins anew, with all hits. The names are
+   there then, so that the same text is refused, and nothing changes. Once the point is invalid, the site asks the first one. */
+static uint32_t load(void) {
+    const uint32_t point = (uint32_t)(POINTS + loads);
+    size_t length = put_code(text, loads);
+    uint64_t part = 9;
+    uint32_t status = mhlink_extend(&machine, bytes(text), length, &part);
+    same(part, 0);
+    if (!status) status = find_loaded();
+    if (!status) status = call_loaded(1000 + (int64_t)loads);
+    if (status) return status;
+    same(mhlink_extend(&machine, bytes(text), length, &part), MHLINK_INPUT + 8);
+    same(part, 7);
+    status = mhlink_invalidate(&machine, &point, 1);
+    changes++;
+    if (!status) status = call_loaded(is_valid[0] ? methods[0][0] : -1);
+    loads++;
+    return status ? status : compare_totals();
+}
+
 /* A new history, in which hits of the totals weigh half, and points on which no site rests are valid again. Nothing of it is used
    up but its first two records, hits that were not flushed are still there, and no site holds a link. */
 static uint32_t renew(void) {
@@ -208,6 +264,7 @@ static uint32_t renew(void) {
         same(links, 0);
     }
     status = compare_totals();
+    if (!status) status = load();
     return status ? status : plan_and_install();
 }
 
@@ -234,7 +291,8 @@ int main(int count, char **words) {
     status = run(count > 1 ? strtoull(words[1], NULL, 10) : 2000);
     if (renewals) same(resident() > 2 * pages_then, 0);
     mhlink_close(machine);
-    printf("%" PRIu64 " calls, %" PRIu64 " changes, %" PRIu64 " plans, %" PRIu64 " renewals\n", calls, changes, plans, renewals);
+    printf("%" PRIu64 " calls, %" PRIu64 " changes, %" PRIu64 " plans, %" PRIu64 " renewals, %" PRIu64 " loads\n", calls, changes, plans,
+           renewals, loads);
     printf("status %" PRIu32 ", %" PRIu64 " differ\n", status, differ);
     return status != 0 || differ != 0;
 }

@@ -14,6 +14,10 @@ static const char definition[] =
     " \"links\": [{\"when\": 1, \"weight\": 3, \"needs\": [\"a\"]}]},"
     "{\"name\": \"join\", \"type\": \"(String,String)String\", \"target\": [\"op\", \"concat\"]}]}";
 static const char plan_json[] = "{\"links\": [0], \"points\": [0], \"value\": 1, \"flow\": [[0, 0, 5]]}";
+static const char further[] =
+    "{\"points\": [{\"name\": \"b\", \"cost\": 2}], \"sites\": [{\"name\": \"g\", \"type\": \"(int)int\", \"level\": 1, \"key\": 0,"
+    " \"target\": [\"point\", \"b\", [\"insert\", [\"op\", \"imul\"], 1, [7]], [\"invoke\", \"f\"]],"
+    " \"links\": [{\"when\": 1, \"weight\": 2, \"needs\": [\"a\", \"b\"]}]}]}";
 static const char one_less[] = "[\"insert\", [\"op\", \"isub\"], 1, [1]]";
 
 static const uint8_t *bytes(const char *text) { return (const uint8_t *)text; }
@@ -89,6 +93,13 @@ int main(void) {
     ASK(mhlink_hits(&machine, 0, 0, &number));
     ASK(mhlink_total(&machine, 0, &part));
     printf("renewed: f(1) %" PRId64 ", hits %" PRIu64 ", total %" PRIu64 ", records %" PRIu64 "\n", reply.number, number, part,
+           used.records);
+    ASK(mhlink_extend(&machine, bytes(further), strlen(further), &part));
+    ASK(mhlink_used(&machine, &used));
+    ASK(mhlink_call(&machine, 0, 2, &one, 1, bytes(""), 0, &reply));
+    ASK(mhlink_hits(&machine, 0, 1, &number));
+    ASK(mhlink_total(&machine, 0, &part));
+    printf("extended: g(1) %" PRId64 ", hits %" PRIu64 ", total %" PRIu64 ", records %" PRIu64 "\n", reply.number, number, part,
            used.records);
     mhlink_close(machine);
     plan_arrays();

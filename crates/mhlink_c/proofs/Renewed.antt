@@ -5,9 +5,12 @@ use Rattle.mh_ledger.specs.Ledgers.{AreHeld, LedgerState}
 use Rattle.mh_ledger.specs.Renewals.{left_of, renewed_shares}
 use Rattle.mh_ledger.specs.declared.old_hits.OldHits.{OldHits}
 use Rattle.mh_site.specs.Defined.{DefinitionData}
+use Rattle.mh_site.specs.declared.point.Point.{Point}
+use Rattle.mh_site.specs.declared.site.Site.{Site}
 use Rattle.mh_core.specs.declared.record.Record.{Record}
 use Rattle.mh_core.specs.declared.record.Record.TheVariants.{Invalidated}
 use Rattle.mh_core.specs.Books.{BookState, IsBook}
+use Rattle.mh_core.specs.Extensions.{Extends, invalid_points}
 use Rattle.mh_core.specs.PlanTables.{plans_of}
 use Rattle.mh_core.specs.Renewals.{Renews, carried, fallen}
 use Rattle.mh_core.specs.Snapshots.{snapshots_of}
@@ -26,13 +29,20 @@ plans_carried : (r : List Record) (shares : List (List ℕ)) (n : ℕ) → plans
 plans_carried r shares zero = refl
 plans_carried r shares (suc n) = plans_carried r shares n
 
+-- a book whose records are an invalidation and a flush of each worker
+carried_fresh : (new : BookState) (points : List ℕ) (shares : List (List ℕ)) (workers : ℕ) → IsBook new → new.records ≡ carried (Invalidated points ∷ []) shares (length shares) → length shares ≡ workers → IsFresh new workers
+carried_fresh new points shares workers is records count =
+    let first : List Record = Invalidated points ∷ [] in
+    record {
+      records = omega (arith, ap (λ (r : List Record). length r) records, length_carried first shares (length shares), count);
+      snapshots = is.snapshots ∙ ap (λ (r : List Record). snapshots_of new.definition r) records ∙ snapshots_carried new.definition first shares (length shares);
+      plans = is.plans ∙ ap (λ (r : List Record). plans_of r) records ∙ plans_carried first shares (length shares);
+    }
+
 pub fresh_is : (again : List ℕ) (h : OldHits) (b new : BookState) (ledgers : List LedgerState) → IsBook new → AreHeld b.totals ledgers → Renews again h b new → IsFresh new (length ledgers)
 fresh_is again h b new ledgers is held renews =
-    let first : List Record = Invalidated (fallen b.definition b.records again) ∷ [] in
-    let shares = renewed_shares h b.totals in
-    let workers : length shares ≡ length ledgers = length-map b.totals.shares (map (left_of h)) ∙ sym held.count in
-    record {
-      records = omega (arith, ap (λ (r : List Record). length r) renews.records, length_carried first shares (length shares), workers);
-      snapshots = is.snapshots ∙ ap (λ (r : List Record). snapshots_of new.definition r) renews.records ∙ snapshots_carried new.definition first shares (length shares);
-      plans = is.plans ∙ ap (λ (r : List Record). plans_of r) renews.records ∙ plans_carried first shares (length shares);
-    }
+    carried_fresh new (fallen b.definition b.records again) (renewed_shares h b.totals) (length ledgers) is renews.records (length-map b.totals.shares (map (left_of h)) ∙ sym held.count)
+
+pub fresh_over : (points : List Point) (sites : List Site) (b new : BookState) (ledgers : List LedgerState) → IsBook new → AreHeld b.totals ledgers → Extends points sites b new → IsFresh new (length ledgers)
+fresh_over points sites b new ledgers is held extends =
+    carried_fresh new (invalid_points b.definition b.records) b.totals.shares (length ledgers) is extends.records (sym held.count)

@@ -2,11 +2,13 @@ pub mod Held
 pub mod Hosts
 pub mod Statuses
 pub mod Inputs
+pub mod Further
 pub mod Buffers
 pub mod Crossing
 pub mod Calls
 pub mod Questions
 pub mod Renewals
+pub mod Extensions
 pub mod Changes
 pub mod Opening
 pub mod Resumptions

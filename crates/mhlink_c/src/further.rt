@@ -1,0 +1,95 @@
+//! What a text in JSON adds to a definition.
+
+ghost use Rattle.std.specs.Prelude.{◌≡◌, fold, IfErr, IfOk};
+ghost use Rattle.serde_json.specs.View.{view};
+ghost use Rattle.mh_text.specs.Gives.{Gives};
+ghost use Rattle.mh_text.specs.Script.{with_site};
+ghost use Rattle.mh_text.specs.declared.fault.InputFault.{InputFault as InputFaultOf};
+ghost use Rattle.mhlink_c.specs.Further.{further_in, further_of, names_of_all as all_names, scope_over as scope_with};
+ghost use Rattle.mhlink_c.specs.Inputs.{Reads};
+
+use crate::fault::Fault;
+use mh_core::{Definition, Listing, Point, Site};
+use mh_site::{Names, Version};
+use mh_text::InputFault;
+use mh_text::readers::{Scope, Sited, point_names, read_json, read_points, read_scope, read_sites};
+use serde_json::Value;
+use std::alloc::{AllocError, Global};
+
+/// Points and sites that are to stand behind those of a definition, and the names that trees may use
+/// from then on.
+#[derive(Drop)]
+pub(crate) struct Further {
+    /// The points.
+    pub(crate) points: Listing<Point>,
+    /// The sites.
+    pub(crate) sites: Listing<Site>,
+    /// The names of all points and sites, and of the shared trees of the text.
+    pub(crate) scope: Scope,
+}
+
+/// What a text in JSON adds to a definition.
+pub(crate) fn read_further(
+    alloc: Global,
+    definition: &Definition,
+    text: &[u8],
+) -> Result<Further, Fault>
+    ensures value { Reads result (further_in definition.now text.now) }
+{
+    let value = read_json(alloc, text)?;
+    Ok(read_value(alloc, definition, &value)?)
+}
+
+// What a JSON value adds to a definition.
+fn read_value(alloc: Global, definition: &Definition, value: &Value) -> Result<Further, InputFault>
+    ensures value { Gives (λ x. x) result (further_of definition.now (view value.now)) }
+{
+    let points = read_points(alloc, value)?;
+    let scope = scope_over(alloc, definition, points.as_slice(), value)?;
+    let Sited { scope, sites } = read_sites(alloc, Version::Two, scope, value)?;
+    Ok(Further {
+        points,
+        sites,
+        scope,
+    })
+}
+
+// The names that the first site may use: of all points, of the shared trees, and of the sites of the
+// definition.
+fn scope_over(
+    alloc: Global,
+    definition: &Definition,
+    points: &[Point],
+    value: &Value,
+) -> Result<Scope, InputFault>
+    ensures value { Gives (λ x. x) result
+        (scope_with definition.now points.now (view value.now)) }
+{
+    let names = names_of_all(alloc, definition.points(), points)?;
+    let scope = read_scope(alloc, names, value)?;
+    let scope = with_sites(scope, definition.sites())?;
+    Ok(scope)
+}
+
+// The names of points, and then of these.
+fn names_of_all(alloc: Global, own: &[Point], more: &[Point]) -> Result<Names, AllocError>
+    ensures value { IfOk result (λ names. names ≡ all_names own.now more.now) }
+{
+    let mut names = point_names(alloc, own)?;
+    for point in more {
+        names.add(point.name.as_str())?;
+    }
+    Ok(names)
+}
+
+// The names, and then those of these sites.
+fn with_sites(scope: Scope, sites: &[Site]) -> Result<Scope, InputFault>
+    ensures value { IfOk result (λ all. all ≡ fold with_site scope sites.now) }
+    ensures refused { IfErr result (λ e. e ≡ InputFaultOf.NoMemory) }
+{
+    let mut all = scope;
+    for site in sites {
+        all.add_site(site)?;
+    }
+    Ok(all)
+}
