@@ -3,7 +3,7 @@ ghost use Rattle.std.specs.Prelude.{◌≡◌, ◌≢◌, ◌⊎◌, [], Some, s
 ghost use Rattle.serde_json.specs.View.{view};
 ghost use Rattle.mh_text.specs.Gives.{no_memory};
 ghost use Rattle.mh_explain.specs.Explanations.{place_text, reading_of, Explains, NamesPlace};
-ghost use Rattle.mh_explain.specs.Places.{IsPlace, fault_of};
+ghost use Rattle.mh_explain.specs.Places.{IsPlace, Leads, fault_of};
 
 use crate::found::{cut, found};
 use crate::input::InputForm;
@@ -37,6 +37,8 @@ fn place(
 ) -> Result<Place, NoMemory>
     ensures place { IfOk result (λ place. fault_of (reading_of form) (view value.now) ≡ Some fault
         → IsPlace fault (view value.now) place.path) }
+    ensures leads { IfOk result (λ place. Leads fault (reading_of form) (view value.now)
+        place.path) }
 {
     match form {
         InputForm::Script => place_in_script(alloc, value, fault),
@@ -80,7 +82,7 @@ fn of_value(
     fault: InputFault,
 ) -> Result<String, NoMemory>
     ensures place { IfOk result (λ lines. fault_of (reading_of form) (view value.now) ≡ Some fault
-        → NamesPlace fault (view value.now) (string_bytes lines)) }
+        → NamesPlace form fault (view value.now) (string_bytes lines)) }
 {
     let place = place(alloc, form, value, fault)?;
     let keys = place.path.as_slice();
