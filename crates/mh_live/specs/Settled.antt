@@ -1,5 +1,5 @@
 -- What stands once all passes are back.
-use Rattle.std.specs.Prelude.{ℕ, ◌≡◌, ◌⊎◌, ◌+◌, ◌==◌, ◌<◌, ◌≤◌, List, length, reverse, refl}
+use Rattle.std.specs.Prelude.{ℕ, ◌≡◌, ◌⊎◌, ◌+◌, ◌==◌, ◌<◌, ◌≤◌, List, [], ◌∷◌, length, reverse, refl}
 use Rattle.std.specs.Coded.{Coded, code_by, coded×, coded_ℕ, coded_list}
 use Rattle.std.specs.List.{All, count_by, sum_by}
 use mathlib.Core.List.{IsPrefix}
@@ -9,9 +9,12 @@ use Rattle.mh_site.specs.Links.{links}
 use Rattle.mh_site.specs.declared.control.Control.{Control}
 use Rattle.mh_core.specs.Books.{BookState, IsBook, coded_book}
 use Rattle.mh_core.specs.Limits.{LimitsData}
+use Rattle.mh_core.specs.Renewals.{MeansTheSame, fallen, renewed}
 use Rattle.mh_core.specs.Replayed.{controls}
+use Rattle.mh_core.specs.declared.record.Record.TheVariants.{Invalidated}
 use Rattle.mh_live.specs.Limits.{most_hits_of_all}
 use Rattle.mh_live.specs.Offices.{AreTotalsOf, list_of}
+use Rattle.mh_live.specs.Openings.{OpeningState}
 use Rattle.mh_live.specs.Passes.{PassState}
 use Rattle.mh_live.specs.Pasts.{coded_controls}
 use Rattle.mh_live.specs.declared.settle_fault.SettleFault.{SettleFault}
@@ -54,6 +57,15 @@ pub record IsSettled (d : DefinitionData) (l : LimitsData) (workers : ℕ) (s : 
   pub links_are : length s.unflushed ≡ length (links d)
   pub within : All (λ n. n ≤ most_hits_of_all) s.unflushed
   pub shows : s.front ≡ list_of s.book
+
+-- an opening for so many workers, within the limits of a book, and the points that its office is to invalidate first: each call then means what it meant by the book
+pub record Reopens (again : List ℕ) (workers : ℕ) (b : BookState) (o : OpeningState) (invalid : List ℕ) : Type 0 where
+  pub definition : o.definition ≡ renewed b.definition b.records again
+  pub workers_are : o.workers ≡ workers
+  pub limits : o.limits ≡ b.limits
+  pub invalid_is : invalid ≡ fallen b.definition b.records again
+  pub numbers : links o.definition ≡ links b.definition
+  pub means : (new : BookState) → new.definition ≡ o.definition → new.records ≡ Invalidated invalid ∷ [] → MeansTheSame again b new
 
 -- what these passes made of each link is its total and what they did not flush
 pub record Settles (d : DefinitionData) (passes : List PassState) (s : SettledState) : Type 0 where

@@ -1,19 +1,23 @@
 //! What stands once all passes are back.
 
-ghost use Rattle.std.specs.Prelude.{◌≡◌, ◌+◌, ◌<◌, ◌≤◌, length};
+ghost use Rattle.std.specs.Prelude.{◌≡◌, ◌+◌, ◌<◌, ◌≤◌, length, IfErr, IfOk, OnOk};
 ghost use Rattle.std.specs.List.{All};
+ghost use Rattle.mh_base.specs.Tests.{Refuses};
 ghost use Rattle.mh_ledger.specs.Ledgers.{at};
 ghost use Rattle.mh_site.specs.Links.{links};
 ghost use Rattle.mh_ledger.specs.Limits.{greatest_limit};
-ghost use Rattle.mh_live.specs.Limits.{most_hits_of_all};
+ghost use Rattle.mh_core.specs.Renewals.{AreKnown, again_tests};
+ghost use Rattle.mh_live.specs.Limits.{most_hits_of_all, most_workers};
 ghost use Rattle.mh_live.specs.Offices.{list_of};
-ghost use Rattle.mh_live.specs.Settled.{IsSettled};
+ghost use Rattle.mh_live.specs.Settled.{IsSettled, Reopens};
 
 use crate::front::{Front, Name};
 use crate::live::Live;
+use crate::opening::Opening;
 use crate::pass::Pass;
 use crate::settle_fault::SettleFault;
-use mh_core::Book;
+use mh_core::{Book, Definition, Listing, Refusal, Succession};
+use std::alloc::Global;
 use std::fmt;
 use std::marker::Model;
 
@@ -114,6 +118,53 @@ impl<N: Name> Settled<N> {
         ensures value { result.now ≡ self.now.book }
     {
         &self.book
+    }
+
+    /// What the next office and its passes are made of, for so many workers, 1 to 64, within the
+    /// same limits, and the points that it is to invalidate first, ascending: from then on each
+    /// site's calls mean what they meant here, and the same points are valid, beside those that are
+    /// to be valid again. Of these each that is invalid gives way to its fallback in the base trees.
+    /// Points, sites and links keep their numbers. Hits count from 0; what was hit stands here.
+    /// In the time of `Book::renewed`, beside that of `Opening::new`.
+    ///
+    /// Refused with `NoPoint` where a number of a point that is to be valid again is past the last
+    /// point, and then with `NoMemory`.
+    pub fn renew(
+        &self,
+        alloc: Global,
+        workers: u32,
+        again: &[u32],
+    ) -> Result<(Opening, Listing<u32>), Refusal>
+        requires workers { (0 < workers) × (workers ≤ most_workers) }
+        ensures known { OnOk result (AreKnown N.definition again.now) }
+        ensures renews { IfOk result (λ t. Reopens again.now workers self.now.book t.0 t.1) }
+        ensures settled { IsSettled N.definition N.limits N.workers self.now }
+        ensures refused { IfErr result (λ told. Refuses (again_tests N.definition again.now)
+            told) }
+    {
+        let Succession {
+            definition,
+            invalid,
+        } = self.book.succession(again)?;
+        let opening = self.reopen(alloc, workers, &definition)?;
+        Ok((opening, invalid))
+    }
+
+    // An opening of a definition, within the limits of now.
+    fn reopen(
+        &self,
+        alloc: Global,
+        workers: u32,
+        definition: &Definition,
+    ) -> Result<Opening, Refusal>
+        requires workers { (0 < workers) × (workers ≤ most_workers) }
+        ensures definition { IfOk result (λ o. o.definition ≡ definition.now) }
+        ensures workers { IfOk result (λ o. o.workers ≡ workers) }
+        ensures limits { IfOk result (λ o. o.limits ≡ self.now.book.limits) }
+        ensures refused { IfErr result (λ told. told ≡ Refusal.NoMemory) }
+    {
+        let limits = self.book.limits().copy();
+        Opening::new(alloc, definition, workers, limits).map_err(|_| Refusal::NoMemory)
     }
 }
 
