@@ -31,18 +31,33 @@ impl OpenFault {
 }
 
 impl From<AllocError> for OpenFault {
+    ghost use Rattle.std.specs.Prelude.{◌≡◌};
+    ghost use Rattle.mh_live.specs.declared.open_fault.OpenFault.{OpenFault};
+
+    ghost from_gives = { λ _ fault. fault ≡ OpenFault.NoMemory };
+
     fn from(_refused: AllocError) -> OpenFault {
         OpenFault::NoMemory
     }
 }
 
 impl<T: Drop> From<AllocFailed<T>> for OpenFault {
+    ghost use Rattle.std.specs.Prelude.{◌≡◌};
+    ghost use Rattle.mh_live.specs.declared.open_fault.OpenFault.{OpenFault};
+
+    ghost from_gives = { λ _ fault. fault ≡ OpenFault.NoMemory };
+
     fn from(_refused: AllocFailed<T>) -> OpenFault {
         OpenFault::NoMemory
     }
 }
 
 impl From<NoMemory> for OpenFault {
+    ghost use Rattle.std.specs.Prelude.{◌≡◌};
+    ghost use Rattle.mh_live.specs.declared.open_fault.OpenFault.{OpenFault};
+
+    ghost from_gives = { λ _ fault. fault ≡ OpenFault.NoMemory };
+
     fn from(_refused: NoMemory) -> OpenFault {
         OpenFault::NoMemory
     }

@@ -87,6 +87,7 @@ impl Opening {
         ensures definition { IfOk result (λ o. o.definition ≡ definition.now) }
         ensures workers { IfOk result (λ o. o.workers ≡ workers) }
         ensures limits { IfOk result (λ o. o.limits ≡ limits) }
+        ensures refused { IfErr result (λ e. e ≡ OpenFault.NoMemory) }
     {
         // Read for what a definition keeps.
         let _sites = definition.sites();
