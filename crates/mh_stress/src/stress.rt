@@ -1,7 +1,7 @@
 //! A script in, the sums of its workers out.
-ghost use Rattle.std.specs.Prelude.{◌≡◌, ◌⊎◌, ◌<◌, ◌≤◌, ℕ, List, string_bytes, length, IfOk, IfErr, IfSome, IsErrOf, OnOk};
-ghost use Rattle.std.specs.Io.KnownBytes.{Appends};
-ghost use Rattle.mh_text.specs.Bytes.{HasFailed};
+ghost use Rattle.std.specs.Prelude.{◌≡◌, ◌⊎◌, ◌<◌, ◌≤◌, ◌+◌, ℕ, List, string_bytes, length, IfOk, IfErr, IfSome, IsErrOf, OnOk};
+ghost use Rattle.std.specs.Io.KnownBytes.{Appends, IsAtEnd};
+ghost use Rattle.mh_text.specs.Bytes.{HasFailed, LosesAtMost, most_bytes};
 ghost use Rattle.mh_text.specs.Gives.{no_memory, IsHonest, NoOtherFailed};
 ghost use Rattle.mh_text.specs.Output.{outside};
 ghost use Rattle.mh_text.specs.declared.fault.TextFault.TheVariants.{NoReader};
@@ -169,6 +169,9 @@ pub fn stress_bytes<T: Threads + Wait + Sync, R: Read, W: Write>(
         writer.old.failures writer.new.failures }
     ensures others { IfErr result (λ e. NoOtherFailed e.kind reader.old.failures
         reader.new.failures writer.old.failures writer.new.failures) }
+    ensures end { OnOk result (IsAtEnd (R.remaining reader.new.inner)) }
+    ensures most { LosesAtMost (most_bytes + 1) (R.remaining reader.old.inner)
+        (R.remaining reader.new.inner) }
 {
     let script = read_script_from(alloc, reader)?;
     let lines = stress_script(rt, alloc, options, script)?;
