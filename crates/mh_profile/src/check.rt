@@ -1,10 +1,11 @@
 //! Checks of plans of profiles: bytes in, a line out.
-ghost use Rattle.std.specs.Prelude.{IfOk, IfErr, IfSome};
-ghost use Rattle.std.specs.Io.KnownBytes.{Appends};
-ghost use Rattle.mh_text.specs.Bytes.{HasFailed};
+ghost use Rattle.std.specs.Prelude.{◌+◌, IfOk, IfErr, IfSome, OnOk};
+ghost use Rattle.std.specs.Io.KnownBytes.{Appends, IsAtEnd};
+ghost use Rattle.mh_text.specs.Bytes.{HasFailed, LosesAtMost};
 ghost use Rattle.mh_text.specs.Checks.{verdict_line};
 ghost use Rattle.mh_text.specs.Gives.{IsHonest, NoOtherFailed};
 ghost use Rattle.mh_profile.specs.Claims.{FailsCheck, IsVerdict};
+ghost use Rattle.mh_profile.specs.Limits.{most_in_claim};
 
 use crate::claim::read_claim;
 use mh_text::{Fault, Verdict, Watched, judge, write_verdict};
@@ -38,6 +39,9 @@ pub fn check_profile<R: Read, W: Write>(
         writer.old.failures writer.new.failures }
     ensures others { IfErr result (λ e. NoOtherFailed e.kind reader.old.failures
         reader.new.failures writer.old.failures writer.new.failures) }
+    ensures end { OnOk result (IsAtEnd (R.remaining reader.new.inner)) }
+    ensures most { LosesAtMost (most_in_claim + 1) (R.remaining reader.old.inner)
+        (R.remaining reader.new.inner) }
 {
     let claim = read_claim(alloc, reader)?;
     let verdict = judge(alloc, &claim.problem, &claim.plan)?;

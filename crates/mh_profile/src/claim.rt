@@ -1,8 +1,9 @@
 //! Claims: a profile, and behind it a line that is said to be a best plan of it.
-ghost use Rattle.std.specs.Prelude.{◌≡◌, ◌≢◌, ◌⊎◌, ◌==◌, ◌≤◌, IfOk, IfErr, IfSome, List, ℕ, length};
+ghost use Rattle.std.specs.Prelude.{◌≡◌, ◌≢◌, ◌⊎◌, ◌==◌, ◌≤◌, ◌+◌, IfOk, IfErr, IfSome, OnOk, List, ℕ, length};
+ghost use Rattle.std.specs.Io.KnownBytes.{IsAtEnd};
 ghost use Rattle.std.specs.List.{IsAfterLastMatch};
 ghost use Rattle.serde_json.specs.View.{view};
-ghost use Rattle.mh_text.specs.Bytes.{HasFailed};
+ghost use Rattle.mh_text.specs.Bytes.{HasFailed, LosesAtMost};
 ghost use Rattle.mh_text.specs.Gives.{at_place, no_memory, Gives, GivesAt, IsHonestReading, IsOfInput};
 ghost use Rattle.mh_text.specs.Output.{outside, IsUnread};
 ghost use Rattle.mh_text.specs.declared.fault.TextFault.TheVariants.{ReadFailed};
@@ -151,6 +152,9 @@ pub fn keep_claim<R: Read>(alloc: Global, reader: &mut Watched<R>) -> Result<Vec
     ensures honest { IsHonestReading result reader.old.failures reader.new.failures }
     ensures others { IfErr result (λ e. e.kind ≢ ReadFailed
         → reader.new.failures ≡ reader.old.failures) }
+    ensures end { OnOk result (IsAtEnd (R.remaining reader.new.inner)) }
+    ensures most { LosesAtMost (most_in_claim + 1) (R.remaining reader.old.inner)
+        (R.remaining reader.new.inner) }
 {
     Ok(read_up_to(alloc, reader, LIMIT)?)
 }
@@ -164,6 +168,9 @@ pub(crate) fn read_claim<R: Read>(alloc: Global, reader: &mut Watched<R>) -> Res
     ensures honest { IsHonestReading result reader.old.failures reader.new.failures }
     ensures others { IfErr result (λ e. e.kind ≢ ReadFailed
         → reader.new.failures ≡ reader.old.failures) }
+    ensures end { OnOk result (IsAtEnd (R.remaining reader.new.inner)) }
+    ensures most { LosesAtMost (most_in_claim + 1) (R.remaining reader.old.inner)
+        (R.remaining reader.new.inner) }
 {
     let input = keep_claim(alloc, reader)?;
     let (lines, line) = part(&input);

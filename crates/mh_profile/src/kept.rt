@@ -1,7 +1,7 @@
 //! Inputs of lines that are kept whole, for whoever explains their fault.
-ghost use Rattle.std.specs.Prelude.{◌≡◌, ◌≢◌, ◌≤◌, ◌⊎◌, ◌++◌, ℕ, List, length, Err, IfErr, IfOk, IfSome, IsErrOf, OnOk};
+ghost use Rattle.std.specs.Prelude.{◌≡◌, ◌≢◌, ◌≤◌, ◌+◌, ◌⊎◌, ◌++◌, ℕ, List, length, Err, IfErr, IfOk, IfSome, IsErrOf, OnOk};
 ghost use Rattle.std.specs.Io.KnownBytes.{Consumes, IsAtEnd};
-ghost use Rattle.mh_text.specs.Bytes.{HasFailed};
+ghost use Rattle.mh_text.specs.Bytes.{HasFailed, LosesAtMost};
 ghost use Rattle.mh_text.specs.Gives.{no_memory, IsHonestReading, IsOfInput};
 ghost use Rattle.mh_text.specs.Output.{outside, IsUnread};
 ghost use Rattle.mh_profile.specs.Inputs.{IsProfileFault};
@@ -13,13 +13,14 @@ use mh_text::{Fault, InputFault, TextFault, Watched};
 use std::alloc::Global;
 use std::io::Read;
 
-/// What the reader gives to its end, or, where that is past the limit of all lines, a beginning of
-/// it that is past it too.
+/// What the reader gives to its end, or up to the first byte past the limit of all lines.
 fn read_front<R: Read>(alloc: Global, reader: &mut Watched<R>) -> Result<Vec<u8>, TextFault>
     ensures taken { IfOk result (λ front. Consumes (R.remaining reader.old.inner)
         (R.remaining reader.new.inner) front.items) }
     ensures whole { IfOk result (λ front. length front.items ≤ most_in_all
         → IsAtEnd (R.remaining reader.new.inner)) }
+    ensures most { LosesAtMost (most_in_all + 1) (R.remaining reader.old.inner)
+        (R.remaining reader.new.inner) }
     ensures kept { OnOk result (reader.new.failures ≡ reader.old.failures) }
     ensures failed { IsErrOf result TextFault.ReadFailed
         → HasFailed reader.old.failures reader.new.failures }
@@ -30,11 +31,13 @@ fn read_front<R: Read>(alloc: Global, reader: &mut Watched<R>) -> Result<Vec<u8>
     let mut front = Vec::new(alloc);
     let mut buffer = [0u8; 8192];
     while front.len() as u64 <= LIMIT {
-        let n = reader.read(&mut buffer)?;
+        let room = (LIMIT as usize + 1 - front.len()).min(buffer.len());
+        let part = &mut buffer[..room];
+        let n = reader.read(part)?;
         if n == 0 {
             return Ok(front);
         }
-        front.extend_from_slice(&buffer[..n])?;
+        front.extend_from_slice(&part[..n])?;
     }
     Ok(front)
 }
@@ -54,16 +57,20 @@ fn fault_of_long(alloc: Global, front: &[u8]) -> Fault
 
 /// The input of a profile, whole.
 ///
-/// It is read to its end, or to a byte past 67,108,864. Where it is longer than that, this fails
-/// with the first fault of its lines, as `read_profile` does.
+/// It is read to its end, or to the first byte past 67,108,864. Where it is longer than that, this
+/// fails with the first fault of its lines, as `read_profile` does.
 pub fn keep_profile<R: Read>(alloc: Global, reader: &mut Watched<R>) -> Result<Vec<u8>, Fault>
     ensures ok { IfOk result (λ input. IfSome (R.remaining reader.old.inner)
         (λ bytes. input.items ≡ bytes)) }
+    ensures short { IfOk result (λ input. length input.items ≤ most_in_all) }
     ensures failed { IfErr result (IsUnread IsProfileFault (R.remaining reader.old.inner)
         (HasFailed reader.old.failures reader.new.failures)) }
     ensures honest { IsHonestReading result reader.old.failures reader.new.failures }
     ensures others { IfErr result (λ e. e.kind ≢ TextFault.ReadFailed
         → reader.new.failures ≡ reader.old.failures) }
+    ensures end { OnOk result (IsAtEnd (R.remaining reader.new.inner)) }
+    ensures most { LosesAtMost (most_in_all + 1) (R.remaining reader.old.inner)
+        (R.remaining reader.new.inner) }
 {
     let front = read_front(alloc, reader)?;
     if front.len() as u64 <= LIMIT {

@@ -1,6 +1,6 @@
 //! Planning: a profile in, the lines of its plan out.
 ghost use Rattle.std.specs.Prelude.{◌≡◌, ◌≢◌, ◌<◌, ◌≤◌, ℕ, List, string_bytes, IfOk, IfErr, IfSome, OnOk};
-ghost use Rattle.std.specs.Io.KnownBytes.{Appends};
+ghost use Rattle.std.specs.Io.KnownBytes.{Appends, IsAtEnd};
 ghost use Rattle.mh_cert.specs.Plans.{Matches};
 ghost use Rattle.mh_plan.specs.Limits.{most_workers};
 ghost use Rattle.mh_text.specs.Bytes.{HasFailed};
@@ -39,6 +39,7 @@ fn read_named<R: Read>(alloc: Global, reader: &mut Watched<R>) -> Result<NamedPr
     ensures honest { IsHonestReading result reader.old.failures reader.new.failures }
     ensures others { IfErr result (λ e. e.kind ≢ ReadFailed
         → reader.new.failures ≡ reader.old.failures) }
+    ensures end { OnOk result (IsAtEnd (R.remaining reader.new.inner)) }
 {
     read_profile(alloc, reader)?.into_problem()
 }
@@ -102,6 +103,7 @@ pub fn plan_profile<T: Threads + Sync, R: Read, W: Write>(
         writer.old.failures writer.new.failures }
     ensures others { IfErr result (λ e. NoOtherFailed e.kind reader.old.failures
         reader.new.failures writer.old.failures writer.new.failures) }
+    ensures end { OnOk result (IsAtEnd (R.remaining reader.new.inner)) }
 {
     let named = read_named(alloc, reader)?;
     let lines = plan_named(rt, alloc, options, &named)?;

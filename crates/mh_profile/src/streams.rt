@@ -1,5 +1,6 @@
 //! Profiles from a reader.
-ghost use Rattle.std.specs.Prelude.{◌≡◌, ◌≢◌, Ok, List, ℕ, IfErr, IfOk, IfSome};
+ghost use Rattle.std.specs.Prelude.{◌≡◌, ◌≢◌, Ok, List, ℕ, IfErr, IfOk, IfSome, OnOk};
+ghost use Rattle.std.specs.Io.KnownBytes.{IsAtEnd};
 ghost use Rattle.mh_text.specs.Bytes.{HasFailed};
 ghost use Rattle.mh_text.specs.Gives.{IsHonestReading};
 ghost use Rattle.mh_text.specs.Output.{IsUnread};
@@ -24,6 +25,7 @@ pub fn read_profile<R: Read>(alloc: Global, reader: &mut Watched<R>) -> Result<P
     ensures honest { IsHonestReading result reader.old.failures reader.new.failures }
     ensures others { IfErr result (λ e. e.kind ≢ ReadFailed
         → reader.new.failures ≡ reader.old.failures) }
+    ensures end { OnOk result (IsAtEnd (R.remaining reader.new.inner)) }
 {
     let mut lines = LineReader::new(alloc);
     let mut buffer = [0u8; 8192];
