@@ -5,8 +5,9 @@
    say, and to nothing that another argument leads to; no null pointer, but for a buffer or an array whose length is 0.
 
    Every answer but a version is a status: MHLINK_OK, or what is wrong. After any other status than MHLINK_OK the machine is
-   as before, and no number is written but a length, a count or a part. Sites, points, links, snapshots and plans have
-   numbers: the first three from 0 in the order of the definition, links through all sites; the last two from 1.
+   as before, and no number is written but a part and, after MHLINK_SHORT, a length or a count. What stands in a buffer behind
+   what is written stays. Sites, points, links, snapshots and plans have numbers: the first three from 0 in the order of the
+   definition, links through all sites; the last two from 1.
 
    A history ends: after 1,024 snapshots or plans, or as many records as its limit allows, changes are refused with
    MHLINK_HISTORY_FULL. A host renews the machine before that, when mhlink_used says that records, snapshots or plans near
@@ -175,7 +176,8 @@ uint32_t mhlink_plan_problem(const uint64_t *costs, size_t points, const mhlink_
    `given` what is given for each need, in the place of the need among `needs` (for a need there that several links have, what
    they give together), and `gets` what each point gets: so many numbers as there are links, needs and points. The value is what
    all links keep together. One that is left out keeps nothing (the theorem `left_links_spend_all` of mh_network). The status is
-   MHLINK_SHORT where an array is shorter than what it gets; after any other than MHLINK_OK only the two lengths may be new. */
+   MHLINK_SHORT where an array is shorter than what it gets; then the two lengths are new, and after any other than MHLINK_OK
+   nothing is. */
 uint32_t mhlink_plan_problem_flow(const uint64_t *costs, size_t points, const mhlink_problem_link *links, size_t count,
                                   const uint32_t *needs, size_t all_needs, uint32_t *chosen, size_t capacity, size_t *length,
                                   int64_t *value, uint32_t *needed, size_t needed_capacity, size_t *needed_length,

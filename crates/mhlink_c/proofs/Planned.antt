@@ -1,5 +1,5 @@
 -- What a plan of arrays is of.
-use Rattle.std.proofs.Common.{◌≡◌, ◌+◌, ◌<◌, ◌≤◌, ℕ, List, true, arith, sym, ◌∙◌, ap, inl, inr, subst, length, take, slice_index_or}
+use Rattle.std.proofs.Common.{◌≡◌, ◌+◌, ◌<◌, ◌≤◌, ℕ, List, true, arith, sym, ◌∙◌, ap, inl, inr, subst, length, take, drop, slice_index_or}
 use Rattle.std.specs.Prelude.{◌==◌}
 use Rattle.std.specs.List.{All, list_any, sum_by}
 use Rattle.std.specs.List.Sorted.{IsStrictlyIncreasing}
@@ -88,6 +88,10 @@ sums_begin needs links n plan paid given gets a b c are p g t =
       by_need = ap (λ (k : ℕ). take k given) (sym long.1) ∙ g ∙ are.by_need;
       by_point = ap (λ (k : ℕ). take k gets) (sym long.2) ∙ t ∙ are.by_point;
     }
+
+-- what stands in an array behind so many numbers
+pub rests : {slice items : List ℕ} (n : ℕ) (new old : List ℕ) → slice ≡ items → length items ≡ n → drop (length slice) new ≡ drop (length slice) old → drop n new ≡ drop n old
+rests n new old same long h = subst (λ (k : ℕ). drop k new ≡ drop k old) (ap length same ∙ long) h
 
 -- a slice of a list, of which an array has the numbers
 pub begins : {slice items : List ℕ} (buffer : List ℕ) → slice ≡ items → take (length slice) buffer ≡ slice → take (length items) buffer ≡ items

@@ -48,10 +48,12 @@ RefusesToFlush h w e = (told : Refusal) × ((e ≡ Refused told) × RefusesFlush
 abbrev pub Retargets : HostState → ℕ → List ℕ → HostState → Type 0
 Retargets h s text new = (tree : TypedTree) × ((tree_in h.scope text ≡ Ok tree) × Records h (Targeted s tree) new)
 
+-- there is no such site; or else the text has a fault, or the runtime refuses the tree
 abbrev pub RefusesTarget : HostState → ℕ → List ℕ → Fault → Type 0
 RefusesTarget h s text e =
-    ((s < length h.runtime.book.definition.sites → ⊥) × (e ≡ Unknown)) ⊎ IsFaultOf (tree_in h.scope text) e
-    ⊎ ((tree : TypedTree) × ((tree_in h.scope text ≡ Ok tree) × RefusesRecord h (Targeted s tree) e))
+    ((s < length h.runtime.book.definition.sites → ⊥) × (e ≡ Unknown))
+    ⊎ ((s < length h.runtime.book.definition.sites)
+    × (IsFaultOf (tree_in h.scope text) e ⊎ ((tree : TypedTree) × ((tree_in h.scope text ≡ Ok tree) × RefusesRecord h (Targeted s tree) e))))
 
 -- a snapshot is taken, and has the next number
 pub record TakesSnapshot (h : HostState) (n : ℕ) (new : HostState) : Type 0 where
@@ -78,7 +80,7 @@ PublishesBest h snapshot n new = (plan : Plan) × (IsBest h.runtime.book snapsho
 
 -- there is no best plan for a snapshot that was not taken, and none where memory runs out
 abbrev pub HasNoBest : BookState → ℕ → Fault → Type 0
-HasNoBest b snapshot e = ((e ≡ Refused NoSnapshot) × (IsTaken b.records snapshot → ⊥)) ⊎ (e ≡ no_memory)
+HasNoBest b snapshot e = ((e ≡ Refused NoSnapshot) × (IsTaken b.records snapshot → ⊥)) ⊎ ((e ≡ no_memory) × IsTaken b.records snapshot)
 
 abbrev pub RefusesBest : HostState → ℕ → Fault → Type 0
 RefusesBest h snapshot e =

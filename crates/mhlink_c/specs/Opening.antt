@@ -28,6 +28,7 @@ abbrev pub Opens : List ℕ → ℕ → MhlinkLimits → HostState → Type 0
 Opens text workers limits h =
     (d : Declarations) × ((declarations_in text ≡ Ok d) × (AreLimits workers limits × (h ≡ opened_host d workers limits)))
 
+-- a limit or the number of workers is out of its range; or else the text has a fault, or memory ran out
 abbrev pub RefusesOpening : List ℕ → ℕ → MhlinkLimits → Fault → Type 0
 RefusesOpening text workers limits e =
-    ((AreLimits workers limits → ⊥) × (e ≡ BadLimits)) ⊎ IsFaultOf (declarations_in text) e
+    ((AreLimits workers limits → ⊥) × (e ≡ BadLimits)) ⊎ (AreLimits workers limits × IsFaultOf (declarations_in text) e)

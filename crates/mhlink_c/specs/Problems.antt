@@ -39,4 +39,4 @@ IsLeastChoice P links = IsLeast P (member links) × IsStrictlyIncreasing links
 abbrev pub RefusesRows : List ℕ → List MhlinkLink → List ℕ → Fault → Type 0
 RefusesRows needs links costs e =
     ((All (HasNeeds needs) links → ⊥) × (e ≡ Unknown)) ⊎ (e ≡ no_memory)
-    ⊎ ((fault : ProblemFault) × ((e ≡ of_problem fault) × Refuses (large_tests (rows_of needs links) costs) fault))
+    ⊎ (All (HasNeeds needs) links × ((fault : ProblemFault) × ((e ≡ of_problem fault) × Refuses (large_tests (rows_of needs links) costs) fault)))

@@ -42,10 +42,10 @@ abbrev pub HasNoLink : DefinitionData → ℕ → Value → Type 0
 HasNoLink d s key =
     s < length d.sites → (k : ℕ) → k < length (site_at d s).links → (link_of d s k).when ≡ key → ⊥
 
--- there is no such link, or its key is no value or too much for the memory
+-- there is no such link, or its key is no value, or a text that is too much for the memory
 abbrev pub IsUnknownLink : DefinitionData → ℕ → MhlinkValue → List ℕ → Fault → Type 0
 IsUnknownLink d s key text e =
-    ((e ≡ BadValue) × ((x : Value) → IsValue key text x → ⊥)) ⊎ (e ≡ no_memory)
+    ((e ≡ BadValue) × ((x : Value) → IsValue key text x → ⊥)) ⊎ ((e ≡ no_memory) × (key.kind ≡ 4))
     ⊎ ((e ≡ Unknown) × ((x : Value) × (IsValue key text x × HasNoLink d s x)))
 
 -- why a question has no answer

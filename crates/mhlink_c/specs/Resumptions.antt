@@ -39,7 +39,9 @@ abbrev pub RefusesToResume : Declarations → ℕ → MhlinkLimits → List ℕ 
 RefusesToResume d workers limits invalid totals e =
     (told : ResumptionFault) × ((e ≡ of_resumption told) × Refuses (resumption_tests d.definition workers (limits_of limits) invalid totals) told)
 
+-- the first that is so: a limit or the number of workers is out of its range, the text has a fault, a test fails
 abbrev pub RefusesResuming : List ℕ → ℕ → MhlinkLimits → List ℕ → List ℕ → Fault → Type 0
 RefusesResuming text workers limits invalid totals e =
-    ((AreLimits workers limits → ⊥) × (e ≡ BadLimits)) ⊎ IsFaultOf (declarations_in text) e
-    ⊎ ((d : Declarations) × ((declarations_in text ≡ Ok d) × RefusesToResume d workers limits invalid totals e))
+    ((AreLimits workers limits → ⊥) × (e ≡ BadLimits))
+    ⊎ (AreLimits workers limits
+    × (IsFaultOf (declarations_in text) e ⊎ ((d : Declarations) × ((declarations_in text ≡ Ok d) × RefusesToResume d workers limits invalid totals e))))

@@ -46,9 +46,11 @@ impl Host {
     // The tree that a text of JSON gives a site, over what is declared.
     fn read_tree(&self, alloc: Global, site: usize, tree: &[u8]) -> Result<Declared, Fault>
         ensures value { IfOk result (λ t. tree_in self.now.scope tree.now ≡ Ok t) }
+        ensures inside { OnOk result (site < length self.now.runtime.book.definition.sites) }
         ensures refused { IfErr result (λ e.
             ((site < length self.now.runtime.book.definition.sites → ⊥) × (e ≡ Unknown))
-            ⊎ IsFaultOf (tree_in self.now.scope tree.now) e) }
+            ⊎ ((site < length self.now.runtime.book.definition.sites)
+            × IsFaultOf (tree_in self.now.scope tree.now) e)) }
     {
         if site >= self.runtime.book().definition().sites().len() {
             return Err(Fault::Unknown);

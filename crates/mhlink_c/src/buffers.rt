@@ -1,16 +1,18 @@
 //! Bytes and numbers into buffers of the caller's.
 
-ghost use Rattle.std.specs.Prelude.{◌≡◌, ◌≤◌, length, take, IfErr, OnErr, OnOk};
+ghost use Rattle.std.specs.Prelude.{◌≡◌, ◌≤◌, drop, length, take, IfErr, OnErr, OnOk};
 ghost use Rattle.mhlink_c.specs.Buffers.{IsCopied, IsTooShort};
 ghost use Rattle.mhlink_c.specs.declared.fault.Fault.TheVariants.{Short};
 
 use crate::fault::Fault;
 
-/// Copies items to the beginning of a buffer, where they fit, and tells how many they are.
+/// Copies items to the beginning of a buffer, where they fit, and tells how many they are. What
+/// stands behind them stays.
 ///
 /// Refused with `Short` where the buffer is shorter, which then is left alone.
 pub(crate) fn copy<T: Copy>(from: &[T], buffer: &mut [T], count: &mut usize) -> Result<(), Fault>
     ensures copied { OnOk result (IsCopied from.now count.new buffer.new) }
+    ensures rest { OnOk result (drop count.new buffer.new ≡ drop count.new buffer.old) }
     ensures short { IfErr result (λ e. (e ≡ Short) × IsTooShort from.now count.new buffer.old) }
     ensures same { OnErr result (buffer.new ≡ buffer.old) }
 {
@@ -26,6 +28,7 @@ pub(crate) fn copy<T: Copy>(from: &[T], buffer: &mut [T], count: &mut usize) -> 
 pub(crate) fn fill<T: Copy>(from: &[T], buffer: &mut [T])
     requires room { length from.now ≤ length buffer.old }
     ensures items { take (length from.now) buffer.new ≡ from.now }
+    ensures rest { drop (length from.now) buffer.new ≡ drop (length from.now) buffer.old }
 {
     buffer[..from.len()].copy_from_slice(from);
 }

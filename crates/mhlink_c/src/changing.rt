@@ -27,6 +27,9 @@ pub extern "C" fn mhlink_flush(alloc: Global, machine: &mut MhlinkMachine, worke
 
 /// Gives a site another tree, as JSON over the points, the shared trees and the sites of the
 /// definition.
+///
+/// Refused as unknown where there is no such site, then with the fault of the text, and then as the
+/// runtime refuses the tree.
 #[unsafe(no_mangle)]
 pub extern "C" fn mhlink_target(
     alloc: Global,

@@ -1,6 +1,6 @@
 //! The planner over arrays, with the flow that shows its choice to be best.
 
-ghost use Rattle.std.specs.Prelude.{◌≡◌, ◌≢◌, ◌⊎◌, ◌<◌, All, IfErr, IfOk, OnOk, length};
+ghost use Rattle.std.specs.Prelude.{◌≡◌, ◌≢◌, ◌⊎◌, ◌<◌, All, IfErr, IfOk, OnOk, drop, length};
 ghost use Rattle.mh_base.specs.Tests.{Passes};
 ghost use Rattle.mh_cert.specs.declared.plan.Plan.{Plan as PlanOf};
 ghost use Rattle.mh_network.specs.Problems.{large_tests, problem_of};
@@ -8,6 +8,7 @@ ghost use Rattle.mhlink_c.specs.Flows.{AreAmounts, AreSums, HasNoRoom, IsLeastPl
 ghost use Rattle.mhlink_c.specs.Problems.{HasNeeds, RefusesRows, rows_of};
 ghost use Rattle.mhlink_c.specs.Statuses.{status_of};
 ghost use Rattle.mhlink_c.specs.declared.fault.Fault.{Fault as FaultOf};
+ghost use Rattle.mhlink_c.specs.declared.fault.Fault.TheVariants.{Short};
 
 use crate::amounts::{given_for, got_by, paid_by};
 use crate::buffers::fill;
@@ -21,7 +22,8 @@ use std::alloc::Global;
 /// links need, and the flow that shows that no links are worth more. What each link pays of its
 /// charge goes to `paid`, what is given for each need to `given`, where the need stands in `needs`
 /// (of a need that several links have, what they give together), and what each point gets to
-/// `gets`. Where the status is not 0, nothing is written but `count` and `points_count`.
+/// `gets`. What stands in an array behind them stays. Where the status is not 0, nothing is written
+/// but `count` and `points_count`, and these where an array is too short.
 #[unsafe(no_mangle)]
 pub extern "C" fn mhlink_plan_problem_flow(
     alloc: Global,
@@ -47,6 +49,14 @@ pub extern "C" fn mhlink_plan_problem_flow(
     ensures value { result ≢ 0 → value.new ≡ value.old }
     ensures amounts { result ≢ 0 → (paid.new ≡ paid.old) × ((given.new ≡ given.old)
         × (gets.new ≡ gets.old)) }
+    ensures rest { result ≡ 0 → (drop count.new chosen.new ≡ drop count.new chosen.old)
+        × (drop points_count.new points.new ≡ drop points_count.new points.old) }
+    ensures amounts_rest { result ≡ 0
+        → (drop (length links.now) paid.new ≡ drop (length links.now) paid.old)
+        × ((drop (length needs.now) given.new ≡ drop (length needs.now) given.old)
+        × (drop (length costs.now) gets.new ≡ drop (length costs.now) gets.old)) }
+    ensures uncounted { result ≢ 0 → result ≢ status_of Short → (count.new ≡ count.old)
+        × (points_count.new ≡ points_count.old) }
     ensures refused { result ≢ 0 → (e : FaultOf) × ((result ≡ status_of e)
         × (RefusesRows needs.now links.now costs.now e ⊎ HasNoRoom
         (problem_of (rows_of needs.now links.now) costs.now) count.new points_count.new

@@ -20,8 +20,11 @@ pub extern "C" fn mhlink_version() -> u32
 }
 
 /// Opens a machine of a definition in JSON, as a script's `definition`, with 1 to 64 workers, and
-/// writes its handle to `machine`. Where the status is not 0, `machine` is left alone, and `part`
-/// gets the number of the fault's cause, or 0.
+/// writes its handle to `machine`.
+///
+/// Refused where a limit or the number of workers is out of its range, and then with the fault of
+/// the definition, or for memory: `machine` is left alone, and `part` gets the number of the fault's
+/// cause, or 0.
 #[unsafe(no_mangle)]
 pub extern "C" fn mhlink_open(
     alloc: Global,

@@ -1,6 +1,6 @@
 //! The planner over arrays, without a machine.
 
-ghost use Rattle.std.specs.Prelude.{◌≡◌, ◌≢◌, ◌⊎◌, ◌≤◌, length, take, All, IfErr, IfOk, OnErr, OnOk};
+ghost use Rattle.std.specs.Prelude.{◌≡◌, ◌≢◌, ◌⊎◌, ◌≤◌, drop, length, take, All, IfErr, IfOk, OnErr, OnOk};
 ghost use Rattle.mh_base.specs.Tests.{Passes};
 ghost use Rattle.mh_network.specs.Problems.{large_tests, problem_of};
 ghost use Rattle.mhlink_c.specs.Flows.{IsLeastPlan};
@@ -8,7 +8,7 @@ ghost use Rattle.mhlink_c.specs.Problems.{HasNeeds, IsChoice, IsLeastChoice, Ref
 ghost use Rattle.mhlink_c.specs.Statuses.{no_memory, status_of};
 ghost use Rattle.mhlink_c.specs.Texts.{IsUncopied};
 ghost use Rattle.mhlink_c.specs.declared.fault.Fault.{Fault as FaultOf};
-ghost use Rattle.mhlink_c.specs.declared.fault.Fault.TheVariants.{Unknown};
+ghost use Rattle.mhlink_c.specs.declared.fault.Fault.TheVariants.{Short, Unknown};
 
 use crate::buffers::copy;
 use crate::fault::{Fault, status};
@@ -38,7 +38,7 @@ pub struct MhlinkLink {
 /// many points, any of which a link may need. Needs are numbers of points, those of a link
 /// ascending. The numbers of the links are copied to `chosen`, how many they are to `count`, also
 /// where `chosen` is too short, and what they are worth to `value`. Where the status is not 0,
-/// `chosen` and `value` are left alone.
+/// `chosen` and `value` are left alone, and so is what stands in `chosen` behind the links.
 #[unsafe(no_mangle)]
 pub extern "C" fn mhlink_plan_problem(
     alloc: Global,
@@ -56,6 +56,8 @@ pub extern "C" fn mhlink_plan_problem(
     ensures tested { result ≡ 0 → Passes (large_tests (rows_of needs.now links.now) costs.now) }
     ensures value { result ≢ 0 → value.new ≡ value.old }
     ensures untouched { result ≢ 0 → chosen.new ≡ chosen.old }
+    ensures rest { result ≡ 0 → drop count.new chosen.new ≡ drop count.new chosen.old }
+    ensures uncounted { result ≢ 0 → result ≢ status_of Short → count.new ≡ count.old }
     ensures refused { result ≢ 0 → (e : FaultOf) × ((result ≡ status_of e)
         × (RefusesRows needs.now links.now costs.now e ⊎ IsUncopied
         (IsLeastChoice (problem_of (rows_of needs.now links.now) costs.now)) count.new chosen.old
@@ -81,6 +83,8 @@ fn choose(
         (Passes (large_tests (rows_of needs.now links.now) costs.now)) }
     ensures value { OnErr result (value.new ≡ value.old) }
     ensures untouched { OnErr result (chosen.new ≡ chosen.old) }
+    ensures rest { OnOk result (drop count.new chosen.new ≡ drop count.new chosen.old) }
+    ensures uncounted { IfErr result (λ e. e ≢ Short → count.new ≡ count.old) }
     ensures refused { IfErr result (λ e. RefusesRows needs.now links.now costs.now e ⊎ IsUncopied
         (IsLeastChoice (problem_of (rows_of needs.now links.now) costs.now)) count.new chosen.old
         e) }

@@ -1,6 +1,6 @@
 //! What C reads of a machine: numbers of names, hits, and texts.
 
-ghost use Rattle.std.specs.Prelude.{◌≡◌, ◌≢◌, ◌⊎◌, ◌<◌, ℕ, List, Some, None, length, string_bytes, true, IfErr, IfOk};
+ghost use Rattle.std.specs.Prelude.{◌≡◌, ◌≢◌, ◌⊎◌, ◌<◌, ℕ, List, Some, None, drop, length, string_bytes, true, IfErr, IfOk};
 ghost use Rattle.mh_core.specs.Installations.{kept};
 ghost use Rattle.mh_core.specs.Ledgers.{at, ledger_at};
 ghost use Rattle.mh_core.specs.Value.{Value as AnyValue};
@@ -162,7 +162,7 @@ fn text_held(machine: MhlinkMachine, _: ()) -> (MhlinkMachine, Result<Text, Faul
 
 /// Copies the text that the last call gave, and tells in `length` how many bytes it has, also where
 /// the buffer is too short. There is one after a call whose reply is of the kind of texts, until
-/// the next call.
+/// the next call. What stands in the buffer behind the text stays.
 #[unsafe(no_mangle)]
 pub extern "C" fn mhlink_text(
     machine: &mut MhlinkMachine,
@@ -178,6 +178,8 @@ pub extern "C" fn mhlink_text(
         × (HasNoText machine.old.value.given e ⊎ IsUncopied
         (λ text. machine.old.value.given ≡ Some text) length.new buffer.old e)) }
     ensures untouched { result ≢ 0 → buffer.new ≡ buffer.old }
+    ensures rest { result ≡ 0 → drop length.new buffer.new ≡ drop length.new buffer.old }
+    ensures uncounted { result ≢ 0 → result ≢ status_of Short → length.new ≡ length.old }
 {
     match replace_with(machine, (), text_held) {
         Ok(text) => status(copy(text.as_str().as_bytes(), buffer, length)),
@@ -205,7 +207,7 @@ fn certificate_held(
 
 /// Copies the best plan for a snapshot with the flow that shows it to be best, as JSON for
 /// `mhlink_offer` and `mhlink check`, and tells in `length` how many bytes it has, also where the
-/// buffer is too short.
+/// buffer is too short. What stands in the buffer behind it stays.
 #[unsafe(no_mangle)]
 pub extern "C" fn mhlink_certificate(
     alloc: Global,
@@ -223,6 +225,8 @@ pub extern "C" fn mhlink_certificate(
         × (HasNoBest machine.old.value.runtime.book snapshot e ⊎ IsUncopied
         (IsCertificate machine.old.value.runtime snapshot) length.new buffer.old e)) }
     ensures untouched { result ≢ 0 → buffer.new ≡ buffer.old }
+    ensures rest { result ≡ 0 → drop length.new buffer.new ≡ drop length.new buffer.old }
+    ensures uncounted { result ≢ 0 → result ≢ status_of Short → length.new ≡ length.old }
 {
     match replace_with(machine, (alloc, snapshot), certificate_held) {
         Ok(text) => status(copy(text.as_bytes(), buffer, length)),
@@ -244,7 +248,8 @@ fn report_held(machine: MhlinkMachine, alloc: Global) -> (MhlinkMachine, Result<
 }
 
 /// Copies a line for each point, site and link, as `mhlink run --report` writes them, and tells in
-/// `length` how many bytes they have, also where the buffer is too short.
+/// `length` how many bytes they have, also where the buffer is too short. What stands in the buffer
+/// behind them stays.
 #[unsafe(no_mangle)]
 pub extern "C" fn mhlink_report(
     alloc: Global,
@@ -261,6 +266,8 @@ pub extern "C" fn mhlink_report(
         × ((e ≡ no_memory) ⊎ IsUncopied
         (λ text. text ≡ report_of machine.old.value.runtime) length.new buffer.old e)) }
     ensures untouched { result ≢ 0 → buffer.new ≡ buffer.old }
+    ensures rest { result ≡ 0 → drop length.new buffer.new ≡ drop length.new buffer.old }
+    ensures uncounted { result ≢ 0 → result ≢ status_of Short → length.new ≡ length.old }
 {
     match replace_with(machine, alloc, report_held) {
         Ok(text) => status(copy(text.as_bytes(), buffer, length)),

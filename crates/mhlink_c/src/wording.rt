@@ -1,10 +1,11 @@
 //! What a status means, in words.
 
-ghost use Rattle.std.specs.Prelude.{◌≡◌, ◌≢◌, ℕ, List, Some, None, IfErr, IfNone, IfSome, OnErr, OnOk};
+ghost use Rattle.std.specs.Prelude.{◌≡◌, ◌≢◌, ℕ, List, Some, None, drop, IfErr, IfNone, IfSome, OnErr, OnOk};
 ghost use Rattle.mhlink_c.specs.Buffers.{IsCopied};
 ghost use Rattle.mhlink_c.specs.Statuses.{part_of, status_of as number_of};
 ghost use Rattle.mhlink_c.specs.Wording.{IsTold, RefusesWords, beside, fault_words, inputs, others, refusals, with_part, words_of as its_words};
 ghost use Rattle.mhlink_c.specs.declared.fault.Fault.{Fault as FaultOf};
+ghost use Rattle.mhlink_c.specs.declared.fault.Fault.TheVariants.{Short};
 
 use crate::buffers::copy;
 use crate::fault::{Fault, status as status_of};
@@ -12,7 +13,8 @@ use std::alloc::Global;
 
 /// Copies to `buffer` what a status means, as `mhlink` words it (docs/FAULTS.md), with `part`
 /// behind it where that is not 0: `refused 8 PlanRefused 3`, `fault 7 Tree 2`. How many bytes they
-/// are goes to `count`, also where `buffer` is too short. A number that is no status is unknown.
+/// are goes to `count`, also where `buffer` is too short. What stands in `buffer` behind them stays.
+/// A number that is no status is unknown.
 #[unsafe(no_mangle)]
 pub extern "C" fn mhlink_fault_text(
     alloc: Global,
@@ -28,6 +30,8 @@ pub extern "C" fn mhlink_fault_text(
     ensures refused { result ≢ 0 → (e : FaultOf) × ((result ≡ number_of e)
         × RefusesWords status part count.new buffer.old e) }
     ensures untouched { result ≢ 0 → buffer.new ≡ buffer.old }
+    ensures rest { result ≡ 0 → drop count.new buffer.new ≡ drop count.new buffer.old }
+    ensures uncounted { result ≢ 0 → result ≢ number_of Short → count.new ≡ count.old }
 {
     status_of(word(alloc, status, part, buffer, count))
 }
@@ -43,6 +47,8 @@ fn word(
         × IsCopied (with_part words part) count.new buffer.new)) }
     ensures refused { IfErr result (RefusesWords status part count.new buffer.old) }
     ensures untouched { OnErr result (buffer.new ≡ buffer.old) }
+    ensures rest { OnOk result (drop count.new buffer.new ≡ drop count.new buffer.old) }
+    ensures uncounted { IfErr result (λ e. e ≢ Short → count.new ≡ count.old) }
 {
     let words = words_of(status).ok_or(Fault::Unknown)?;
     if part == 0 {

@@ -1,6 +1,6 @@
 use Rattle.std.proofs.Common.{rules, ◌∙◌, arith, ap, inl, inr, length, refl}
 use Rattle.mhlink_c.specs.declared.fault.Fault.TheVariants.{Short}
-use Rattle.mhlink_c.proofs.Planned.{begins, sums_begin, sums_long}
+use Rattle.mhlink_c.proofs.Planned.{begins, rests, sums_begin, sums_long}
 use Rattle.mhlink_c.proofs.flow.mhlink_plan_problem_flow.Goals.{then-chosen-links-via-then-chosen-links, then-chosen-links-via-else-chosen-links+then-points-needed, then-chosen-links-via-else-chosen-links+else-points-needed+then-paid-len, then-chosen-links-via-else-chosen-links+else-points-needed+else-paid-len+then-given-len, then-chosen-links-via-else-chosen-links+else-points-needed+else-paid-len+else-given-len+then-gets-len}
 use Rattle.mhlink_c.proofs.flow.mhlink_plan_problem_flow.Goals as goal
 
@@ -41,6 +41,16 @@ returns-else-gets-len-clause-planned c ok = (
     ),
   ),
 )
+
+pub returns-else-gets-len-clause-amounts_rest : goal.returns-else-gets-len-clause-amounts_rest
+returns-else-gets-len-clause-amounts_rest c ok =
+    let long = sums_long c.args.needs.now c.args.links.now (length c.args.costs.now) c.in-Ok.told.plan c.in-Ok.told.paid.items c.in-Ok.told.given.items c.in-Ok.told.gets.items c.in-Ok.ensures.amounts in (
+      rests (length c.args.links.now) c.fill-in-Ok-2.new.buffer _ c.deref.ensures.value long.0 c.fill-in-Ok-2.ensures.rest,
+      (
+        rests (length c.args.needs.now) c.fill-in-Ok-3.new.buffer _ c.deref-in-Ok.ensures.value long.1 c.fill-in-Ok-3.ensures.rest,
+        rests (length c.args.costs.now) c.fill-in-Ok-4.new.buffer _ c.deref-in-Ok-2.ensures.value long.2 c.fill-in-Ok-4.ensures.rest,
+      ),
+    )
 
 pub returns-in-Err-clause-refused : goal.returns-in-Err-clause-refused
 returns-in-Err-clause-refused c some = (c.in-Err.fault, (c.number-in-Err.ensures.value, inl c.in-Err.ensures.refused))

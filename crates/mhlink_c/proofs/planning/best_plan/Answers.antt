@@ -13,4 +13,4 @@ returns-in_err-problem-clause-refused c =
     let Rows : List LinkRow → Type 0 = λ rows. Refuses (large_tests rows c.in_ok-from_slice.field-0.items) fault in
     let Costs : List ℕ → Type 0 = λ costs. Refuses (large_tests (rows_of c.args.needs.now c.args.links.now) costs) fault in
     let refuses = subst Costs c.in_ok-from_slice.ensures.items (subst Rows c.in_ok-rows.ensures.value c.in_err-problem.ensures.refused) in
-    rw p.1 (inr (inr (fault, (p.2, refuses))))
+    rw p.1 (inr (inr (c.in_ok-rows.ensures.there, (fault, (p.2, refuses)))))

@@ -17,10 +17,10 @@ returns-in_err-runtime-clause-refused c =
     let Tells : LimitsData → Type 0 =
     λ l. (told : ResumptionFault) × ((c.in_err-runtime.field-0.0 ≡ of_resumption told) × Refuses (resumption_tests d.definition c.args.workers l c.args.earlier.invalid.now c.args.earlier.totals.now) told) in
     rw p.1 (elim c.in_err-runtime.ensures.refused [
-      | inl memory ↦ inr (inl (inl (p.2 ∙ memory)))
+      | inl memory ↦ inr (c.in_ok-limits.ensures.value.1, inl (inl (p.2 ∙ memory)))
       | inr told ↦
           let it = subst Tells c.in_ok-limits.ensures.value.0 told in
-          inr (inr (d, (c.in_ok-definition.ensures.value, (it.0, (p.2 ∙ it.1.0, it.1.1)))))
+          inr (c.in_ok-limits.ensures.value.1, inr (d, (c.in_ok-definition.ensures.value, (it.0, (p.2 ∙ it.1.0, it.1.1)))))
     ])
 
 pub returns-clause-resumed : goal.returns-clause-resumed
