@@ -51,7 +51,7 @@ impl Model for Caller {
         ≡ length (links (arc_value c.shown).definition)) };
 }
 
-/// Its worker, and how many records its world is after.
+/// Its worker.
 impl fmt::Debug for Caller {
     fn fmt<W: fmt::Write>(&self, f: &mut fmt::Formatter<W>) -> fmt::Result {
         write!(f, "Caller(worker {})", self.worker())
