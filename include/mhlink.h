@@ -1,12 +1,17 @@
 /* mhlink.h: a runtime for dynamic calls after java.lang.invoke, proved, for C and for every VM.
 
-   Nothing checks a C caller. It passes a struct that mhlink_open filled, to one call at a time, from the thread that opened
-   it, and to none after mhlink_close or from a signal handler; pointers that lead to as much as the lengths beside them
-   say, and to nothing that another argument leads to; no null pointer, but for a buffer or an array whose length is 0.
+   Nothing checks a C caller. It passes a struct that an opening filled, to one call at a time, and to none after its closing
+   or from a signal handler; pointers that lead to as much as the lengths beside them say, and to nothing that another
+   argument leads to; no null pointer, but for a buffer or an array whose length is 0.
 
-   Every answer but a version is a status: MHLINK_OK, or what is wrong. After any other status than MHLINK_OK the machine is
-   as before, and no number is written but a part and, after MHLINK_SHORT, a length or a count. What stands in a buffer behind
-   what is written stays. Sites, points, links, snapshots and plans have numbers: the first three from 0 in the order of the
+   A machine, a desk and a caller may each go from thread to thread, where a lock or a join orders its calls. Machines share
+   nothing. Callers of one desk call beside each other and beside every call of the desk, but for mhlink_desk_flush and
+   mhlink_caller_look of that same caller. The calls of one desk, these two among them, are made one at a time, as a lock of
+   the host's orders them.
+
+   Every answer but a version is a status: MHLINK_OK, or what is wrong. After any other status than MHLINK_OK the machine,
+   the desk and the caller are as before, and no number is written but a part and, after MHLINK_SHORT, a length or a count. What
+   stands in a buffer behind what is written stays. Sites, points, links, snapshots and plans have numbers: the first three from 0 in the order of the
    definition, links through all sites; the last two from 1.
 
    A history ends: after 1,024 snapshots or plans, or as many records as its limit allows, changes are refused with
@@ -51,6 +56,15 @@ enum mhlink_kind { MHLINK_INT = 1, MHLINK_LONG = 2, MHLINK_BOOLEAN = 3, MHLINK_S
 typedef struct mhlink_machine {
     void *at;
 } mhlink_machine;
+
+/* A desk, which has the records, and a caller, through which one thread calls: mhlink_desk_open makes both. */
+typedef struct mhlink_desk {
+    void *at;
+} mhlink_desk;
+
+typedef struct mhlink_caller {
+    void *at;
+} mhlink_caller;
 
 /* The most records (flushes and changes; calls are none), unflushed hits of a link by a worker, and hits in a total. */
 typedef struct mhlink_limits {
@@ -163,6 +177,51 @@ uint32_t mhlink_total(mhlink_machine *machine, size_t link, uint64_t *total);
 uint32_t mhlink_linked(mhlink_machine *machine, size_t site, uint64_t *links);
 /* A line for each point, site and link, as `mhlink run --report` writes them (docs/FORMATS.md). */
 uint32_t mhlink_report(mhlink_machine *machine, uint8_t *buffer, size_t capacity, size_t *length);
+
+/* A desk of a definition in JSON, as mhlink_open has it, and its callers, 1 to 64, whose handles are written to the array. The
+   desk has the records, the totals and the plans. A caller is answered by the world of its last look, which nobody changes; at
+   first all have that of the definition. Nothing here waits. */
+uint32_t mhlink_desk_open(const uint8_t *definition, size_t length, const mhlink_limits *limits, mhlink_caller *callers,
+                          size_t count, mhlink_desk *desk, uint64_t *part);
+/* By the host's lock. Callers go on by their worlds, and each is closed by itself, before or after. */
+void mhlink_desk_close(mhlink_desk desk);
+/* Beside all but another call of this caller. Its hits that are not flushed are not counted any more. */
+void mhlink_caller_close(mhlink_caller caller);
+
+/* A call of a site, as mhlink_call, by the world of the caller's last look. It takes no lock: beside all other callers, and beside
+   every call of the desk but a flush and a look of this caller. The hit is counted in the caller until it is flushed. */
+uint32_t mhlink_caller_call(mhlink_caller *caller, size_t site, const mhlink_value *values, size_t count, const uint8_t *texts,
+                            size_t length, mhlink_reply *reply);
+/* The text that the caller's last call gave, and the hits of a link that it has not flushed: beside the same. */
+uint32_t mhlink_caller_text(mhlink_caller *caller, uint8_t *buffer, size_t capacity, size_t *length);
+uint32_t mhlink_caller_hits(mhlink_caller *caller, size_t link, uint64_t *hits);
+
+/* By the host's lock: what the desk shows is from now on the world of its records; callers have it from their next look on. */
+uint32_t mhlink_desk_show(mhlink_desk *desk);
+/* By the host's lock, and not beside this caller's calls: it is answered by what the desk shows. A host that shows, and then has
+   each caller look, at a safepoint of its thread, knows that no call is answered by an older world from there on. The status is
+   MHLINK_NO_WORKER where the desk does not count of its worker just the hits that the caller has flushed, as of a caller of another
+   desk. */
+uint32_t mhlink_caller_look(mhlink_caller *caller, mhlink_desk *desk);
+/* By the host's lock, and not beside this caller's calls: its hits go to the totals. The world of its last look stays. The status
+   is MHLINK_NO_WORKER as of a look, and else that of mhlink_flush. */
+uint32_t mhlink_desk_flush(mhlink_desk *desk, mhlink_caller *caller);
+
+/* By the host's lock, beside all callers' calls, each as the call of a machine of the same name. What they record callers see
+   after the next show and a look of their own. */
+uint32_t mhlink_desk_target(mhlink_desk *desk, size_t site, const uint8_t *tree, size_t length);
+uint32_t mhlink_desk_invalidate(mhlink_desk *desk, const uint32_t *points, size_t count);
+uint32_t mhlink_desk_snapshot(mhlink_desk *desk, uint64_t *snapshot);
+uint32_t mhlink_desk_plan(mhlink_desk *desk, size_t snapshot, uint64_t *plan);
+uint32_t mhlink_desk_offer(mhlink_desk *desk, size_t snapshot, const uint8_t *json, size_t length, uint64_t *plan);
+uint32_t mhlink_desk_install(mhlink_desk *desk, size_t plan, uint64_t *linked);
+uint32_t mhlink_desk_site(mhlink_desk *desk, const uint8_t *name, size_t length, uint64_t *site);
+uint32_t mhlink_desk_point(mhlink_desk *desk, const uint8_t *name, size_t length, uint64_t *point);
+uint32_t mhlink_desk_link(mhlink_desk *desk, size_t site, const mhlink_value *key, const uint8_t *text, size_t length,
+                          uint64_t *link);
+uint32_t mhlink_desk_total(mhlink_desk *desk, size_t link, uint64_t *total);
+uint32_t mhlink_desk_linked(mhlink_desk *desk, size_t site, uint64_t *links);
+uint32_t mhlink_desk_used(mhlink_desk *desk, mhlink_usage *used);
 
 /* The planner alone: which links are worth most, of such the fewest, and what they are worth. At most 2^20 links, and as
    many points, any of which a link may need. Needs are numbers of points, of each link ascending. After any other status

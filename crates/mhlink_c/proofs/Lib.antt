@@ -1,8 +1,10 @@
 mod Adding
 mod Ascii
 mod FaultWords
+mod HandedOut
 mod Planned
 mod Renewed
+mod Sending
 mod Statuses
 mod Values
 mod Words

@@ -1,14 +1,9 @@
 -- Values that are read one behind another.
 use Rattle.std.proofs.Common.{◌≡◌, ◌+◌, ◌-◌, ◌<◌, ◌≤◌, ℕ, min, List, [], ◌∷◌, ◌++◌, Result, Ok, Err, arith, drop, get_or, inr, nat_abs, refl, length, take, subst, sym, ◌∙◌, ap}
-use Rattle.std.specs.Prelude.{IfErr}
 use Rattle.std.proofs.lemmas.List.{drop_more, length-drop, length-take, take-append-drop, take_all, take_more}
 use Rattle.mh_core.specs.Value.{Value}
 use Rattle.mh_core.specs.Value.TheVariants.{Int, Long, Boolean, Text}
 use Rattle.mhlink_c.specs.Crossing.{AreNoValues, AreValues, IsValue, bytes_of, value_kind, value_number}
-use Rattle.mhlink_c.specs.Calls.{RefusesCall, RefusesRun}
-use Rattle.mhlink_c.specs.Hosts.{HostState}
-use Rattle.mhlink_c.specs.declared.fault.Fault.{Fault}
-use Rattle.mhlink_c.specs.declared.value.MhlinkReply.{MhlinkReply}
 use Rattle.mhlink_c.specs.declared.value.MhlinkValue.{MhlinkValue}
 
 -- the values in order, and the bytes that are left behind the last
@@ -98,8 +93,3 @@ none_next given i d texts xs rest lt before none a are =
     sym (take-append-drop i given) ∙ ap (λ (rest : List MhlinkValue). take i given ++ rest) (drop_more given i d lt) in
     let one = one_behind (take i given) (drop (i + 1) given) (get_or given i d) texts xs rest a before (subst (λ (vs : List MhlinkValue). AreValues vs texts a) parts are) in
     none one.0 one.1
-
--- a call that the runtime refuses
-pub refused_call : (h : HostState) (w s : ℕ) (given : List MhlinkValue) (texts : List ℕ) (a : List Value) (r : Result MhlinkReply Fault) → AreValues given texts a → IfErr r (RefusesRun h w s a) → IfErr r (RefusesCall h w s given texts)
-refused_call h w s given texts a (Ok reply) are told = tt
-refused_call h w s given texts a (Err e) are told = inr (inr (a, (are, told)))

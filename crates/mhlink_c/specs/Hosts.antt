@@ -1,9 +1,15 @@
--- What contracts see of a machine of C.
-use Rattle.std.specs.Prelude.{◌≡◌, ℕ, List, Option, refl}
+-- What contracts see of a machine of C, and what records and flushes make of it.
+use Rattle.std.specs.Prelude.{◌≡◌, ◌<◌, ℕ, List, Option, length, slice_set, refl}
 use Rattle.std.specs.Coded.{Coded, code_by, coded×, coded_ℕ, coded_list, coded_option}
-use Rattle.mh_core.specs.Runtimes.{RuntimeState, coded_runtime}
+use Rattle.mh_core.specs.Books.{Takes}
+use Rattle.mh_core.specs.Ledgers.{ledger_at, settled}
+use Rattle.mh_core.specs.Runtimes.{RefusesFlush, RuntimeState, coded_runtime, flush_of}
+use Rattle.mh_core.specs.declared.record.Record.{Record}
+use Rattle.mh_core.specs.declared.refusal.Refusal.{Refusal}
 use Rattle.mh_text.specs.contracts.json.scope.Scope as scope
 use Rattle.mh_text.specs.declared.json.scope.Scope.{Scope}
+use Rattle.mhlink_c.specs.declared.fault.Fault.{Fault}
+use Rattle.mhlink_c.specs.declared.fault.Fault.TheVariants.{Refused}
 
 -- the runtime, the names that its definition declares, and the text that the last call gave
 pub record HostState : Type 0 where
@@ -20,3 +26,19 @@ coded_host =
 pub record IsKept (h new : HostState) : Type 0 where
   pub scope : new.scope ≡ h.scope
   pub given : new.given ≡ h.given
+
+-- exactly this record is appended, which passes its tests, and the ledgers stay
+pub record Records (h new : HostState) (e : Record) : Type 0 where
+  pub taken : Takes h.runtime.book 0 e new.runtime.book
+  pub ledgers : new.runtime.ledgers ≡ h.runtime.ledgers
+  pub kept : IsKept h new
+
+-- the hits of a worker go to the totals, and its ledger has none that are not flushed
+pub record Flushes (h : HostState) (w : ℕ) (new : HostState) : Type 0 where
+  pub known : w < length h.runtime.ledgers
+  pub taken : Takes h.runtime.book 0 (flush_of h.runtime w) new.runtime.book
+  pub ledgers : new.runtime.ledgers ≡ slice_set h.runtime.ledgers w (settled (ledger_at h.runtime.ledgers w))
+  pub kept : IsKept h new
+
+abbrev pub RefusesToFlush : HostState → ℕ → Fault → Type 0
+RefusesToFlush h w e = (told : Refusal) × ((e ≡ Refused told) × RefusesFlush h.runtime 0 w told)

@@ -15,4 +15,7 @@ pub mod Resumptions
 pub mod Texts
 pub mod Problems
 pub mod Flows
+pub mod Desks
+pub mod Callers
+pub mod Handles
 pub mod Wording

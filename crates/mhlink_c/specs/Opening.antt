@@ -1,4 +1,4 @@
--- What a machine is when it is opened, and why it is not.
+-- What a machine or a desk is opened of, and why it is not.
 use Rattle.std.specs.Prelude.{◌≡◌, ◌⊎◌, ◌<◌, ◌≤◌, ℕ, List, None, Ok}
 use Rattle.mh_core.specs.Limits.{IsLimits, LimitsData}
 use Rattle.mh_core.specs.Runtimes.{opened_runtime}
@@ -23,10 +23,10 @@ pub record AreLimits (workers : ℕ) (given : MhlinkLimits) : Type 0 where
 abbrev pub opened_host : Declarations → ℕ → MhlinkLimits → HostState
 opened_host d workers limits = record { runtime = opened_runtime d.definition workers (limits_of limits); scope = d.scope; given = None }
 
--- the machine of the definition that the text reads as
-abbrev pub Opens : List ℕ → ℕ → MhlinkLimits → HostState → Type 0
-Opens text workers limits h =
-    (d : Declarations) × ((declarations_in text ≡ Ok d) × (AreLimits workers limits × (h ≡ opened_host d workers limits)))
+-- what is opened of the definition that the text reads as
+abbrev pub Opens : List ℕ → ℕ → MhlinkLimits → (Declarations → Type 0) → Type 0
+Opens text workers limits Opened =
+    (d : Declarations) × ((declarations_in text ≡ Ok d) × (AreLimits workers limits × Opened d))
 
 -- a limit or the number of workers is out of its range; or else the text has a fault, or memory ran out
 abbrev pub RefusesOpening : List ℕ → ℕ → MhlinkLimits → Fault → Type 0

@@ -1,12 +1,12 @@
 -- What a question is answered.
 use Rattle.std.specs.Prelude.{◌≡◌, ◌⊎◌, ◌<◌, ℕ, List, length}
+use Rattle.mh_core.specs.Books.{BookState}
 use Rattle.mh_core.specs.Installations.{kept}
 use Rattle.mh_core.specs.Defined.{DefinitionData, point_at, site_at, link_of}
-use Rattle.mh_core.specs.Ledgers.{at, ledger_at}
+use Rattle.mh_core.specs.Ledgers.{at}
 use Rattle.mh_core.specs.Links.{links, link_at}
 use Rattle.mh_core.specs.Value.{Value}
 use Rattle.mhlink_c.specs.Crossing.{IsValue}
-use Rattle.mhlink_c.specs.Hosts.{HostState}
 use Rattle.mhlink_c.specs.Statuses.{no_memory}
 use Rattle.mhlink_c.specs.declared.fault.Fault.{Fault}
 use Rattle.mhlink_c.specs.declared.fault.Fault.TheVariants.{BadValue, Unknown}
@@ -29,13 +29,12 @@ pub record IsLink (d : DefinitionData) (s : ℕ) (x : Value) (j : ℕ) : Type 0 
   pub key : (link_at d j).1.when ≡ x
 
 -- the answer to a question
-abbrev pub Tells : HostState → Question → ℕ → Type 0
-Tells h (question.Site name) n = IsSite h.runtime.book.definition name.now n
-Tells h (question.Point name) n = IsPoint h.runtime.book.definition name.now n
-Tells h (question.Link s key text) n = (x : Value) × (IsValue key text.now x × IsLink h.runtime.book.definition s x n)
-Tells h (question.Hits w j) n = n ≡ at (ledger_at h.runtime.ledgers w).unflushed j
-Tells h (question.Total j) n = n ≡ at h.runtime.book.totals.total j
-Tells h (question.Linked s) n = n ≡ length (kept h.runtime.book.definition h.runtime.book.records s)
+abbrev pub Tells : BookState → Question → ℕ → Type 0
+Tells b (question.Site name) n = IsSite b.definition name.now n
+Tells b (question.Point name) n = IsPoint b.definition name.now n
+Tells b (question.Link s key text) n = (x : Value) × (IsValue key text.now x × IsLink b.definition s x n)
+Tells b (question.Total j) n = n ≡ at b.totals.total j
+Tells b (question.Linked s) n = n ≡ length (kept b.definition b.records s)
 
 -- no link of the site has this key
 abbrev pub HasNoLink : DefinitionData → ℕ → Value → Type 0
@@ -49,11 +48,9 @@ IsUnknownLink d s key text e =
     ⊎ ((e ≡ Unknown) × ((x : Value) × (IsValue key text x × HasNoLink d s x)))
 
 -- why a question has no answer
-abbrev pub IsUnknown : HostState → Question → Fault → Type 0
-IsUnknown h (question.Site name) e = (e ≡ Unknown) × ((s : ℕ) → IsSite h.runtime.book.definition name.now s → ⊥)
-IsUnknown h (question.Point name) e = (e ≡ Unknown) × ((p : ℕ) → IsPoint h.runtime.book.definition name.now p → ⊥)
-IsUnknown h (question.Link s key text) e = IsUnknownLink h.runtime.book.definition s key text.now e
-IsUnknown h (question.Hits w j) e =
-    (e ≡ Unknown) × (w < length h.runtime.ledgers → j < length (ledger_at h.runtime.ledgers w).unflushed → ⊥)
-IsUnknown h (question.Total j) e = (e ≡ Unknown) × (j < length h.runtime.book.totals.total → ⊥)
-IsUnknown h (question.Linked s) e = (e ≡ Unknown) × (s < length h.runtime.book.definition.sites → ⊥)
+abbrev pub IsUnknown : BookState → Question → Fault → Type 0
+IsUnknown b (question.Site name) e = (e ≡ Unknown) × ((s : ℕ) → IsSite b.definition name.now s → ⊥)
+IsUnknown b (question.Point name) e = (e ≡ Unknown) × ((p : ℕ) → IsPoint b.definition name.now p → ⊥)
+IsUnknown b (question.Link s key text) e = IsUnknownLink b.definition s key text.now e
+IsUnknown b (question.Total j) e = (e ≡ Unknown) × (j < length b.totals.total → ⊥)
+IsUnknown b (question.Linked s) e = (e ≡ Unknown) × (s < length b.definition.sites → ⊥)

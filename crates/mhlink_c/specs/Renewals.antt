@@ -1,6 +1,5 @@
 -- How much of a machine's history is used up, and what a renewal makes of a machine.
 use Rattle.std.specs.Prelude.{◌≡◌, ◌⊎◌, ◌<◌, ◌+◌, ℕ, List, [], length, map}
-use Rattle.mh_base.specs.Tests.{Refuses}
 use Rattle.mh_ledger.specs.Renewals.{renewed_ledger}
 use Rattle.mh_ledger.specs.declared.old_hits.OldHits.{OldHits}
 use Rattle.mh_ledger.specs.declared.old_hits.OldHits.TheVariants.{Keep, Halve, Drop}
@@ -8,10 +7,10 @@ use Rattle.mh_core.specs.Books.{BookState}
 use Rattle.mh_core.specs.Links.{links as links_of}
 use Rattle.mh_core.specs.Records.{snapshots as snapshots_in, plans as plans_in}
 use Rattle.mh_core.specs.Renewals.{MeansTheSame, Renews, renewal_tests}
-use Rattle.mh_core.specs.declared.refusal.Refusal.{Refusal}
+use Rattle.mhlink_c.specs.Statuses.{IsRefusedBy}
 use Rattle.mhlink_c.specs.Hosts.{HostState, IsKept}
 use Rattle.mhlink_c.specs.declared.fault.Fault.{Fault}
-use Rattle.mhlink_c.specs.declared.fault.Fault.TheVariants.{Refused, Unknown}
+use Rattle.mhlink_c.specs.declared.fault.Fault.TheVariants.{Unknown}
 use Rattle.mhlink_c.specs.declared.renewing.MhlinkUsed.{MhlinkUsed}
 
 -- the records, snapshots and plans of a history
@@ -45,7 +44,7 @@ pub record BeginsAnew (h : HostState) (again : List ℕ) (hits : OldHits) (new :
 -- the first failing test of a renewal
 abbrev pub RefusesAnew : HostState → List ℕ → Fault → Type 0
 RefusesAnew h again e =
-    (told : Refusal) × ((e ≡ Refused told) × Refuses (renewal_tests h.runtime.book.definition h.runtime.book.limits (length h.runtime.ledgers) again) told)
+    IsRefusedBy (renewal_tests h.runtime.book.definition h.runtime.book.limits (length h.runtime.ledgers) again) e
 
 -- as the number that C passes says
 abbrev pub IsRenewed : HostState → List ℕ → ℕ → HostState → Type 0

@@ -8,7 +8,7 @@ use Rattle.mh_core.specs.declared.resuming.ResumptionFault.TheVariants.{NoWorker
 use Rattle.mh_text.specs.declared.json.declarations.Declarations.{Declarations}
 use Rattle.mhlink_c.specs.Hosts.{HostState}
 use Rattle.mhlink_c.specs.Inputs.{IsFaultOf, declarations_in}
-use Rattle.mhlink_c.specs.Opening.{AreLimits, limits_of}
+use Rattle.mhlink_c.specs.Opening.{AreLimits, Opens, limits_of}
 use Rattle.mhlink_c.specs.Statuses.{no_memory}
 use Rattle.mhlink_c.specs.declared.fault.Fault.{Fault}
 use Rattle.mhlink_c.specs.declared.fault.Fault.TheVariants.{Refused, Unknown, BadLimits}
@@ -31,8 +31,7 @@ pub record IsResumedHost (d : Declarations) (workers : ℕ) (limits : MhlinkLimi
 
 -- the machine of the definition that the text reads as
 abbrev pub Resumes : List ℕ → ℕ → MhlinkLimits → List ℕ → List ℕ → HostState → Type 0
-Resumes text workers limits invalid totals h =
-    (d : Declarations) × ((declarations_in text ≡ Ok d) × (AreLimits workers limits × IsResumedHost d workers limits invalid totals h))
+Resumes text workers limits invalid totals h = Opens text workers limits (λ d. IsResumedHost d workers limits invalid totals h)
 
 -- the first failing test of the resumption
 abbrev pub RefusesToResume : Declarations → ℕ → MhlinkLimits → List ℕ → List ℕ → Fault → Type 0

@@ -1,5 +1,6 @@
 -- The status that C gets of a fault, as include/mhlink.h lists them, and what it leaves open, as a part.
-use Rattle.std.specs.Prelude.{ℕ, ◌+◌}
+use Rattle.std.specs.Prelude.{◌≡◌, ℕ, ◌+◌}
+use Rattle.mh_base.specs.Tests.{Refuses, Tests}
 use Rattle.mh_type.specs.Faults as type_fault
 use Rattle.mh_tree.specs.Faults as tree_fault
 use Rattle.mh_site.specs.Definitions as definition_fault
@@ -8,6 +9,7 @@ use Rattle.mh_cert.specs.Plans as check_fault
 use Rattle.mh_network.specs.declared.fault.ProblemFault.{ProblemFault}
 use Rattle.mh_network.specs.declared.fault.ProblemFault.TheVariants as problem
 use Rattle.mh_core.specs.Refusals.{refusal_number}
+use Rattle.mh_core.specs.declared.refusal.Refusal.{Refusal}
 use Rattle.mh_core.specs.declared.refusal.Refusal.TheVariants as refusal
 use Rattle.mh_text.specs.declared.fault.Fault.{Fault as TextualFault}
 use Rattle.mh_text.specs.declared.fault.InputFault.{InputFault}
@@ -79,3 +81,7 @@ of_kind _ = no_memory
 -- a fault of a text that was passed, wherever it stands
 abbrev pub of_text : TextualFault → Fault
 of_text fault = of_kind fault.kind
+
+-- the first failing test is told
+abbrev pub IsRefusedBy : Tests Refusal → Fault → Type 0
+IsRefusedBy tests e = (told : Refusal) × ((e ≡ Refused told) × Refuses tests told)

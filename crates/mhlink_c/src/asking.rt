@@ -1,107 +1,111 @@
 //! How a host answers each request.
 
-ghost use Rattle.std.specs.Prelude.{◌≡◌, ◌⊎◌, ◌<◌, ◌≤◌, length, map, string_bytes, Ok, IfErr, IfOk, OnErr, OnOk};
+ghost use Rattle.std.specs.Prelude.{◌≡◌, ◌<◌, ◌≤◌, length, map, string_bytes, IfErr, IfOk, OnErr, OnOk};
 ghost use Rattle.std.specs.List.{All};
-ghost use Rattle.mh_core.specs.Installations.{kept};
 ghost use Rattle.mh_core.specs.Ledgers.{at, ledger_at};
 ghost use Rattle.mh_core.specs.Links.{links};
 ghost use Rattle.mh_ledger.specs.Limits.{greatest_limit};
 ghost use Rattle.mh_core.specs.Records.{numbers};
-ghost use Rattle.mh_core.specs.declared.record.Record.TheVariants.{Invalidated, Snapped, Installed};
+ghost use Rattle.mh_core.specs.declared.record.Record.TheVariants.{Invalidated, Snapped};
 ghost use Rattle.mh_text.specs.Report.{most_unflushed};
-ghost use Rattle.mhlink_c.specs.Changes.{Flushes, HasNoBest, Installs, IsBest, Publishes, PublishesBest, PublishesOffer, Records, RefusesBest, RefusesOffer, RefusesPublished, RefusesRecord, RefusesTarget, RefusesToFlush, Retargets, TakesSnapshot};
-ghost use Rattle.mhlink_c.specs.Inputs.{IsFaultOf, tree_in};
+ghost use Rattle.mhlink_c.specs.Changes.{HasNoBest, Installs, MakesChange, Publishes, PublishesBest, PublishesOffer, RefusesBest, RefusesChange, RefusesInvalidation, RefusesOffer, RefusesPublished, RefusesRecord, RefusesTarget, Retargets, TakesSnapshot};
+ghost use Rattle.mhlink_c.specs.Hosts.{Flushes, Records, RefusesToFlush};
 ghost use Rattle.mhlink_c.specs.Statuses.{no_memory};
 ghost use Rattle.mhlink_c.specs.Texts.{IsCertificate, report_of, unflushed_of};
 ghost use Rattle.mhlink_c.specs.declared.fault.Fault.TheVariants.{Unknown};
+ghost use Rattle.mh_core.specs.declared.record.Record.TheVariants.{Installed};
 
+use crate::books::{best_plan_for, listed, read_tree};
 use crate::fault::Fault;
 use crate::host::Host;
-use crate::texts::read_target;
-use mh_core::{Book, Declared, Ledger, Listing, Plan, SharedPlan};
-use mh_plan::plan_alone;
+use crate::request::Change;
+use mh_core::{Book, Ledger, Plan, SharedPlan};
 use mh_text::{plan_json, push_tables, read_plan};
 use std::alloc::Global;
 
 impl Host {
-    pub(crate) fn flush(&mut self, worker: u32) -> Result<u64, Fault>
+    /// A worker's hits go to the totals.
+    pub(crate) fn flush(&mut self, worker: u32) -> Result<(), Fault>
         ensures flushed { OnOk result (Flushes self.old worker self.new) }
         ensures refused { IfErr result (RefusesToFlush self.old worker) }
         ensures kept { OnErr result (self.new ≡ self.old) }
     {
         self.runtime.flush(worker)?;
-        Ok(0)
+        Ok(())
     }
 
-    pub(crate) fn target(&mut self, alloc: Global, site: usize, tree: &[u8]) -> Result<u64, Fault>
-        ensures taken { OnOk result (Retargets self.old site tree.now self.new) }
-        ensures refused { IfErr result (RefusesTarget self.old site tree.now) }
+    /// Makes a change, and gives its answer.
+    pub(crate) fn change(&mut self, alloc: Global, change: Change<'_>) -> Result<u64, Fault>
+        ensures makes { IfOk result (MakesChange (Records self.old self.new)
+            self.old.runtime.book self.old.scope change.entry) }
+        ensures refused { IfErr result (RefusesChange self.old.runtime.book self.old.scope
+            change.entry) }
         ensures kept { OnErr result (self.new ≡ self.old) }
     {
-        let tree = self.read_tree(alloc, site, tree)?;
+        match change {
+            Change::Target { site, tree } => self.target(alloc, site, tree),
+            Change::Invalidate(points) => self.invalidate(alloc, points),
+            Change::Snapshot => self.snapshot(),
+            Change::Plan(snapshot) => self.plan(alloc, snapshot),
+            Change::Offer { snapshot, plan } => self.offer(alloc, snapshot, plan),
+            Change::Install(plan) => self.install(plan),
+        }
+    }
+
+    fn target(&mut self, alloc: Global, site: usize, tree: &[u8]) -> Result<u64, Fault>
+        ensures taken { OnOk result (Retargets (Records self.old self.new) self.old.scope site
+            tree.now) }
+        ensures refused { IfErr result (RefusesTarget self.old.runtime.book self.old.scope site
+            tree.now) }
+        ensures kept { OnErr result (self.new ≡ self.old) }
+    {
+        let tree = read_tree(alloc, self.runtime.book(), &self.scope, site, tree)?;
         self.runtime.target(site, tree)?;
         Ok(0)
     }
 
-    // The tree that a text of JSON gives a site, over what is declared.
-    fn read_tree(&self, alloc: Global, site: usize, tree: &[u8]) -> Result<Declared, Fault>
-        ensures value { IfOk result (λ t. tree_in self.now.scope tree.now ≡ Ok t) }
-        ensures inside { OnOk result (site < length self.now.runtime.book.definition.sites) }
-        ensures refused { IfErr result (λ e.
-            ((site < length self.now.runtime.book.definition.sites → ⊥) × (e ≡ Unknown))
-            ⊎ ((site < length self.now.runtime.book.definition.sites)
-            × IsFaultOf (tree_in self.now.scope tree.now) e)) }
-    {
-        if site >= self.runtime.book().definition().sites().len() {
-            return Err(Fault::Unknown);
-        }
-        read_target(alloc, &self.scope, tree)
-    }
-
-    pub(crate) fn invalidate(&mut self, alloc: Global, points: &[u32]) -> Result<u64, Fault>
-        ensures taken { OnOk result (Records self.old (Invalidated points.now) self.new) }
-        ensures refused { IfErr result (λ e. (e ≡ no_memory)
-            ⊎ RefusesRecord self.old (Invalidated points.now) e) }
+    fn invalidate(&mut self, alloc: Global, points: &[u32]) -> Result<u64, Fault>
+        ensures taken { OnOk result (Records self.old self.new (Invalidated points.now)) }
+        ensures refused { IfErr result (RefusesInvalidation self.old.runtime.book points.now) }
         ensures kept { OnErr result (self.new ≡ self.old) }
     {
-        let points = Listing::from_vec(Vec::from_slice(alloc, points)?);
+        let points = listed(alloc, points)?;
         self.runtime.invalidate(points)?;
         Ok(0)
     }
 
-    pub(crate) fn snapshot(&mut self) -> Result<u64, Fault>
-        ensures taken { IfOk result (λ n. TakesSnapshot self.old n self.new) }
-        ensures refused { IfErr result (RefusesRecord self.old Snapped) }
+    fn snapshot(&mut self) -> Result<u64, Fault>
+        ensures taken { IfOk result (TakesSnapshot (Records self.old self.new)
+            self.old.runtime.book) }
+        ensures refused { IfErr result (RefusesRecord self.old.runtime.book Snapped) }
         ensures kept { OnErr result (self.new ≡ self.old) }
     {
         Ok(self.runtime.snapshot()? as u64)
     }
 
-    pub(crate) fn install(&mut self, plan: usize) -> Result<u64, Fault>
-        ensures taken { IfOk result (λ n. Installs self.old plan n self.new) }
-        ensures refused { IfErr result (RefusesRecord self.old (Installed plan)) }
+    fn install(&mut self, plan: usize) -> Result<u64, Fault>
+        ensures taken { IfOk result (Installs (Records self.old self.new) self.old.runtime.book
+            plan) }
+        ensures refused { IfErr result (RefusesRecord self.old.runtime.book (Installed plan)) }
         ensures kept { OnErr result (self.new ≡ self.old) }
     {
         Ok(self.runtime.install(plan)?.linked() as u64)
     }
 
-    pub(crate) fn plan(&mut self, alloc: Global, snapshot: usize) -> Result<u64, Fault>
-        ensures taken { IfOk result (λ n. PublishesBest self.old snapshot n self.new) }
-        ensures refused { IfErr result (RefusesBest self.old snapshot) }
+    fn plan(&mut self, alloc: Global, snapshot: usize) -> Result<u64, Fault>
+        ensures taken { IfOk result (PublishesBest (Records self.old self.new)
+            self.old.runtime.book snapshot) }
+        ensures refused { IfErr result (RefusesBest self.old.runtime.book snapshot) }
         ensures kept { OnErr result (self.new ≡ self.old) }
     {
-        let plan = self.best_plan(alloc, snapshot)?;
+        let plan = best_plan_for(alloc, self.runtime.book(), snapshot)?;
         self.publish(alloc, snapshot, plan)
     }
 
-    pub(crate) fn offer(
-        &mut self,
-        alloc: Global,
-        snapshot: usize,
-        plan: &[u8],
-    ) -> Result<u64, Fault>
-        ensures taken { IfOk result (λ n. PublishesOffer self.old snapshot plan.now n self.new) }
-        ensures refused { IfErr result (RefusesOffer self.old snapshot plan.now) }
+    fn offer(&mut self, alloc: Global, snapshot: usize, plan: &[u8]) -> Result<u64, Fault>
+        ensures taken { IfOk result (PublishesOffer (Records self.old self.new)
+            self.old.runtime.book snapshot plan.now) }
+        ensures refused { IfErr result (RefusesOffer self.old.runtime.book snapshot plan.now) }
         ensures kept { OnErr result (self.new ≡ self.old) }
     {
         let plan = read_plan(alloc, plan, None)?;
@@ -109,21 +113,13 @@ impl Host {
     }
 
     fn publish(&mut self, alloc: Global, snapshot: usize, plan: Plan) -> Result<u64, Fault>
-        ensures taken { IfOk result (λ n. Publishes self.old snapshot plan n self.new) }
-        ensures refused { IfErr result (RefusesPublished self.old snapshot plan) }
+        ensures taken { IfOk result (Publishes (Records self.old self.new)
+            self.old.runtime.book snapshot plan) }
+        ensures refused { IfErr result (RefusesPublished self.old.runtime.book snapshot plan) }
         ensures kept { OnErr result (self.new ≡ self.old) }
     {
         let plan = SharedPlan::new(alloc, plan)?;
         Ok(self.runtime.publish(snapshot, plan)? as u64)
-    }
-
-    // The best plan for a snapshot, of such the least.
-    fn best_plan(&self, alloc: Global, snapshot: usize) -> Result<Plan, Fault>
-        ensures best { IfOk result (IsBest self.now.runtime.book snapshot) }
-        ensures refused { IfErr result (HasNoBest self.now.runtime.book snapshot) }
-    {
-        let problem = self.runtime.book().problem(snapshot)?;
-        Ok(plan_alone(alloc, &problem)?)
     }
 
     /// The best plan for a snapshot with its flow, as compact JSON, which `mhlink check` reads.
@@ -132,7 +128,7 @@ impl Host {
             (string_bytes text)) }
         ensures refused { IfErr result (HasNoBest self.now.runtime.book snapshot) }
     {
-        let plan = self.best_plan(alloc, snapshot)?;
+        let plan = best_plan_for(alloc, self.runtime.book(), snapshot)?;
         Ok(plan_json(alloc, &plan)?)
     }
 
@@ -148,6 +144,7 @@ impl Host {
         Ok(text)
     }
 
+    /// The unflushed hits of a link by a worker's calls.
     pub(crate) fn hits(&self, worker: u32, link: usize) -> Result<u64, Fault>
         ensures value { IfOk result (λ n. n
             ≡ at (ledger_at self.now.runtime.ledgers worker).unflushed link) }
@@ -159,37 +156,20 @@ impl Host {
         if worker as usize >= ledgers.len() {
             return Err(Fault::Unknown);
         }
-        let ledger = &ledgers[worker as usize];
-        if link >= ledger.links() {
-            return Err(Fault::Unknown);
-        }
-        Ok(ledger.unflushed(link))
+        hits_in(&ledgers[worker as usize], link)
     }
+}
 
-    pub(crate) fn total(&self, link: usize) -> Result<u64, Fault>
-        ensures value { IfOk result (λ n. n ≡ at self.now.runtime.book.totals.total link) }
-        ensures unknown { IfErr result (λ e. (e ≡ Unknown)
-            × (link < length self.now.runtime.book.totals.total → ⊥)) }
-    {
-        let totals = self.runtime.book().totals();
-        if link >= totals.links() {
-            return Err(Fault::Unknown);
-        }
-        Ok(totals.total(link))
+/// The unflushed hits of a link in a ledger.
+pub(crate) fn hits_in(ledger: &Ledger, link: usize) -> Result<u64, Fault>
+    ensures value { IfOk result (λ n. n ≡ at ledger.now.unflushed link) }
+    ensures unknown { IfErr result (λ e. (e ≡ Unknown)
+        × (link < length ledger.now.unflushed → ⊥)) }
+{
+    if link >= ledger.links() {
+        return Err(Fault::Unknown);
     }
-
-    pub(crate) fn linked(&self, site: usize) -> Result<u64, Fault>
-        ensures value { IfOk result (λ n. n ≡ length (kept self.now.runtime.book.definition
-            self.now.runtime.book.records site)) }
-        ensures unknown { IfErr result (λ e. (e ≡ Unknown)
-            × (site < length self.now.runtime.book.definition.sites → ⊥)) }
-    {
-        let book = self.runtime.book();
-        if site >= book.definition().sites().len() {
-            return Err(Fault::Unknown);
-        }
-        Ok(book.installed(site).len() as u64)
-    }
+    Ok(ledger.unflushed(link))
 }
 
 // The hits of each link in these ledgers.

@@ -1,7 +1,8 @@
 //! Calls.
 
 ghost use Rattle.std.specs.Prelude.{◌≡◌, ◌≢◌, true, IfErr, IfOk, OnErr};
-ghost use Rattle.mhlink_c.specs.Calls.{AsksForNone, Calls, RefusesCall};
+ghost use Rattle.mh_core.specs.Runtimes.{call_tests};
+ghost use Rattle.mhlink_c.specs.Calls.{Answers, AsksForNone, RefusesCall, WithValues};
 ghost use Rattle.mhlink_c.specs.Statuses.{no_memory, status_of};
 ghost use Rattle.mhlink_c.specs.declared.fault.Fault.{Fault as FaultOf};
 
@@ -28,12 +29,13 @@ fn call_held(machine: MhlinkMachine, call: Call<'_>) -> (MhlinkMachine, Result<M
     ensures kept { OnErr result.1 (result.0.value ≡ machine.value) }
     ensures book { result.0.value.runtime.book ≡ machine.value.runtime.book }
     ensures scope { result.0.value.scope ≡ machine.value.scope }
-    ensures answer { IfOk result.1 (λ reply. Calls machine.value call.entry.worker call.entry.site
-        call.entry.values.now call.entry.texts.now reply result.0.value) }
-    ensures refused { IfErr result.1 (RefusesCall machine.value call.entry.worker call.entry.site
+    ensures answer { IfOk result.1 (λ reply. WithValues call.entry.values.now call.entry.texts.now
+        (Answers machine.value call.entry.worker call.entry.site reply result.0.value)) }
+    ensures refused { IfErr result.1 (RefusesCall
+        (call_tests machine.value.runtime call.entry.worker call.entry.site)
         call.entry.values.now call.entry.texts.now) }
-    ensures memory { AsksForNone machine.value call.entry.site call.entry.values.now
-        call.entry.texts.now → IfErr result.1 (λ e. e ≡ no_memory → ⊥) }
+    ensures memory { AsksForNone machine.value.runtime.book call.entry.site
+        call.entry.values.now call.entry.texts.now → IfErr result.1 (λ e. e ≡ no_memory → ⊥) }
 {
     let mut host = machine.into_box();
     let reply = host.call(call.alloc, call.worker, call.site, call.values, call.texts);
@@ -59,11 +61,11 @@ pub extern "C" fn mhlink_call(
     ensures untouched { result ≢ 0 → reply.new ≡ reply.old }
     ensures book { machine.new.value.runtime.book ≡ machine.old.value.runtime.book }
     ensures scope { machine.new.value.scope ≡ machine.old.value.scope }
-    ensures answer { result ≡ 0 → Calls machine.old.value worker site values.now texts.now reply.new
-        machine.new.value }
+    ensures answer { result ≡ 0 → WithValues values.now texts.now
+        (Answers machine.old.value worker site reply.new machine.new.value) }
     ensures refused { result ≢ 0 → (e : FaultOf) × ((result ≡ status_of e)
-        × RefusesCall machine.old.value worker site values.now texts.now e) }
-    ensures memory { AsksForNone machine.old.value site values.now texts.now
+        × RefusesCall (call_tests machine.old.value.runtime worker site) values.now texts.now e) }
+    ensures memory { AsksForNone machine.old.value.runtime.book site values.now texts.now
         → result ≢ status_of no_memory }
 {
     let call = Call {

@@ -1,19 +1,34 @@
 //! What changes a machine beside calls.
 
-ghost use Rattle.std.specs.Prelude.{◌≡◌, ◌≢◌, ◌⊎◌, true};
+ghost use Rattle.std.specs.Prelude.{◌≡◌, ◌≢◌, true, IfErr, OnErr, OnOk};
 ghost use Rattle.mh_core.specs.declared.record.Record.TheVariants.{Invalidated, Snapped, Installed};
-ghost use Rattle.mhlink_c.specs.Changes.{Flushes, Installs, PublishesBest, PublishesOffer, Records, RefusesBest, RefusesOffer, RefusesRecord, RefusesTarget, RefusesToFlush, Retargets, TakesSnapshot};
-ghost use Rattle.mhlink_c.specs.Statuses.{no_memory, status_of};
+ghost use Rattle.mhlink_c.specs.Changes.{Installs, PublishesBest, PublishesOffer, RefusesBest, RefusesInvalidation, RefusesOffer, RefusesRecord, RefusesTarget, Retargets, TakesSnapshot};
+ghost use Rattle.mhlink_c.specs.Hosts.{Flushes, Records, RefusesToFlush};
+ghost use Rattle.mhlink_c.specs.Statuses.{status_of};
 ghost use Rattle.mhlink_c.specs.declared.fault.Fault.{Fault as FaultOf};
 
+use crate::fault::{Fault, status};
 use crate::handle::MhlinkMachine;
 use crate::held::make_change;
 use crate::request::Change;
+use core::mem::replace_with;
 use std::alloc::Global;
+
+fn flush_held(machine: MhlinkMachine, worker: u32) -> (MhlinkMachine, Result<(), Fault>)
+    requires full { machine.full ≡ true }
+    ensures full { result.0.full ≡ true }
+    ensures flushed { OnOk result.1 (Flushes machine.value worker result.0.value) }
+    ensures refused { IfErr result.1 (RefusesToFlush machine.value worker) }
+    ensures kept { OnErr result.1 (result.0.value ≡ machine.value) }
+{
+    let mut host = machine.into_box();
+    let answer = host.flush(worker);
+    (MhlinkMachine::of(host), answer)
+}
 
 /// Adds the hits of a worker since its last flush to the totals.
 #[unsafe(no_mangle)]
-pub extern "C" fn mhlink_flush(alloc: Global, machine: &mut MhlinkMachine, worker: u32) -> u32
+pub extern "C" fn mhlink_flush(machine: &mut MhlinkMachine, worker: u32) -> u32
     requires full { machine.old.full ≡ true }
     ensures full { machine.new.full ≡ true }
     ensures flushed { result ≡ 0 → Flushes machine.old.value worker machine.new.value }
@@ -21,8 +36,7 @@ pub extern "C" fn mhlink_flush(alloc: Global, machine: &mut MhlinkMachine, worke
         × RefusesToFlush machine.old.value worker e) }
     ensures kept { result ≢ 0 → machine.new.value ≡ machine.old.value }
 {
-    let mut nothing = 0;
-    make_change(alloc, machine, Change::Flush(worker), &mut nothing)
+    status(replace_with(machine, worker, flush_held))
 }
 
 /// Gives a site another tree, as JSON over the points, the shared trees and the sites of the
@@ -39,9 +53,10 @@ pub extern "C" fn mhlink_target(
 ) -> u32
     requires full { machine.old.full ≡ true }
     ensures full { machine.new.full ≡ true }
-    ensures taken { result ≡ 0 → Retargets machine.old.value site tree.now machine.new.value }
+    ensures taken { result ≡ 0 → Retargets (Records machine.old.value machine.new.value)
+        machine.old.value.scope site tree.now }
     ensures refused { result ≢ 0 → (e : FaultOf) × ((result ≡ status_of e)
-        × RefusesTarget machine.old.value site tree.now e) }
+        × RefusesTarget machine.old.value.runtime.book machine.old.value.scope site tree.now e) }
     ensures kept { result ≢ 0 → machine.new.value ≡ machine.old.value }
 {
     let mut nothing = 0;
@@ -57,10 +72,10 @@ pub extern "C" fn mhlink_invalidate(
 ) -> u32
     requires full { machine.old.full ≡ true }
     ensures full { machine.new.full ≡ true }
-    ensures taken { result ≡ 0 → Records machine.old.value (Invalidated points.now)
-        machine.new.value }
+    ensures taken { result ≡ 0 → Records machine.old.value machine.new.value
+        (Invalidated points.now) }
     ensures refused { result ≢ 0 → (e : FaultOf) × ((result ≡ status_of e)
-        × ((e ≡ no_memory) ⊎ RefusesRecord machine.old.value (Invalidated points.now) e)) }
+        × RefusesInvalidation machine.old.value.runtime.book points.now e) }
     ensures kept { result ≢ 0 → machine.new.value ≡ machine.old.value }
 {
     let mut nothing = 0;
@@ -76,9 +91,10 @@ pub extern "C" fn mhlink_snapshot(
 ) -> u32
     requires full { machine.old.full ≡ true }
     ensures full { machine.new.full ≡ true }
-    ensures taken { result ≡ 0 → TakesSnapshot machine.old.value number.new machine.new.value }
+    ensures taken { result ≡ 0 → TakesSnapshot (Records machine.old.value machine.new.value)
+        machine.old.value.runtime.book number.new }
     ensures refused { result ≢ 0 → (e : FaultOf) × ((result ≡ status_of e)
-        × RefusesRecord machine.old.value Snapped e) }
+        × RefusesRecord machine.old.value.runtime.book Snapped e) }
     ensures kept { result ≢ 0 → machine.new.value ≡ machine.old.value }
     ensures untouched { result ≢ 0 → number.new ≡ number.old }
 {
@@ -96,10 +112,10 @@ pub extern "C" fn mhlink_plan(
 ) -> u32
     requires full { machine.old.full ≡ true }
     ensures full { machine.new.full ≡ true }
-    ensures taken { result ≡ 0 → PublishesBest machine.old.value snapshot number.new
-        machine.new.value }
+    ensures taken { result ≡ 0 → PublishesBest (Records machine.old.value machine.new.value)
+        machine.old.value.runtime.book snapshot number.new }
     ensures refused { result ≢ 0 → (e : FaultOf) × ((result ≡ status_of e)
-        × RefusesBest machine.old.value snapshot e) }
+        × RefusesBest machine.old.value.runtime.book snapshot e) }
     ensures kept { result ≢ 0 → machine.new.value ≡ machine.old.value }
     ensures untouched { result ≢ 0 → number.new ≡ number.old }
 {
@@ -117,10 +133,10 @@ pub extern "C" fn mhlink_offer(
 ) -> u32
     requires full { machine.old.full ≡ true }
     ensures full { machine.new.full ≡ true }
-    ensures taken { result ≡ 0 → PublishesOffer machine.old.value snapshot plan.now number.new
-        machine.new.value }
+    ensures taken { result ≡ 0 → PublishesOffer (Records machine.old.value machine.new.value)
+        machine.old.value.runtime.book snapshot plan.now number.new }
     ensures refused { result ≢ 0 → (e : FaultOf) × ((result ≡ status_of e)
-        × RefusesOffer machine.old.value snapshot plan.now e) }
+        × RefusesOffer machine.old.value.runtime.book snapshot plan.now e) }
     ensures kept { result ≢ 0 → machine.new.value ≡ machine.old.value }
     ensures untouched { result ≢ 0 → number.new ≡ number.old }
 {
@@ -137,9 +153,10 @@ pub extern "C" fn mhlink_install(
 ) -> u32
     requires full { machine.old.full ≡ true }
     ensures full { machine.new.full ≡ true }
-    ensures taken { result ≡ 0 → Installs machine.old.value plan linked.new machine.new.value }
+    ensures taken { result ≡ 0 → Installs (Records machine.old.value machine.new.value)
+        machine.old.value.runtime.book plan linked.new }
     ensures refused { result ≢ 0 → (e : FaultOf) × ((result ≡ status_of e)
-        × RefusesRecord machine.old.value (Installed plan) e) }
+        × RefusesRecord machine.old.value.runtime.book (Installed plan) e) }
     ensures kept { result ≢ 0 → machine.new.value ≡ machine.old.value }
     ensures untouched { result ≢ 0 → linked.new ≡ linked.old }
 {

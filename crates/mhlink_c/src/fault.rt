@@ -1,6 +1,6 @@
 //! Why an export did nothing, and the numbers that C gets for it.
 
-ghost use Rattle.std.specs.Prelude.{◌≡◌, ◌≢◌, ◌≤◌, IfErr, OnErr, OnOk};
+ghost use Rattle.std.specs.Prelude.{◌≡◌, ◌≢◌, ◌≤◌, IfErr, IfOk, OnErr, OnOk};
 ghost use Rattle.mhlink_c.specs.Statuses.{input_number as number_of_input, input_part as part_of_input, part_of, status_of};
 
 use mh_core::{NoMemory, ProblemFault, Refusal};
@@ -188,6 +188,23 @@ pub(crate) fn status<T: Drop>(answer: Result<T, Fault>) -> u32
 {
     match answer {
         Ok(_) => 0,
+        Err(fault) => fault.number(),
+    }
+}
+
+/// The status of an answer, which is written to `out` where there is one.
+pub(crate) fn write_answer(answer: Result<u64, Fault>, out: &mut u64) -> u32
+    ensures ok { OnOk answer (result ≡ 0) }
+    ensures answer { IfOk answer (λ n. out.new ≡ n) }
+    ensures refused { OnErr answer (result ≢ 0) }
+    ensures status { IfErr answer (λ e. result ≡ status_of e) }
+    ensures kept { OnErr answer (out.new ≡ out.old) }
+{
+    match answer {
+        Ok(number) => {
+            *out = number;
+            0
+        }
         Err(fault) => fault.number(),
     }
 }

@@ -3,6 +3,7 @@
 ghost use Rattle.std.specs.Prelude.{◌≡◌, Bool, true};
 ghost use Rattle.mhlink_c.specs.Hosts.{HostState, coded_host};
 ghost use Rattle.mhlink_c.specs.Held.{held};
+ghost use Rattle.mhlink_c.specs.contracts.host.Host as hosts;
 
 use crate::host::Host;
 use mh_parts::Parts;
@@ -21,7 +22,7 @@ pub struct MhlinkMachine {
 }
 
 impl Model for MhlinkMachine {
-    ghost also_owns = { λ l. held l.full l.alloc l.at l.value };
+    ghost also_owns = { λ l. held hosts.the_row l.full l.alloc l.at l.value };
 }
 
 impl MhlinkMachine {

@@ -1,12 +1,14 @@
-//! What is done with the host that a handle holds.
+//! What is asked of, and recorded by, the machine that a handle holds.
 
 ghost use Rattle.std.specs.Prelude.{◌≡◌, ◌≢◌, true, IfErr, IfOk, OnErr, OnOk};
-ghost use Rattle.mhlink_c.specs.Changes.{Makes, RefusesChange};
+ghost use Rattle.mhlink_c.specs.Changes.{MakesChange, RefusesChange};
+ghost use Rattle.mhlink_c.specs.Hosts.{Records};
 ghost use Rattle.mhlink_c.specs.Questions.{IsUnknown, Tells};
 ghost use Rattle.mhlink_c.specs.Statuses.{status_of};
 ghost use Rattle.mhlink_c.specs.declared.fault.Fault.{Fault as FaultOf};
 
-use crate::fault::Fault;
+use crate::books::answer;
+use crate::fault::{Fault, write_answer};
 use crate::handle::MhlinkMachine;
 use crate::request::{Change, Question};
 use core::mem::replace_with;
@@ -22,9 +24,10 @@ pub(crate) fn look_up(
     requires full { machine.old.full ≡ true }
     ensures full { machine.new.full ≡ true }
     ensures same { machine.new.value ≡ machine.old.value }
-    ensures tells { result ≡ 0 → Tells machine.old.value question.entry out.new }
+    ensures tells { result ≡ 0 → Tells machine.old.value.runtime.book question.entry
+        out.new }
     ensures unknown { result ≢ 0 → (e : FaultOf) × ((result ≡ status_of e)
-        × IsUnknown machine.old.value question.entry e) }
+        × IsUnknown machine.old.value.runtime.book question.entry e) }
     ensures untouched { result ≢ 0 → out.new ≡ out.old }
 {
     write_answer(replace_with(machine, (alloc, question), look_held), out)
@@ -37,12 +40,12 @@ fn look_held(
     requires full { machine.full ≡ true }
     ensures full { result.0.full ≡ true }
     ensures same { result.0.value ≡ machine.value }
-    ensures tells { IfOk result.1 (λ n. Tells machine.value asked.entry.1 n) }
-    ensures unknown { IfErr result.1 (IsUnknown machine.value asked.entry.1) }
+    ensures tells { IfOk result.1 (λ n. Tells machine.value.runtime.book asked.entry.1 n) }
+    ensures unknown { IfErr result.1 (IsUnknown machine.value.runtime.book asked.entry.1) }
 {
     let host = machine.into_box();
     let (alloc, question) = asked;
-    let answer = host.look(alloc, question);
+    let answer = answer(alloc, host.runtime.book(), question);
     (MhlinkMachine::of(host), answer)
 }
 
@@ -55,9 +58,10 @@ pub(crate) fn make_change(
 ) -> u32
     requires full { machine.old.full ≡ true }
     ensures full { machine.new.full ≡ true }
-    ensures makes { result ≡ 0 → Makes machine.old.value change.entry out.new machine.new.value }
+    ensures makes { result ≡ 0 → MakesChange (Records machine.old.value machine.new.value)
+        machine.old.value.runtime.book machine.old.value.scope change.entry out.new }
     ensures refused { result ≢ 0 → (e : FaultOf) × ((result ≡ status_of e)
-        × RefusesChange machine.old.value change.entry e) }
+        × RefusesChange machine.old.value.runtime.book machine.old.value.scope change.entry e) }
     ensures kept { result ≢ 0 → machine.new.value ≡ machine.old.value }
     ensures untouched { result ≢ 0 → out.new ≡ out.old }
 {
@@ -70,29 +74,14 @@ fn change_held(
 ) -> (MhlinkMachine, Result<u64, Fault>)
     requires full { machine.full ≡ true }
     ensures full { result.0.full ≡ true }
-    ensures makes { IfOk result.1 (λ n. Makes machine.value made.entry.1 n result.0.value) }
-    ensures refused { IfErr result.1 (RefusesChange machine.value made.entry.1) }
+    ensures makes { IfOk result.1 (MakesChange (Records machine.value result.0.value)
+        machine.value.runtime.book machine.value.scope made.entry.1) }
+    ensures refused { IfErr result.1 (RefusesChange machine.value.runtime.book machine.value.scope
+        made.entry.1) }
     ensures kept { OnErr result.1 (result.0.value ≡ machine.value) }
 {
     let mut host = machine.into_box();
     let (alloc, change) = made;
     let answer = host.change(alloc, change);
     (MhlinkMachine::of(host), answer)
-}
-
-// The status of an answer, which is written to `out` where there is one.
-fn write_answer(answer: Result<u64, Fault>, out: &mut u64) -> u32
-    ensures ok { OnOk answer (result ≡ 0) }
-    ensures answer { IfOk answer (λ n. out.new ≡ n) }
-    ensures refused { OnErr answer (result ≢ 0) }
-    ensures status { IfErr answer (λ e. result ≡ status_of e) }
-    ensures kept { OnErr answer (out.new ≡ out.old) }
-{
-    match answer {
-        Ok(number) => {
-            *out = number;
-            0
-        }
-        Err(fault) => fault.number(),
-    }
 }

@@ -3,27 +3,23 @@
 
 ghost use Rattle.std.specs.Prelude.{◌≡◌, ◌≤◌, Some, None, vec_capacity, IfErr, IfOk, OnErr};
 ghost use Rattle.mh_type.specs.Limits.{most_parameters};
-ghost use Rattle.mhlink_c.specs.Calls.{AsksForNone, Calls, RefusesCall};
-ghost use Rattle.mhlink_c.specs.Changes.{Makes, RefusesChange};
-ghost use Rattle.mhlink_c.specs.Crossing.{text_of_outcome};
-ghost use Rattle.mhlink_c.specs.Opening.{AreLimits, Opens, RefusesOpening, limits_of};
-ghost use Rattle.mhlink_c.specs.Questions.{IsUnknown, Tells};
+ghost use Rattle.mh_core.specs.Runtimes.{call_tests};
+ghost use Rattle.mhlink_c.specs.Calls.{Answers, AsksForNone, RefusesCall, WithValues};
+ghost use Rattle.mhlink_c.specs.Opening.{AreLimits, Opens, RefusesOpening, limits_of, opened_host};
 ghost use Rattle.mhlink_c.specs.Statuses.{no_memory};
 ghost use Rattle.mhlink_c.specs.Texts.{HasNoText};
 ghost use Rattle.mhlink_c.specs.declared.fault.Fault.TheVariants.{BadLimits};
 
 use crate::fault::Fault;
-use crate::finding::{link_number, point_number, site_number};
-use crate::request::{Change, Question};
 use crate::texts::{MhlinkLimits, read_definition};
-use crate::value::{MhlinkReply, MhlinkValue, read_values, reply_of, value};
-use mh_core::{Limits, MOST_PARAMETERS, NoMemory, Outcome, Runtime, Text, Value};
+use crate::value::{MhlinkReply, MhlinkValue, read_values, reply_of, share_text, text_of};
+use mh_core::{Limits, MOST_PARAMETERS, Runtime, Text, Value};
 use mh_text::readers::{Declarations, Scope};
 use std::alloc::Global;
 use std::marker::Model;
 
 /// The most workers of a machine.
-const MOST_WORKERS: u32 = 64;
+const MOST_WORKERS: usize = 64;
 
 /// A runtime for C. A contract sees the runtime, the names and the text.
 #[derive(Drop)]
@@ -51,7 +47,7 @@ impl Model for Host {
 }
 
 // The limits, where each and the number of workers is in its range.
-pub(crate) fn limits_for(workers: u32, given: &MhlinkLimits) -> Result<Limits, Fault>
+pub(crate) fn limits_for(workers: usize, given: &MhlinkLimits) -> Result<Limits, Fault>
     ensures value { IfOk result (λ l. (l ≡ limits_of given.now) × AreLimits workers given.now) }
     ensures bad { IfErr result (λ e. (AreLimits workers given.now → ⊥) × (e ≡ BadLimits)) }
 {
@@ -78,10 +74,11 @@ impl Host {
         workers: u32,
         limits: &MhlinkLimits,
     ) -> Result<Host, Fault>
-        ensures opened { IfOk result (Opens definition.now workers limits.now) }
+        ensures opened { IfOk result (λ host. Opens definition.now workers limits.now
+            (λ d. host ≡ opened_host d workers limits.now)) }
         ensures refused { IfErr result (RefusesOpening definition.now workers limits.now) }
     {
-        let limits = limits_for(workers, limits)?;
+        let limits = limits_for(workers as usize, limits)?;
         let arguments = room_for_arguments(alloc)?;
         let Declarations { definition, scope } = read_definition(alloc, definition)?;
         let runtime = Runtime::open(alloc, &definition, workers, limits)?;
@@ -110,13 +107,14 @@ impl Host {
         given: &[MhlinkValue],
         texts: &[u8],
     ) -> Result<MhlinkReply, Fault>
-        ensures answer { IfOk result (λ reply. Calls self.old worker site given.now texts.now reply
-            self.new) }
-        ensures refused { IfErr result (RefusesCall self.old worker site given.now texts.now) }
+        ensures answer { IfOk result (λ reply. WithValues given.now texts.now
+            (Answers self.old worker site reply self.new)) }
+        ensures refused { IfErr result (RefusesCall (call_tests self.old.runtime worker site)
+            given.now texts.now) }
         ensures book { self.new.runtime.book ≡ self.old.runtime.book }
         ensures scope { self.new.scope ≡ self.old.scope }
         ensures kept { OnErr result (self.new ≡ self.old) }
-        ensures memory { AsksForNone self.old site given.now texts.now
+        ensures memory { AsksForNone self.old.runtime.book site given.now texts.now
             → IfErr result (λ e. e ≡ no_memory → ⊥) }
     {
         read_values(&mut self.arguments, alloc, given, texts)?;
@@ -132,55 +130,6 @@ impl Host {
         ensures value { IfOk result (λ text. self.now.given ≡ Some text) }
         ensures refused { IfErr result (HasNoText self.now.given) }
     {
-        match &self.given {
-            Some(text) => text.share().map_err(|_| Fault::from(NoMemory)),
-            None => Err(Fault::Unknown),
-        }
-    }
-
-    /// The answer to a question.
-    pub(crate) fn look(&self, alloc: Global, question: Question<'_>) -> Result<u64, Fault>
-        ensures tells { IfOk result (λ n. Tells self.now question.entry n) }
-        ensures unknown { IfErr result (IsUnknown self.now question.entry) }
-    {
-        let definition = self.runtime.book().definition();
-        match question {
-            Question::Site(name) => site_number(definition, name),
-            Question::Point(name) => point_number(definition, name),
-            Question::Link { site, key, text } => {
-                link_number(definition, site, &value(alloc, &key, text)?)
-            }
-            Question::Hits { worker, link } => self.hits(worker, link),
-            Question::Total(link) => self.total(link),
-            Question::Linked(site) => self.linked(site),
-        }
-    }
-
-    /// Makes a change, and gives its answer.
-    pub(crate) fn change(&mut self, alloc: Global, change: Change<'_>) -> Result<u64, Fault>
-        ensures makes { IfOk result (λ n. Makes self.old change.entry n self.new) }
-        ensures refused { IfErr result (RefusesChange self.old change.entry) }
-        ensures kept { OnErr result (self.new ≡ self.old) }
-    {
-        match change {
-            Change::Flush(worker) => self.flush(worker),
-            Change::Target { site, tree } => self.target(alloc, site, tree),
-            Change::Invalidate(points) => self.invalidate(alloc, points),
-            Change::Snapshot => self.snapshot(),
-            Change::Plan(snapshot) => self.plan(alloc, snapshot),
-            Change::Offer { snapshot, plan } => self.offer(alloc, snapshot, plan),
-            Change::Install(plan) => self.install(plan),
-            Change::Renew { again, hits } => self.renew(again, hits),
-        }
-    }
-}
-
-// The text of an outcome, if it is one.
-fn text_of(outcome: Outcome) -> Option<Text>
-    ensures value { result ≡ text_of_outcome outcome }
-{
-    match outcome {
-        Outcome::Value(Value::Text(text)) => Some(text),
-        _ => None,
+        share_text(&self.given)
     }
 }

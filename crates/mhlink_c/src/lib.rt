@@ -8,9 +8,18 @@
 
 mod amounts;
 mod asking;
+mod books;
 mod buffers;
+mod caller;
+mod caller_calls;
+mod caller_handle;
 mod calling;
 mod changing;
+mod crossing;
+mod desk;
+mod desk_calls;
+mod desk_handle;
+mod desk_opening;
 mod extending;
 mod fault;
 mod finding;

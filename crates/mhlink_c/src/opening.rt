@@ -1,7 +1,7 @@
 //! Machines are opened and closed.
 
 ghost use Rattle.std.specs.Prelude.{◌≡◌, ◌≢◌, true, IfErr, IfOk};
-ghost use Rattle.mhlink_c.specs.Opening.{Opens, RefusesOpening};
+ghost use Rattle.mhlink_c.specs.Opening.{Opens, RefusesOpening, opened_host};
 ghost use Rattle.mhlink_c.specs.Statuses.{part_of, status_of};
 ghost use Rattle.mhlink_c.specs.declared.fault.Fault.{Fault as FaultOf};
 
@@ -35,7 +35,8 @@ pub extern "C" fn mhlink_open(
     part: &mut u64,
 ) -> u32
     ensures full { result ≡ 0 → machine.new.full ≡ true }
-    ensures opened { result ≡ 0 → Opens definition.now workers limits.now machine.new.value }
+    ensures opened { result ≡ 0 → Opens definition.now workers limits.now
+        (λ d. machine.new.value ≡ opened_host d workers limits.now) }
     ensures no_part { result ≡ 0 → part.new ≡ 0 }
     ensures refused { result ≢ 0 → (e : FaultOf) × ((result ≡ status_of e)
         × ((part.new ≡ part_of e) × RefusesOpening definition.now workers limits.now e)) }
@@ -62,7 +63,7 @@ fn open(
 ) -> Result<MhlinkMachine, Fault>
     ensures full { IfOk result (λ machine. machine.full ≡ true) }
     ensures opened { IfOk result (λ machine. Opens definition.now workers limits.now
-        machine.value) }
+        (λ d. machine.value ≡ opened_host d workers limits.now)) }
     ensures refused { IfErr result (RefusesOpening definition.now workers limits.now) }
 {
     let host = Host::open(alloc, definition, workers, limits)?;

@@ -14,7 +14,7 @@ ghost use Rattle.mhlink_c.specs.declared.fault.Fault.{Fault as FaultOf};
 ghost use Rattle.mhlink_c.specs.declared.fault.Fault.TheVariants.{Short, Unknown};
 
 use crate::buffers::copy;
-use crate::fault::{Fault, status};
+use crate::fault::{Fault, status, write_answer};
 use crate::handle::MhlinkMachine;
 use crate::held::look_up;
 use crate::request::Question;
@@ -85,10 +85,25 @@ pub extern "C" fn mhlink_link(
     look_up(alloc, machine, Question::Link { site, key, text }, number)
 }
 
+fn hits_held(machine: MhlinkMachine, asked: (u32, usize)) -> (MhlinkMachine, Result<u64, Fault>)
+    requires full { machine.full ≡ true }
+    ensures full { result.0.full ≡ true }
+    ensures same { result.0.value ≡ machine.value }
+    ensures value { IfOk result.1 (λ n. n
+        ≡ at (ledger_at machine.value.runtime.ledgers asked.0).unflushed asked.1) }
+    ensures unknown { IfErr result.1 (λ e. (e ≡ Unknown)
+        × (asked.0 < length machine.value.runtime.ledgers
+        → asked.1 < length (ledger_at machine.value.runtime.ledgers asked.0).unflushed → ⊥)) }
+{
+    let host = machine.into_box();
+    let (worker, link) = asked;
+    let hits = host.hits(worker, link);
+    (MhlinkMachine::of(host), hits)
+}
+
 /// The hits of a link by a worker's calls since its last flush.
 #[unsafe(no_mangle)]
 pub extern "C" fn mhlink_hits(
-    alloc: Global,
     machine: &mut MhlinkMachine,
     worker: u32,
     link: usize,
@@ -104,7 +119,7 @@ pub extern "C" fn mhlink_hits(
         × (worker < length machine.old.value.runtime.ledgers
         → link < length (ledger_at machine.old.value.runtime.ledgers worker).unflushed → ⊥) }
 {
-    look_up(alloc, machine, Question::Hits { worker, link }, hits)
+    write_answer(replace_with(machine, (worker, link), hits_held), hits)
 }
 
 /// The hits of a link by all workers, as far as they have flushed.

@@ -8,14 +8,11 @@ ghost use Rattle.mhlink_c.specs.Statuses.{status_of};
 ghost use Rattle.mhlink_c.specs.declared.fault.Fault.{Fault as FaultOf};
 ghost use Rattle.mhlink_c.specs.declared.fault.Fault.TheVariants.{Unknown};
 
-use crate::fault::Fault;
+use crate::fault::{Fault, status};
 use crate::handle::MhlinkMachine;
-use crate::held::make_change;
 use crate::host::Host;
-use crate::request::Change;
 use core::mem::replace_with;
-use mh_core::{OldHits, Renewal};
-use std::alloc::Global;
+use mh_core::{Book, OldHits, Renewal};
 
 /// How much of a history is used up: its records, of which there are at most as many as the limit
 /// of the history allows, its snapshots and its plans, at most 1,024 of each.
@@ -30,29 +27,27 @@ pub struct MhlinkUsed {
     pub plans: u64,
 }
 
-impl Host {
-    /// How much of the history is used up.
-    pub(crate) fn used(&self) -> MhlinkUsed
-        ensures used { IsUsed self.now.runtime.book result }
-    {
-        let used = self.runtime.used();
-        MhlinkUsed {
-            records: used.records as u64,
-            snapshots: used.snapshots as u64,
-            plans: used.plans as u64,
-        }
+/// How much of the history of a book is used up.
+pub(crate) fn used_of(book: &Book) -> MhlinkUsed
+    ensures used { IsUsed book.now result }
+{
+    MhlinkUsed {
+        records: book.records().len() as u64,
+        snapshots: book.snapshot_count() as u64,
+        plans: book.plan_count() as u64,
     }
+}
 
+impl Host {
     /// Begins a new history, in which these points are valid again, with what the number says of the
     /// flushed hits.
-    pub(crate) fn renew(&mut self, again: &[u32], hits: u32) -> Result<u64, Fault>
+    fn renew(&mut self, again: &[u32], hits: u32) -> Result<(), Fault>
         ensures renewed { OnOk result (IsRenewed self.old again.now hits self.new) }
         ensures refused { IfErr result (RefusesRenewal self.old again.now hits) }
         ensures kept { OnErr result (self.new ≡ self.old) }
     {
         let hits = old_hits(hits)?;
-        self.begin_anew(again, hits)?;
-        Ok(0)
+        self.begin_anew(again, hits)
     }
 
     // Begins a new history, in which these points are valid again, with what is left of the flushed
@@ -92,7 +87,7 @@ fn used_held(machine: MhlinkMachine, _: ()) -> (MhlinkMachine, MhlinkUsed)
     ensures used { IsUsed machine.value.runtime.book result.1 }
 {
     let host = machine.into_box();
-    let used = host.used();
+    let used = used_of(host.runtime.book());
     (MhlinkMachine::of(host), used)
 }
 
@@ -111,6 +106,21 @@ pub extern "C" fn mhlink_used(machine: &mut MhlinkMachine, used: &mut MhlinkUsed
     0
 }
 
+fn renew_held(machine: MhlinkMachine, renewal: (&[u32], u32)) -> (MhlinkMachine, Result<(), Fault>)
+    requires full { machine.full ≡ true }
+    ensures full { result.0.full ≡ true }
+    ensures renewed { OnOk result.1 (IsRenewed machine.value renewal.entry.0.now renewal.entry.1
+        result.0.value) }
+    ensures refused { IfErr result.1 (RefusesRenewal machine.value renewal.entry.0.now
+        renewal.entry.1) }
+    ensures kept { OnErr result.1 (result.0.value ≡ machine.value) }
+{
+    let mut host = machine.into_box();
+    let (again, hits) = renewal;
+    let answer = host.renew(again, hits);
+    (MhlinkMachine::of(host), answer)
+}
+
 /// Begins a new history, of which nothing is used up but its first records, one more than there are
 /// workers. Each site's calls mean what they meant, and the handle, names, and the numbers of sites,
 /// points and links stay. The same points are valid, and those in `again`: where one of them was
@@ -123,12 +133,7 @@ pub extern "C" fn mhlink_used(machine: &mut MhlinkMachine, used: &mut MhlinkUsed
 /// above the number of workers, where a point in `again` is not there, and then where memory runs
 /// out.
 #[unsafe(no_mangle)]
-pub extern "C" fn mhlink_renew(
-    alloc: Global,
-    machine: &mut MhlinkMachine,
-    again: &[u32],
-    hits: u32,
-) -> u32
+pub extern "C" fn mhlink_renew(machine: &mut MhlinkMachine, again: &[u32], hits: u32) -> u32
     requires full { machine.old.full ≡ true }
     ensures full { machine.new.full ≡ true }
     ensures renewed { result ≡ 0 → IsRenewed machine.old.value again.now hits machine.new.value }
@@ -136,7 +141,5 @@ pub extern "C" fn mhlink_renew(
         × RefusesRenewal machine.old.value again.now hits e) }
     ensures kept { result ≢ 0 → machine.new.value ≡ machine.old.value }
 {
-    let mut nothing = 0;
-    let change = Change::Renew { again, hits };
-    make_change(alloc, machine, change, &mut nothing)
+    status(replace_with(machine, (again, hits), renew_held))
 }

@@ -1,4 +1,4 @@
-//! What C asks of a machine beside calls. An answer is a number.
+//! What C asks of a machine or a desk beside calls. An answer is a number.
 
 use crate::value::MhlinkValue;
 
@@ -15,22 +15,15 @@ pub(crate) enum Question<'a> {
         key: MhlinkValue,
         text: &'a [u8],
     },
-    /// The unflushed hits of a link by a worker's calls.
-    Hits {
-        worker: u32,
-        link: usize,
-    },
     /// The flushed hits of a link.
     Total(usize),
     /// The number of links that a site holds.
     Linked(usize),
 }
 
-/// What changes a machine.
+/// What is recorded.
 #[derive(Drop)]
 pub(crate) enum Change<'a> {
-    /// A worker's hits go to the totals; answered with 0.
-    Flush(u32),
     /// A site gets this tree, in JSON; answered with 0.
     Target { site: usize, tree: &'a [u8] },
     /// These points become invalid; answered with 0.
@@ -43,7 +36,4 @@ pub(crate) enum Change<'a> {
     Offer { snapshot: usize, plan: &'a [u8] },
     /// A plan is installed; answered with the number of sites that it links.
     Install(usize),
-    /// A new history begins, in which these points are valid again, with what the number says of the
-    /// flushed hits; answered with 0.
-    Renew { again: &'a [u32], hits: u32 },
 }

@@ -8,11 +8,12 @@ ghost use Rattle.mhlink_c.specs.Resumptions.{RefusesResuming, Resumes, of_resump
 ghost use Rattle.mhlink_c.specs.Statuses.{no_memory, part_of, status_of};
 ghost use Rattle.mhlink_c.specs.declared.fault.Fault.{Fault as FaultOf};
 
+use crate::books::listed;
 use crate::fault::Fault;
 use crate::handle::MhlinkMachine;
 use crate::host::{Host, limits_for, room_for_arguments};
 use crate::texts::{MhlinkLimits, read_definition};
-use mh_core::{Definition, Limits, Listing, Refusal, ResumptionFault, Runtime};
+use mh_core::{Definition, Limits, Refusal, ResumptionFault, Runtime};
 use mh_text::readers::Declarations;
 use std::alloc::Global;
 
@@ -57,7 +58,7 @@ impl Host {
         ensures refused { IfErr result (RefusesResuming definition.now workers limits.now
             earlier.entry.invalid.now earlier.entry.totals.now) }
     {
-        let limits = limits_for(workers, limits)?;
+        let limits = limits_for(workers as usize, limits)?;
         let arguments = room_for_arguments(alloc)?;
         let Declarations { definition, scope } = read_definition(alloc, definition)?;
         let runtime = resumed(alloc, &definition, workers, limits, earlier)?;
@@ -79,7 +80,7 @@ fn resumed(
         × ((e ≡ of_resumption told) × Refuses (resumption_tests definition.now workers limits
         earlier.entry.invalid.now earlier.entry.totals.now) told))) }
 {
-    let invalid = Listing::from_vec(Vec::from_slice(alloc, earlier.invalid)?);
+    let invalid = listed(alloc, earlier.invalid)?;
     let runtime = Runtime::resume(alloc, definition, workers, limits, invalid, earlier.totals)?;
     Ok(runtime)
 }

@@ -1,13 +1,14 @@
 //! Values as they cross to C.
 
-ghost use Rattle.std.specs.Prelude.{◌≡◌, ◌≢◌, ◌⊎◌, ◌≤◌, length, pos, take, vec_capacity, IfErr, IfOk, OnOk};
-ghost use Rattle.mhlink_c.specs.Crossing.{AreNoValues, AreValues, HaveNoText, IsNoText, IsOfItsKind, IsValue, bytes_of, reply_kind, reply_number, reply_steps, value_kind};
+ghost use Rattle.std.specs.Prelude.{◌≡◌, ◌≢◌, ◌⊎◌, ◌≤◌, Some, length, pos, take, vec_capacity, IfErr, IfOk, OnOk};
+ghost use Rattle.mhlink_c.specs.Crossing.{AreNoValues, AreValues, HaveNoText, IsNoText, IsOfItsKind, IsValue, bytes_of, reply_kind, reply_number, reply_steps, text_of_outcome, value_kind};
 ghost use Rattle.mh_core.specs.Value.{Value as AnyValue};
 ghost use Rattle.mhlink_c.specs.Statuses.{no_memory};
+ghost use Rattle.mhlink_c.specs.Texts.{HasNoText};
 ghost use Rattle.mhlink_c.specs.declared.fault.Fault.TheVariants.{BadValue};
 
 use crate::fault::Fault;
-use mh_core::{LONGEST_TEXT, Outcome, Refusal, Text, Throw, TypeFault, Value};
+use mh_core::{LONGEST_TEXT, NoMemory, Outcome, Refusal, Text, Throw, TypeFault, Value};
 use std::alloc::Global;
 
 /// A value. Its kind is 1 for an int, 2 for a long, 3 for a boolean, whose number is 0 or 1, and 4
@@ -137,5 +138,26 @@ pub(crate) fn reply_of(outcome: &Outcome, steps: u128) -> MhlinkReply
         kind,
         number,
         steps,
+    }
+}
+
+/// The text of an outcome, if it is one.
+pub(crate) fn text_of(outcome: Outcome) -> Option<Text>
+    ensures value { result ≡ text_of_outcome outcome }
+{
+    match outcome {
+        Outcome::Value(Value::Text(text)) => Some(text),
+        _ => None,
+    }
+}
+
+/// Another owner of the text that the last call gave.
+pub(crate) fn share_text(given: &Option<Text>) -> Result<Text, Fault>
+    ensures value { IfOk result (λ text. given.now ≡ Some text) }
+    ensures refused { IfErr result (HasNoText given.now) }
+{
+    match given {
+        Some(text) => text.share().map_err(|_| Fault::from(NoMemory)),
+        None => Err(Fault::Unknown),
     }
 }

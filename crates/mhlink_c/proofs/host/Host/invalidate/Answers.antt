@@ -1,4 +1,4 @@
-use Rattle.std.proofs.Common.{◌∙◌, ℕ, List, inr, subst}
+use Rattle.std.proofs.Common.{ℕ, List, inr, subst}
 use Rattle.std.proofs.lemmas.Result.{err_from_is_err_and}
 use Rattle.mh_core.specs.Books.{MayRefuse}
 use Rattle.mh_core.specs.declared.record.Record.TheVariants.{Invalidated}
@@ -11,5 +11,5 @@ returns-in_err-invalidate-clause-refused c =
     let told = c.in_err-invalidate.field-0.0 in
     let Tells : HostState → Type 0 = λ h. MayRefuse h.runtime.book 0 (Invalidated c.args.points.now) told in
     let Names : List ℕ → Type 0 = λ points. MayRefuse c.self.inside.runtime.book 0 (Invalidated points) told in
-    let named = subst Names (c.from_vec-points.ensures.value ∙ c.in_ok-from_slice.ensures.items) c.in_err-invalidate.ensures.refused.refuses in
+    let named = subst Names c.in_ok-points.ensures.value c.in_err-invalidate.ensures.refused.refuses in
     rw p.1 (inr (told, (p.2, subst Tells c.self.view_is named)))

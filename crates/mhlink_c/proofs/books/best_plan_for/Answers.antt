@@ -1,11 +1,8 @@
-use Rattle.std.proofs.Common.{◌∙◌, ap, subst}
+use Rattle.std.proofs.Common.{subst}
 use Rattle.mh_network.specs.Problems.{ProblemData}
-use Rattle.mh_core.specs.Books.{BookState}
 use Rattle.mh_core.specs.Plans.{Matches}
 use Rattle.mh_core.specs.Selection.{IsLeast, member}
-use Rattle.mhlink_c.specs.Changes.{IsBest}
-use Rattle.mhlink_c.specs.Hosts.{HostState}
-use Rattle.mhlink_c.proofs.host.Host.best_plan.Goals as goal
+use Rattle.mhlink_c.proofs.books.best_plan_for.Goals as goal
 
 pub returns-clause-best : goal.returns-clause-best
 returns-clause-best c =
@@ -13,10 +10,8 @@ returns-clause-best c =
     let is = c.in_ok-problem.ensures.value in
     let MatchesIt : ProblemData → Type 0 = λ P. Matches P plan in
     let IsLeastOf : ProblemData → Type 0 = λ P. IsLeast P (member plan.links) in
-    let IsBestOf : BookState → Type 0 = λ b. IsBest b c.args.snapshot plan in
-    let best : IsBestOf c.book.result.now = record {
+    record {
       taken = c.in_ok-problem.ensures.taken;
       matching = subst MatchesIt is c.in_ok-plan_alone.ensures.matching;
       least = subst IsLeastOf is c.in_ok-plan_alone.ensures.least;
-    } in
-    subst IsBestOf (c.book.ensures.value ∙ ap (λ (h : HostState). h.runtime.book) c.self.view_is) best
+    }

@@ -1,0 +1,97 @@
+//! What a machine and a desk read of their books, and of what C passes for a record.
+
+ghost use Rattle.std.specs.Prelude.{◌≡◌, ◌⊎◌, ◌<◌, length, Ok, IfErr, IfOk, OnOk};
+ghost use Rattle.mh_core.specs.Installations.{kept};
+ghost use Rattle.mh_core.specs.Ledgers.{at};
+ghost use Rattle.mhlink_c.specs.Changes.{HasNoBest, IsBest};
+ghost use Rattle.mhlink_c.specs.Inputs.{IsFaultOf, tree_in};
+ghost use Rattle.mhlink_c.specs.Questions.{IsUnknown, Tells};
+ghost use Rattle.mhlink_c.specs.Statuses.{no_memory};
+ghost use Rattle.mhlink_c.specs.declared.fault.Fault.TheVariants.{Unknown};
+
+use crate::fault::Fault;
+use crate::finding::{link_number, point_number, site_number};
+use crate::request::Question;
+use crate::texts::read_target;
+use crate::value::value;
+use mh_core::{Book, Declared, Listing, Plan};
+use mh_plan::plan_alone;
+use mh_text::readers::Scope;
+use std::alloc::Global;
+
+/// The answer to a question.
+pub(crate) fn answer(alloc: Global, book: &Book, question: Question<'_>) -> Result<u64, Fault>
+    ensures tells { IfOk result (λ n. Tells book.now question.entry n) }
+    ensures unknown { IfErr result (IsUnknown book.now question.entry) }
+{
+    match question {
+        Question::Site(name) => site_number(book.definition(), name),
+        Question::Point(name) => point_number(book.definition(), name),
+        Question::Link { site, key, text } => {
+            link_number(book.definition(), site, &value(alloc, &key, text)?)
+        }
+        Question::Total(link) => total(book, link),
+        Question::Linked(site) => linked(book, site),
+    }
+}
+
+fn total(book: &Book, link: usize) -> Result<u64, Fault>
+    ensures value { IfOk result (λ n. n ≡ at book.now.totals.total link) }
+    ensures unknown { IfErr result (λ e. (e ≡ Unknown)
+        × (link < length book.now.totals.total → ⊥)) }
+{
+    let totals = book.totals();
+    if link >= totals.links() {
+        return Err(Fault::Unknown);
+    }
+    Ok(totals.total(link))
+}
+
+fn linked(book: &Book, site: usize) -> Result<u64, Fault>
+    ensures value { IfOk result (λ n. n ≡ length (kept book.now.definition book.now.records site)) }
+    ensures unknown { IfErr result (λ e. (e ≡ Unknown)
+        × (site < length book.now.definition.sites → ⊥)) }
+{
+    if site >= book.definition().sites().len() {
+        return Err(Fault::Unknown);
+    }
+    Ok(book.installed(site).len() as u64)
+}
+
+/// The tree that a text of JSON gives a site, over what is declared.
+pub(crate) fn read_tree(
+    alloc: Global,
+    book: &Book,
+    scope: &Scope,
+    site: usize,
+    tree: &[u8],
+) -> Result<Declared, Fault>
+    ensures value { IfOk result (λ t. tree_in scope.now tree.now ≡ Ok t) }
+    ensures inside { OnOk result (site < length book.now.definition.sites) }
+    ensures refused { IfErr result (λ e.
+        ((site < length book.now.definition.sites → ⊥) × (e ≡ Unknown))
+        ⊎ ((site < length book.now.definition.sites)
+        × IsFaultOf (tree_in scope.now tree.now) e)) }
+{
+    if site >= book.definition().sites().len() {
+        return Err(Fault::Unknown);
+    }
+    read_target(alloc, scope, tree)
+}
+
+/// Points as a record lists them.
+pub(crate) fn listed(alloc: Global, points: &[u32]) -> Result<Listing<u32>, Fault>
+    ensures value { IfOk result (λ listed. listed ≡ points.now) }
+    ensures refused { IfErr result (λ e. e ≡ no_memory) }
+{
+    Ok(Listing::from_vec(Vec::from_slice(alloc, points)?))
+}
+
+/// The best plan for a snapshot, of such the least.
+pub(crate) fn best_plan_for(alloc: Global, book: &Book, snapshot: usize) -> Result<Plan, Fault>
+    ensures best { IfOk result (IsBest book.now snapshot) }
+    ensures refused { IfErr result (HasNoBest book.now snapshot) }
+{
+    let problem = book.problem(snapshot)?;
+    Ok(plan_alone(alloc, &problem)?)
+}

@@ -1,0 +1,112 @@
+//! What a handle of a caller leads to: the caller, and the text that its last call gave.
+
+ghost use Rattle.std.specs.Prelude.{◌≡◌, ◌≤◌, ◌<◌, Some, None, length, vec_capacity, IfErr, IfOk, OnErr, OnOk};
+ghost use Rattle.mh_ledger.specs.Ledgers.{at};
+ghost use Rattle.mh_share.specs.Callers.{call_tests};
+ghost use Rattle.mh_type.specs.Limits.{most_parameters};
+ghost use Rattle.mhlink_c.specs.Callers.{CallerAnswers, RefusesToLook, looks, opened_held_caller};
+ghost use Rattle.mhlink_c.specs.Calls.{AsksForNone, RefusesCall, WithValues};
+ghost use Rattle.mhlink_c.specs.Statuses.{no_memory};
+ghost use Rattle.mhlink_c.specs.Texts.{HasNoText};
+ghost use Rattle.mhlink_c.specs.declared.fault.Fault.TheVariants.{Unknown};
+
+use crate::asking::hits_in;
+use crate::desk::HeldDesk;
+use crate::fault::Fault;
+use crate::host::room_for_arguments;
+use crate::value::{MhlinkReply, MhlinkValue, read_values, reply_of, share_text, text_of};
+use mh_core::{Text, Value};
+use mh_share::Caller;
+use std::alloc::Global;
+use std::marker::Model;
+
+/// A caller for C. A contract sees the caller and the text.
+#[derive(Drop)]
+pub(crate) struct HeldCaller {
+    pub(crate) caller: Caller,
+    given: Option<Text>,
+    // The arguments of the last call, with room for those of any call.
+    arguments: Vec<Value>,
+}
+
+impl Model for HeldCaller {
+    ghost use Rattle.mhlink_c.specs.Callers.{HeldCallerState, coded_held_caller};
+
+    ghost Value = { HeldCallerState };
+
+    ghost coded = { coded_held_caller };
+
+    ghost use Rattle.std.specs.Prelude.{◌≤◌, vec_capacity};
+    ghost use Rattle.mh_type.specs.Limits.{most_parameters};
+
+    ghost view = { λ h. record { caller = h.caller; given = h.given } };
+
+    ghost invariant = { λ h. most_parameters ≤ vec_capacity h.arguments };
+}
+
+impl HeldCaller {
+    /// A caller that has made no call.
+    pub(crate) fn over(alloc: Global, caller: Caller) -> Result<HeldCaller, Fault>
+        ensures value { IfOk result (λ held. held ≡ opened_held_caller caller) }
+        ensures refused { IfErr result (λ e. e ≡ no_memory) }
+    {
+        let arguments = room_for_arguments(alloc)?;
+        Ok(HeldCaller {
+            caller,
+            given: None,
+            arguments,
+        })
+    }
+
+    /// What a call of a site gives. A text is kept until the next call.
+    pub(crate) fn call(
+        &mut self,
+        alloc: Global,
+        site: usize,
+        given: &[MhlinkValue],
+        texts: &[u8],
+    ) -> Result<MhlinkReply, Fault>
+        ensures answer { IfOk result (λ reply. WithValues given.now texts.now
+            (CallerAnswers self.old site reply self.new)) }
+        ensures refused { IfErr result (RefusesCall (call_tests self.old.caller site) given.now
+            texts.now) }
+        ensures shown { self.new.caller.shown ≡ self.old.caller.shown }
+        ensures kept { OnErr result (self.new ≡ self.old) }
+        ensures memory { AsksForNone self.old.caller.shown site given.now texts.now
+            → IfErr result (λ e. e ≡ no_memory → ⊥) }
+    {
+        read_values(&mut self.arguments, alloc, given, texts)?;
+        let arguments = self.arguments.as_slice();
+        let (outcome, steps) = self.caller.call(site, arguments)?;
+        let reply = reply_of(&outcome, steps);
+        self.given = text_of(outcome);
+        Ok(reply)
+    }
+
+    /// Another owner of the text that the last call gave.
+    pub(crate) fn text(&self) -> Result<Text, Fault>
+        ensures value { IfOk result (λ text. self.now.given ≡ Some text) }
+        ensures refused { IfErr result (HasNoText self.now.given) }
+    {
+        share_text(&self.given)
+    }
+
+    /// The unflushed hits of a link.
+    pub(crate) fn hits(&self, link: usize) -> Result<u64, Fault>
+        ensures value { IfOk result (λ n. n ≡ at self.now.caller.ledger.unflushed link) }
+        ensures unknown { IfErr result (λ e. (e ≡ Unknown)
+            × (link < length self.now.caller.ledger.unflushed → ⊥)) }
+    {
+        hits_in(self.caller.ledger(), link)
+    }
+
+    /// Looks at what a desk shows.
+    pub(crate) fn look(&mut self, desk: &HeldDesk) -> Result<(), Fault>
+        ensures looks { OnOk result (self.new ≡ looks desk.now self.old) }
+        ensures refused { IfErr result (RefusesToLook desk.now self.old.caller.ledger) }
+        ensures kept { OnErr result (self.new ≡ self.old) }
+    {
+        self.caller.look(&desk.desk)?;
+        Ok(())
+    }
+}

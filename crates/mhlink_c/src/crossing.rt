@@ -1,0 +1,23 @@
+//! Laws of what crosses threads.
+
+ghost use denote.Param.Send.{IsSend};
+ghost use Rattle.mhlink_c.specs.contracts.handle.MhlinkMachine as machines;
+ghost use Rattle.mhlink_c.specs.contracts.caller_handle.MhlinkCaller as callers;
+ghost use Rattle.mhlink_c.specs.contracts.desk_handle.MhlinkDesk as desks;
+
+use mh_core::runtimes_cross_threads;
+use mh_share::desks_cross_threads;
+use mh_tree::trees_cross_threads;
+use mh_type::values_cross_threads;
+
+/// The handles of a machine, a desk and a caller may each go to another thread, with what they own.
+pub fn handles_cross_threads()
+    ensures machine { IsSend machines.the_row }
+    ensures desk { IsSend desks.the_row }
+    ensures caller { IsSend callers.the_row }
+{
+    values_cross_threads();
+    trees_cross_threads();
+    runtimes_cross_threads();
+    desks_cross_threads();
+}
