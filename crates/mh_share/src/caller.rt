@@ -3,6 +3,7 @@
 ghost use Rattle.std.specs.Prelude.{◌≡◌, length, IfErr, IfOk, OnErr, OnOk};
 ghost use Rattle.std.specs.Arc.{arc_value};
 ghost use Rattle.mh_base.specs.Tests.{Passes, Refuses};
+ghost use Rattle.mh_ledger.specs.Ledgers.{Holds};
 ghost use Rattle.mh_site.specs.Links.{links};
 ghost use Rattle.mh_core.specs.Books.{IsBook};
 ghost use Rattle.mh_core.specs.Callers.{Counts};
@@ -140,6 +141,7 @@ impl Caller {
     /// Refused with `NoWorker` where the ledger is not one that the desk holds, and then with
     /// `NoMemory` where a reference count is refused; nothing changes.
     pub fn look(&mut self, desk: &Desk) -> Result<(), Refusal>
+        ensures held { OnOk result (Holds desk.now.book.totals self.old.ledger) }
         ensures looks { OnOk result (self.new ≡ record {
           shown = desk.now.shown;
           ledger = self.old.ledger;

@@ -3,7 +3,7 @@
 ghost use Rattle.std.specs.Prelude.{◌≡◌, ◌+◌, List, length, map, slice_set, IfErr, IfOk, OnErr, OnOk};
 ghost use Rattle.std.specs.Arc.{arc_value};
 ghost use Rattle.std.specs.List.{All};
-ghost use Rattle.mh_ledger.specs.Ledgers.{AreHeld, LedgerState, settled};
+ghost use Rattle.mh_ledger.specs.Ledgers.{AreHeld, Holds, LedgerState, settled};
 ghost use Rattle.mh_site.specs.Links.{links};
 ghost use Rattle.mh_core.specs.Books.{IsBook, Rejects, Takes};
 ghost use Rattle.mh_core.specs.Installations.{report};
@@ -121,6 +121,7 @@ impl Desk {
     /// with `TotalTooLarge` where some total would pass its limit, and then with `NoMemory`; nothing
     /// changes.
     pub fn flush(&mut self, caller: &mut Caller) -> Result<(), Refusal>
+        ensures held { OnOk result (Holds self.old.book.totals caller.old.ledger) }
         ensures taken { OnOk result (Takes self.old.book 0 (flush_of caller.old.ledger)
             self.new.book) }
         ensures ledger { OnOk result (caller.new.ledger ≡ settled caller.old.ledger) }
@@ -201,6 +202,7 @@ impl Desk {
     // What a caller may look at: another owner of the shown world, where its ledger is held here.
     pub(crate) fn shown_to(&self, ledger: &Ledger) -> Result<Arc<Shown>, Refusal>
         ensures value { IfOk result (λ s. arc_value s ≡ self.now.shown) }
+        ensures held { OnOk result (Holds self.now.book.totals ledger.now) }
         ensures links { OnOk result (length ledger.now.unflushed
             ≡ length (links self.now.shown.definition)) }
         ensures refused { IfErr result (RefusesLook self.now.book ledger.now) }
