@@ -37,6 +37,8 @@ static worker workers[CALLERS];
 static uint32_t rounds = 200;
 static uint64_t changes, plans, shows;
 
+static const char no_links[] = "{\"links\": [], \"points\": [], \"value\": 0, \"flow\": []}";
+
 static const uint8_t *bytes(const char *it) { return (const uint8_t *)it; }
 
 /* The tree of a site: the method of each class by a test of its number, behind the point on which they rest; -1 asks the host. */
@@ -234,10 +236,9 @@ static uint32_t run(void) {
     return status;
 }
 
-/* The totals are what all callers counted, and the numbers by name are those of the definition. A plan that is offered twice is
-   published twice, and a caller of another desk is not one of this. */
+/* The totals are what all callers counted, and the numbers by name are those of the definition. A plan whose text is cut short is
+   refused. */
 static uint32_t compare_totals(uint64_t *differ) {
-    static const char none[] = "{\"links\": [], \"points\": [], \"value\": 0, \"flow\": []}";
     const mhlink_value key = {MHLINK_INT, LINKED};
     mhlink_usage used = {0, 0, 0};
     uint64_t number = 0, links = 0;
@@ -258,19 +259,21 @@ static uint32_t compare_totals(uint64_t *differ) {
     if (links > LINKED) ++*differ;
     if (!status) status = mhlink_desk_used(&desk, &used);
     if (used.plans != plans || used.snapshots != plans) ++*differ;
-    if (!status && mhlink_desk_offer(&desk, 1, bytes(none), strlen(none) - 1, &number) != MHLINK_NOT_JSON) ++*differ;
+    if (!status && mhlink_desk_offer(&desk, 1, bytes(no_links), strlen(no_links) - 1, &number) != MHLINK_NOT_JSON) ++*differ;
     return status;
 }
 
-/* A caller of another desk is refused by this one, and goes on. */
+/* A caller of another desk is refused by this one, and goes on. That desk has no links, so that the plan without any is the best. */
 static uint32_t try_stranger(uint64_t *differ) {
     static const char text[] = "{\"version\":2,\"points\":[],\"sites\":[]}";
     const mhlink_limits widest = MHLINK_WIDEST_LIMITS;
     mhlink_caller stranger[2];
     mhlink_desk other;
-    uint64_t part;
+    uint64_t part, snapshot = 0, plan = 0;
     uint32_t status = mhlink_desk_open(bytes(text), sizeof text - 1, &widest, stranger, 2, &other, &part);
     if (status) return status;
+    if (mhlink_desk_snapshot(&other, &snapshot) || snapshot != 1) ++*differ;
+    if (mhlink_desk_offer(&other, snapshot, bytes(no_links), strlen(no_links), &plan) || plan != 1) ++*differ;
     if (mhlink_caller_look(&stranger[1], &desk) != MHLINK_NO_WORKER) ++*differ;
     if (mhlink_desk_flush(&desk, &stranger[1]) != MHLINK_NO_WORKER) ++*differ;
     mhlink_desk_close(other);
