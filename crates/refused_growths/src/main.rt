@@ -13,7 +13,6 @@ mod offices;
 mod openings;
 mod passes;
 mod plans;
-mod reopening;
 mod runtimes;
 mod settling;
 mod subject;
