@@ -7,7 +7,7 @@ ghost use Rattle.mh_text.specs.Output.{outside, IsUnread};
 ghost use Rattle.mh_text.specs.declared.fault.TextFault.TheVariants.{ReadFailed};
 ghost use Rattle.mh_command.specs.Answers.{fault_at, Works, WorksOn, FailsIn, FailsOn, IsFaultOf, IsHelp};
 ghost use Rattle.mh_command.specs.CommandLine.{HasWorkers};
-ghost use Rattle.mh_command.specs.Readings.{fault_told, form_of, refused_at, unread_in, ExplainsFault, IsExplained, IsRefusal};
+ghost use Rattle.mh_command.specs.Readings.{fault_told, form_of, refused_at, unread_fault as fault_unread, unread_in, ExplainsFault, IsExplained};
 
 use crate::line_reasons::line_reasons;
 use crate::request::{Asked, Request};
@@ -142,20 +142,23 @@ fn unread(alloc: Global, request: Request, input: &[u8]) -> Result<UnreadKeys, N
     }
 }
 
-/// Refuses an input for its first key that nothing reads, where that is asked.
-fn refuse_unread(alloc: Global, asked: Asked, input: &[u8]) -> Result<(), Fault>
-    ensures ok { OnOk result (refused_at asked input.now ≡ None) }
-    ensures fails { IfErr result (λ e. (e ≡ outside no_memory) ⊎ IsRefusal asked input.now e) }
+/// Where the first key stands that nothing reads, if the input is refused for it.
+fn refused(alloc: Global, asked: Asked, input: &[u8]) -> Result<Option<u64>, NoMemory>
+    ensures value { IfOk result (λ at. at ≡ refused_at asked input.now) }
 {
     if !asked.reading.strict {
-        return Ok(());
+        return Ok(None);
     }
-    match unread(alloc, asked.request, input)?.first {
-        None => Ok(()),
-        Some(at) => Err(Fault {
-            kind: TextFault::Input(InputFault::BadShape),
-            at,
-        }),
+    Ok(unread(alloc, asked.request, input)?.first)
+}
+
+/// The fault of a key that nothing reads, in the event of this number, or outside the events at 0.
+fn unread_fault(at: u64) -> Fault
+    ensures value { result ≡ fault_unread at }
+{
+    Fault {
+        kind: TextFault::Input(InputFault::BadShape),
+        at,
     }
 }
 
@@ -271,16 +274,19 @@ fn work_on<T: Threads + Wait + Sync, W: Write>(
     ensures honest { IsHonest result.end 0 0 out.old.failures out.new.failures }
     ensures help { IsHelp asked (Some input.now) result.end (string_bytes result.help) }
 {
-    if let Err(fault) = refuse_unread(alloc, asked, input) {
-        return Outcome {
-            end: Err(fault),
-            help: help_for(alloc, asked, input, None),
-        };
-    }
-    let end = work_over(rt, alloc, asked.request, input, out);
-    Outcome {
-        end,
-        help: help_for(alloc, asked, input, fault_of(end)),
+    match refused(alloc, asked, input) {
+        Ok(None) => {
+            let end = work_over(rt, alloc, asked.request, input, out);
+            Outcome {
+                end,
+                help: help_for(alloc, asked, input, fault_of(end)),
+            }
+        }
+        Ok(Some(at)) => Outcome {
+            end: Err(unread_fault(at)),
+            help: help_for(alloc, asked, input, Some(InputFault::BadShape)),
+        },
+        Err(NoMemory) => Outcome::alone(alloc, Err(Fault::from(InputFault::NoMemory))),
     }
 }
 

@@ -82,3 +82,45 @@ pub(crate) fn words_of<'a>(alloc: Global, text: &'a str) -> Result<Vec<&'a str>,
     }
     Ok(words)
 }
+
+/// Bytes as text, with `?` for each that is no printable ASCII, and `nothing` for none.
+pub(crate) fn printable(alloc: Global, bytes: &[u8]) -> Result<String, NoMemory> {
+    if bytes.is_empty() {
+        return Ok(String::from_str(alloc, "nothing")?);
+    }
+    let mut text = String::new(alloc);
+    for byte in bytes {
+        if byte.is_ascii_graphic() || *byte == b' ' {
+            text.push(char::from(*byte))?;
+        } else {
+            text.push('?')?;
+        }
+    }
+    Ok(text)
+}
+
+/// That a word is no kind, and what is one.
+pub(crate) fn why_no_kind(alloc: Global, word: &str) -> Result<String, NoMemory> {
+    let shown = quoted(alloc, word)?;
+    let known = ["int", "long", "boolean", "String"];
+    Ok(match nearest(alloc, word, &known)? {
+        Some(near) => format!(in alloc; "{shown} is not a kind; is \"{near}\" meant?")?,
+        None => format!(in alloc; "{shown} is not a kind; int, long, boolean and String are")?,
+    })
+}
+
+/// That there are more of a thing than a version allows, and how many version 2 does.
+pub(crate) fn why_too_many(
+    alloc: Global,
+    what: &str,
+    found: usize,
+    most: usize,
+    later: usize,
+) -> Result<String, NoMemory> {
+    if most == later {
+        return Ok(format!(in alloc; "there are {found} {what}, and this version allows {most}")?);
+    }
+    Ok(format!(in alloc;
+        "there are {found} {what}, and this version allows {most}; version 2 allows {later}"
+    )?)
+}

@@ -1,6 +1,7 @@
 mod Amounts
 mod Claims
 mod KeyRuns
+mod LineFaults
 mod Lines
 mod NameTexts
 mod Needs

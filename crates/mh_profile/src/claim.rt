@@ -17,7 +17,7 @@ use crate::reader::{LineReader, placed};
 use mh_cert::Plan;
 use mh_network::Problem;
 use mh_text::readers::{parse_json, read_plan_value};
-use mh_text::{Fault, InputFault, Watched, read_up_to};
+use mh_text::{Fault, Misread, Watched, read_up_to};
 use serde_json::Value;
 use std::alloc::Global;
 use std::io::Read;
@@ -86,7 +86,7 @@ pub(crate) fn line_count(bytes: &[u8]) -> u64
 }
 
 /// The plan that a value has at the key `plan`, or, where it has none, is.
-fn read_claimed(alloc: Global, value: &Value) -> Result<Plan, InputFault>
+fn read_claimed(alloc: Global, value: &Value) -> Result<Plan, Misread>
     ensures value { Gives (λ x. x) result (claimed_plan (view value.now)) }
 {
     match value.get("plan") {
@@ -96,7 +96,7 @@ fn read_claimed(alloc: Global, value: &Value) -> Result<Plan, InputFault>
 }
 
 /// The plan of a line.
-fn read_plan_line(alloc: Global, line: &[u8]) -> Result<Plan, InputFault>
+fn read_plan_line(alloc: Global, line: &[u8]) -> Result<Plan, Misread>
     ensures value { Gives (λ x. x) result (plan_in_line line.now) }
 {
     let value = parse_json(alloc, line)?;
@@ -110,7 +110,7 @@ fn read_numbered_plan(alloc: Global, number: u64, line: &[u8]) -> Result<Plan, F
 {
     match read_plan_line(alloc, line) {
         Ok(plan) => Ok(plan),
-        Err(fault) => Err(placed(fault, number)),
+        Err(misread) => Err(placed(misread.fault(), number)),
     }
 }
 

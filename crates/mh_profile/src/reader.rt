@@ -81,7 +81,7 @@ fn read_numbered(
 {
     match read_line(alloc, profile, number, bytes) {
         Ok(profile) => Ok(profile),
-        Err(fault) => Err(placed(fault, number)),
+        Err(misread) => Err(placed(misread.fault(), number)),
     }
 }
 

@@ -4,7 +4,7 @@ ghost use Rattle.std.specs.Prelude.{◌≡◌, ◌≢◌, ◌≤◌, IfErr, OnEr
 ghost use Rattle.mhlink_c.specs.Statuses.{input_number as number_of_input, input_part as part_of_input, part_of, status_of};
 
 use mh_core::{NoMemory, ProblemFault, Refusal};
-use mh_text::{Fault as TextualFault, InputFault, TextFault};
+use mh_text::{Fault as TextualFault, InputFault, Misread, TextFault};
 use std::alloc::{AllocError, AllocFailed};
 
 /// Why an export did nothing.
@@ -163,6 +163,17 @@ impl From<InputFault> for Fault {
             InputFault::NoMemory => Fault::Refused(Refusal::NoMemory),
             _ => Fault::Input(fault),
         }
+    }
+}
+
+impl From<Misread> for Fault {
+    ghost use Rattle.std.specs.Prelude.{◌≡◌};
+    ghost use Rattle.mhlink_c.specs.Statuses.{of_input};
+
+    ghost from_gives = { λ misread e. e ≡ of_input misread.fault };
+
+    fn from(misread: Misread) -> Fault {
+        Fault::from(misread.fault())
     }
 }
 

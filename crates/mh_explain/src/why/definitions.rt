@@ -1,14 +1,14 @@
 //! Definitions that are not lawful.
-use crate::key::Field;
-use crate::reading::{known, version_or_later};
-use crate::spot::{items_at, sites_before};
+use crate::scope::sites_before;
+use crate::values::{items_at, known, version_of};
 use crate::why::names::{is_lawful, why_unlawful};
-use crate::words::{meant, quoted};
+use crate::words::{meant, quoted, why_too_many};
 use mh_base::NoMemory;
 use mh_site::{
     DefinitionFault, GREATEST_CHARGE, GREATEST_COST, GREATEST_LEVEL, GREATEST_WEIGHT, Link,
-    MOST_LINKS, MOST_NEEDS, Point, Site,
+    MOST_LINKS, MOST_NEEDS, Point, Site, Version,
 };
+use mh_text::Field;
 use mh_text::readers::read_points;
 use mh_type::same_value;
 use serde_json::Value;
@@ -21,7 +21,10 @@ pub(crate) fn why_definition(
     cause: DefinitionFault,
     definition: &Value,
 ) -> Result<String, NoMemory> {
-    let Some(points) = known(read_points(alloc, definition))? else {
+    let Some(points) = definition.get(Field::Points.name()) else {
+        return Ok(String::new(alloc));
+    };
+    let Some(points) = known(read_points(alloc, points))? else {
         return Ok(String::new(alloc));
     };
     let points = points.as_slice();
@@ -35,8 +38,8 @@ pub(crate) fn why_definition(
 }
 
 fn why_many_points(alloc: Global, points: usize, definition: &Value) -> Result<String, NoMemory> {
-    let most = version_or_later(definition)?.most_points();
-    Ok(format!(in alloc; "there are {points} points, and this version allows {most}")?)
+    let most = version_of(Some(definition))?.most_points();
+    why_too_many(alloc, "points", points, most, Version::Two.most_points())
 }
 
 fn why_costly(alloc: Global, points: &[Point]) -> Result<String, NoMemory> {
@@ -132,8 +135,8 @@ fn why_unlawful_site(
 }
 
 fn why_many_sites(alloc: Global, sites: usize, definition: &Value) -> Result<String, NoMemory> {
-    let most = version_or_later(definition)?.most_sites();
-    Ok(format!(in alloc; "there are {sites} sites, and this version allows {most}")?)
+    let most = version_of(Some(definition))?.most_sites();
+    why_too_many(alloc, "sites", sites, most, Version::Two.most_sites())
 }
 
 /// Why the first of these sites that has a cause is not lawful: each beside its value.
@@ -197,7 +200,7 @@ fn why_bad_place(alloc: Global, site: &Site) -> Result<Option<String>, NoMemory>
         )?)),
         None if site.links.len() > 0 => Ok(Some(String::from_str(
             alloc,
-            "has links, and no key place",
+            "has links, and no \"key\", the place of the parameter that tells them apart",
         )?)),
         _ => Ok(None),
     }

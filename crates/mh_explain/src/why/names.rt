@@ -1,13 +1,13 @@
 //! Names that stand nowhere, or where they may not.
-use crate::key::Field;
-use crate::spot::items_at;
+use crate::values::items_at;
 use crate::words::{meant, quoted, wanted};
 use mh_base::NoMemory;
+use mh_text::{Field, Named};
 use serde_json::Value;
 use std::alloc::Global;
 
 /// The names of the shared trees of a script.
-fn shared_names(alloc: Global, script: &Value) -> Result<Vec<&str>, NoMemory> {
+pub(crate) fn shared_names(alloc: Global, script: &Value) -> Result<Vec<&str>, NoMemory> {
     let mut names = Vec::new(alloc);
     let Some(definition) = script.get(Field::Definition.name()) else {
         return Ok(names);
@@ -32,6 +32,45 @@ fn site_names(alloc: Global, script: &Value) -> Result<Vec<&str>, NoMemory> {
         }
     }
     Ok(names)
+}
+
+/// The names of the points of a script.
+fn point_names(alloc: Global, script: &Value) -> Result<Vec<&str>, NoMemory> {
+    let mut names = Vec::new(alloc);
+    let Some(definition) = script.get(Field::Definition.name()) else {
+        return Ok(names);
+    };
+    for point in items_at(definition, Field::Points) {
+        if let Some(name) = point.get(Field::Name.name()).and_then(Value::as_str) {
+            names.push(name)?;
+        }
+    }
+    Ok(names)
+}
+
+/// That a name is wanted, and the name of the thing that a number is.
+pub(crate) fn why_no_name(
+    alloc: Global,
+    named: Named,
+    script: &Value,
+    value: &Value,
+) -> Result<String, NoMemory> {
+    let (what, names) = match named {
+        Named::Point => ("the name of a point", point_names(alloc, script)?),
+        Named::Site => ("the name of a site", site_names(alloc, script)?),
+        Named::Shared => ("the name of a shared tree", shared_names(alloc, script)?),
+    };
+    let why = wanted(alloc, what, value)?;
+    let number = value
+        .as_u64()
+        .and_then(|number| usize::try_from(number).ok());
+    match number.and_then(|number| names.get(number)) {
+        Some(name) => {
+            let name = quoted(alloc, name)?;
+            Ok(format!(in alloc; "{why}; is {name} meant?")?)
+        }
+        None => Ok(why),
+    }
 }
 
 /// Whether a name is among some.
