@@ -4,6 +4,7 @@ ghost use Rattle.std.specs.Prelude.{◌≡◌};
 
 use crate::calling::{call, flush, given, sums};
 use crate::definitions::open_plain;
+use mh_base::Listing;
 use mh_live::{Live, Name, Opening, Pass, SettleFault, Settled, Unsettled};
 use std::alloc::Global;
 use std::marker::Brand;
@@ -135,5 +136,32 @@ fn a_missing_pass_is_told_and_all_is_back(rt: HostRuntime) -> Result<(), Fail> {
     assert_eq!(rt; (fault, fault.number()), (SettleFault::MissingPass, 2));
     assert_eq!(rt; (back, right), (1, true));
     assert_eq!(rt; counts, (Some((6, 5, 1)), 0, 3));
+    Ok(())
+}
+
+/// What the next office is made of, once each pass has worked and all is settled.
+fn works_and_renews<N: Name, R: Wait>(
+    rt: &R,
+    alloc: Global,
+    opening: Opening,
+) -> Result<(Opening, Listing<u32>), Fail>
+    requires name { opening.name ≡ N.book }
+    requires definition { opening.definition ≡ N.definition }
+    requires limits { opening.limits ≡ N.limits }
+    requires workers { opening.workers ≡ N.workers }
+{
+    let (live, mut passes) = opening.open::<N>()?;
+    let _right = work_each(rt, &live, &mut passes);
+    let settled = settle(rt, alloc, live, passes)?;
+    Ok(settled.renew(alloc, 2, &[])?)
+}
+
+#[test]
+fn another_office_goes_on_and_counts_anew(rt: HostRuntime) -> Result<(), Fail> {
+    let opening = open_plain(rt.alloc(), 3, 9, 9)?;
+    let (next, invalid) = works_and_renews::<Brand, _>(&rt, rt.alloc(), opening)?;
+    let told = settles_all_hits::<Brand, _>(&rt, rt.alloc(), next)?;
+    assert_eq!(rt; invalid.len(), 0);
+    assert_eq!(rt; told, (true, (Some((6, 4, 2)), 0, 2)));
     Ok(())
 }
