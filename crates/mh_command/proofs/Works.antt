@@ -125,6 +125,13 @@ module _ (e told : Fault) (read : e.kind ≡ ReadFailed → told ≡ outside no_
     | inr not ↦ subst (λ (f : Fault). IsEndOf C B f.kind) (sym (other not)) (end_by A C B e.kind not end)
   ]
 
+  -- where it is told as no failed write, none failed
+  pub others_held : (old new : ℕ) → (e.kind ≢ WriteFailed → new ≡ old) → told.kind ≢ WriteFailed → new ≡ old
+  others_held old new quiet not = elim (is_read_failed e.kind) [
+    | inl is ↦ quiet (λ write. cc)
+    | inr no ↦ quiet (λ write. not (ap (λ f. f.kind) (other no) ∙ write))
+  ]
+
 -- the work is done for what is asked where the input is not refused
 pub works_unrefused : (asked : Asked) (bytes : List ℕ) (old new : Option (List ℕ)) (status : ℕ) → refused_at asked bytes ≡ None
     → WorksOn asked.request (Some bytes) old new status → Works asked (Some bytes) old new status

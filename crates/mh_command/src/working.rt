@@ -1,10 +1,11 @@
 //! Work for what is asked, over an input that is read whole first where the options of reading want
 //! it.
 ghost use Rattle.std.specs.Prelude.{◌≡◌, ◌≢◌, ◌<◌, ◌⊎◌, [], None, Some, false, string_bytes, IfOk, IfErr, IfSome, OnOk};
+ghost use Rattle.std.specs.Io.KnownBytes.{IsAtEnd};
 ghost use Rattle.mh_text.specs.Bytes.{HasFailed};
-ghost use Rattle.mh_text.specs.Gives.{no_memory, IsHonest, IsHonestReading};
+ghost use Rattle.mh_text.specs.Gives.{no_memory, IsHonest, IsHonestReading, NoOtherFailed};
 ghost use Rattle.mh_text.specs.Output.{outside, IsUnread};
-ghost use Rattle.mh_text.specs.declared.fault.TextFault.TheVariants.{ReadFailed};
+ghost use Rattle.mh_text.specs.declared.fault.TextFault.TheVariants.{ReadFailed, WriteFailed};
 ghost use Rattle.mh_command.specs.Answers.{fault_at, Works, WorksOn, FailsIn, FailsOn, IsFaultOf, IsHelp};
 ghost use Rattle.mh_command.specs.CommandLine.{HasWorkers};
 ghost use Rattle.mh_command.specs.Readings.{fault_told, form_of, refused_at, unread_in, ExplainsFault, IsExplained, IsRefusal};
@@ -64,6 +65,9 @@ fn work<T: Threads + Wait + Sync, R: Read, W: Write>(
         (HasFailed out.old.failures out.new.failures)) }
     ensures honest { IsHonest result reader.old.failures reader.new.failures
         out.old.failures out.new.failures }
+    ensures others { IfErr result (λ e. NoOtherFailed e.kind reader.old.failures
+        reader.new.failures out.old.failures out.new.failures) }
+    ensures end { OnOk result (IsAtEnd (R.remaining reader.new.inner)) }
 {
     match request {
         Request::Run(options) => {
@@ -121,6 +125,8 @@ fn work_over<T: Threads + Wait + Sync, W: Write>(
         (W.contents out.old.inner) (W.contents out.new.inner) ⊥
         (HasFailed out.old.failures out.new.failures)) }
     ensures honest { IsHonest result 0 0 out.old.failures out.new.failures }
+    ensures others { IfErr result (λ e. e.kind ≢ WriteFailed
+        → out.new.failures ≡ out.old.failures) }
 {
     let mut reader = Watched::new(input);
     match work(rt, alloc, request, &mut reader, out) {
@@ -269,6 +275,8 @@ fn work_on<T: Threads + Wait + Sync, W: Write>(
         (W.contents out.old.inner) (W.contents out.new.inner) ⊥
         (HasFailed out.old.failures out.new.failures)) }
     ensures honest { IsHonest result.end 0 0 out.old.failures out.new.failures }
+    ensures others { IfErr result.end (λ e. e.kind ≢ WriteFailed
+        → out.new.failures ≡ out.old.failures) }
     ensures help { IsHelp asked (Some input.now) result.end (string_bytes result.help) }
 {
     if let Err(fault) = refuse_unread(alloc, asked, input) {
@@ -303,6 +311,9 @@ fn work_whole<T: Threads + Wait + Sync, R: Read, W: Write>(
         (HasFailed out.old.failures out.new.failures)) }
     ensures honest { IsHonest result.end reader.old.failures reader.new.failures
         out.old.failures out.new.failures }
+    ensures others { IfErr result.end (λ e. NoOtherFailed e.kind reader.old.failures
+        reader.new.failures out.old.failures out.new.failures) }
+    ensures end { OnOk result.end (IsAtEnd (R.remaining reader.new.inner)) }
     ensures help { IsHelp asked (R.remaining reader.old.inner) result.end
         (string_bytes result.help) }
 {
@@ -324,6 +335,9 @@ fn keep_lines<R: Read>(
     ensures failed { IfErr result (IsUnread (IsFaultOf request) (R.remaining reader.old.inner)
         (HasFailed reader.old.failures reader.new.failures)) }
     ensures honest { IsHonestReading result reader.old.failures reader.new.failures }
+    ensures others { IfErr result (λ e. e.kind ≢ ReadFailed
+        → reader.new.failures ≡ reader.old.failures) }
+    ensures end { OnOk result (IsAtEnd (R.remaining reader.new.inner)) }
 {
     match request {
         Request::CheckProfile => keep_claim(alloc, reader),
@@ -355,6 +369,9 @@ fn work_lines<T: Threads + Wait + Sync, R: Read, W: Write>(
         (HasFailed out.old.failures out.new.failures)) }
     ensures honest { IsHonest result.end reader.old.failures reader.new.failures
         out.old.failures out.new.failures }
+    ensures others { IfErr result.end (λ e. NoOtherFailed e.kind reader.old.failures
+        reader.new.failures out.old.failures out.new.failures) }
+    ensures end { OnOk result.end (IsAtEnd (R.remaining reader.new.inner)) }
     ensures help { IsHelp asked (R.remaining reader.old.inner) result.end
         (string_bytes result.help) }
 {
@@ -382,6 +399,9 @@ pub(crate) fn work_asked<T: Threads + Wait + Sync, R: Read, W: Write>(
         (HasFailed out.old.failures out.new.failures)) }
     ensures honest { IsHonest result.end reader.old.failures reader.new.failures
         out.old.failures out.new.failures }
+    ensures others { IfErr result.end (λ e. NoOtherFailed e.kind reader.old.failures
+        reader.new.failures out.old.failures out.new.failures) }
+    ensures end { OnOk result.end (IsAtEnd (R.remaining reader.new.inner)) }
     ensures help { IsHelp asked (R.remaining reader.old.inner) result.end
         (string_bytes result.help) }
 {

@@ -2,6 +2,7 @@ mod Amounts
 mod Claims
 mod KeyRuns
 mod Lines
+mod Longer
 mod NameTexts
 mod Needs
 mod Reading

@@ -1,10 +1,10 @@
 //! Claims: a profile, and behind it a line that is said to be a best plan of it.
-ghost use Rattle.std.specs.Prelude.{◌≡◌, ◌≢◌, ◌⊎◌, ◌==◌, ◌≤◌, ◌+◌, IfOk, IfErr, IfSome, OnOk, List, ℕ, length};
+ghost use Rattle.std.specs.Prelude.{◌≡◌, ◌≢◌, ◌⊎◌, ◌==◌, ◌<◌, ◌≤◌, ◌+◌, IfOk, IfErr, IfSome, OnOk, List, ℕ, length};
 ghost use Rattle.std.specs.Io.KnownBytes.{IsAtEnd};
 ghost use Rattle.std.specs.List.{IsAfterLastMatch};
 ghost use Rattle.serde_json.specs.View.{view};
 ghost use Rattle.mh_text.specs.Bytes.{HasFailed, LosesAtMost};
-ghost use Rattle.mh_text.specs.Gives.{at_place, no_memory, Gives, GivesAt, IsHonestReading, IsOfInput};
+ghost use Rattle.mh_text.specs.Gives.{at_place, no_memory, too_long, Gives, GivesAt, IsHonestReading, IsOfInput};
 ghost use Rattle.mh_text.specs.Output.{outside, IsUnread};
 ghost use Rattle.mh_text.specs.declared.fault.TextFault.TheVariants.{ReadFailed};
 ghost use Rattle.mh_profile.specs.Claims.{claimed_plan, plan_in_line, is_said, IsClaim, IsClaimFault, IsParted, IsReadClaim, IsReadClaimFault};
@@ -147,6 +147,9 @@ pub fn keep_claim<R: Read>(alloc: Global, reader: &mut Watched<R>) -> Result<Vec
     ensures ok { IfOk result (λ input. IfSome (R.remaining reader.old.inner)
         (λ bytes. input.items ≡ bytes)) }
     ensures short { IfOk result (λ input. length input.items ≤ most_in_claim) }
+    ensures long { IfErr result (λ e. (e ≡ outside no_memory) ⊎ (e ≡ outside ReadFailed)
+        ⊎ ((e ≡ outside too_long) × IfSome (R.remaining reader.old.inner)
+        (λ bytes. most_in_claim < length bytes))) }
     ensures failed { IfErr result (IsUnread IsReadClaimFault (R.remaining reader.old.inner)
         (HasFailed reader.old.failures reader.new.failures)) }
     ensures honest { IsHonestReading result reader.old.failures reader.new.failures }
