@@ -200,8 +200,8 @@ uint32_t mhlink_caller_hits(mhlink_caller *caller, size_t link, uint64_t *hits);
 uint32_t mhlink_desk_show(mhlink_desk *desk);
 /* By the host's lock, and not beside this caller's calls: it is answered by what the desk shows. A host that shows, and then has
    each caller look, at a safepoint of its thread, knows that no call is answered by an older world from there on. The status is
-   MHLINK_NO_WORKER where the desk does not count of its worker just the hits that the caller has flushed, as of a caller of another
-   desk. */
+   MHLINK_NO_WORKER where the desk does not count of its worker just the hits that the caller has flushed. So a caller of another
+   desk is refused once the two counts differ, and a host keeps the callers of its desks apart. */
 uint32_t mhlink_caller_look(mhlink_caller *caller, mhlink_desk *desk);
 /* By the host's lock, and not beside this caller's calls: its hits go to the totals. The world of its last look stays. The status
    is MHLINK_NO_WORKER as of a look, and else that of mhlink_flush. */
