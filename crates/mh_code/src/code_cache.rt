@@ -51,6 +51,22 @@ impl CodeCache {
         Ok(prepared)
     }
 
+    /// The same where the code of another handle is at hand, which serves for an equal one. It takes
+    /// time linear in the trees' size. Fails only with `NoMemory`.
+    pub fn prepare_again(
+        &mut self,
+        other: &Prepared,
+        handle: &Handle,
+    ) -> Result<Prepared, TreeFault>
+        ensures value { IfOk result (λ p. p ≡ handle.now) }
+        ensures refused { IfErr result (λ e. e ≡ TreeFault.NoMemory) }
+    {
+        if same_handle(other.handle(), handle) {
+            return other.share();
+        }
+        self.prepare(handle)
+    }
+
     // Another owner of an equal handle with its code, where it is kept and can be shared.
     fn find(&self, handle: &Handle) -> Option<Prepared>
         ensures value { IfSome result (λ p. p ≡ handle.now) }

@@ -93,7 +93,7 @@ impl Opening {
         let _sites = definition.sites();
         let shared = definition.share()?;
         let first = World::open(alloc, definition)?;
-        let second = World::open(alloc, definition)?;
+        let second = first.share()?;
         let (book, ledgers) = Book::open(alloc, definition, workers, limits)?;
         Ok(Opening {
             list: Unnamed::new(),

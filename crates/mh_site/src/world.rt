@@ -87,17 +87,17 @@ impl World {
         ensures value { IfOk result (λ w. w ≡ opened definition.now) }
         ensures replays { IfOk result (λ w. w ≡ replay (opened definition.now) []) }
     {
-        let points = definition.points().len();
-        let valid = Vec::from_elem(alloc, true, points).map_err(|_| NoMemory)?;
-        let (sites, linked) = open_sites(alloc, definition.sites())?;
-        let incoming = VecDeque::with_capacity(alloc, sites.len()).map_err(|_| NoMemory)?;
-        Ok(World {
-            valid,
-            sites,
-            linked,
-            front: 0,
-            incoming,
-        })
+        open_over(alloc, definition, &[])
+    }
+
+    /// The world of another definition before any control, as `open` makes it. Where the target of a
+    /// site is the base tree that the site of its number has here, its code is that of here. Fails
+    /// only if an allocation or a reference count is refused.
+    pub fn reopen(&self, definition: &Definition) -> Result<World, NoMemory>
+        ensures value { IfOk result (λ w. w ≡ opened definition.now) }
+        ensures replays { IfOk result (λ w. w ≡ replay (opened definition.now) []) }
+    {
+        open_over(*self.linked.allocator(), definition, &self.sites)
     }
 
     /// A world like this one, over the same trees and their code: what this world absorbs later does
@@ -242,8 +242,33 @@ impl World {
     }
 }
 
+// The world of a definition before any control, with the code that sites of these numbers had.
+fn open_over(
+    alloc: Global,
+    definition: &Definition,
+    earlier: &[SiteWorld],
+) -> Result<World, NoMemory>
+    ensures value { IfOk result (λ w. w ≡ opened definition.now) }
+{
+    let points = definition.points().len();
+    let valid = Vec::from_elem(alloc, true, points).map_err(|_| NoMemory)?;
+    let (sites, linked) = open_sites(alloc, definition.sites(), earlier)?;
+    let incoming = VecDeque::with_capacity(alloc, sites.len()).map_err(|_| NoMemory)?;
+    Ok(World {
+        valid,
+        sites,
+        linked,
+        front: 0,
+        incoming,
+    })
+}
+
 // Each site before any control, and its linked tree.
-fn open_sites(alloc: Global, sites: &[Site]) -> Result<(Vec<SiteWorld>, Vec<Prepared>), NoMemory>
+fn open_sites(
+    alloc: Global,
+    sites: &[Site],
+    earlier: &[SiteWorld],
+) -> Result<(Vec<SiteWorld>, Vec<Prepared>), NoMemory>
     ensures value { IfOk result (λ v. site_states v.0.items v.1.items ≡ map opening sites.now) }
     ensures many { IfOk result (λ v. length v.1.items ≡ length v.0.items) }
     ensures typed { OnOk result (AreTyped (map opening sites.now)) }
@@ -252,22 +277,31 @@ fn open_sites(alloc: Global, sites: &[Site]) -> Result<(Vec<SiteWorld>, Vec<Prep
     let mut opened = Vec::new(alloc);
     let mut linked = Vec::new(alloc);
     for site in sites {
-        let (entry, tree) = open_site(&mut cache, site)?;
+        let (entry, tree) = open_site(&mut cache, site, earlier.get(opened.len()))?;
         opened.push(entry).map_err(|_| NoMemory)?;
         linked.push(tree).map_err(|_| NoMemory)?;
     }
     Ok((opened, linked))
 }
 
-// A site before any control, and its linked tree. Sites share the code of parts that are the same.
-fn open_site(cache: &mut CodeCache, site: &Site) -> Result<(SiteWorld, Prepared), NoMemory>
+// A site before any control, and its linked tree. Sites share the code of trees that are the same,
+// and take over what the site had earlier.
+fn open_site(
+    cache: &mut CodeCache,
+    site: &Site,
+    earlier: Option<&SiteWorld>,
+) -> Result<(SiteWorld, Prepared), NoMemory>
     ensures value { IfOk result (λ x. site_state x ≡ opening site.now) }
     ensures typed { IsTyped site.now.target.tree site.now.target.signature }
 {
     let target = &site.target;
     // Read for what a tree keeps.
     let _type = target.handle().method_type();
-    let linked = cache.prepare(target.handle()).map_err(|_| NoMemory)?;
+    let linked = match earlier {
+        Some(world) => cache.prepare_again(world.base.prepared(), target.handle()),
+        None => cache.prepare(target.handle()),
+    };
+    let linked = linked.map_err(|_| NoMemory)?;
     let declared = target.share().map_err(|_| NoMemory)?;
     let opened = SiteWorld {
         base: BaseTree::new(declared, &linked)?,

@@ -13,6 +13,7 @@ mod offices;
 mod openings;
 mod passes;
 mod plans;
+mod reopening;
 mod runtimes;
 mod settling;
 mod subject;

@@ -6,6 +6,7 @@ use crate::offices;
 use crate::openings::{try_new, try_open};
 use crate::passes::{Called, try_call};
 use crate::plans::{try_large_plan, try_large_problem, try_plan};
+use crate::reopening::try_reopening;
 use crate::runtimes::{Beginning, try_beginning, try_resumption};
 use crate::settling::try_settle;
 use crate::trees::{Maker, try_maker};
@@ -48,12 +49,14 @@ pub(crate) enum Subject {
     OpeningOpen,
     /// `Live::settle`.
     Settlement,
+    /// `Settled::renew`.
+    Reopening,
     /// A call through a pass.
     Call(Called),
 }
 
 /// All subjects with their words.
-const ALL: [(&str, Subject); 43] = [
+const ALL: [(&str, Subject); 44] = [
     ("constant", Subject::Tree(Maker::Constant)),
     ("identity", Subject::Tree(Maker::Identity)),
     ("operation", Subject::Tree(Maker::Operation)),
@@ -95,6 +98,7 @@ const ALL: [(&str, Subject); 43] = [
     ("opening-new", Subject::OpeningNew),
     ("opening-open", Subject::OpeningOpen),
     ("settlement", Subject::Settlement),
+    ("reopening", Subject::Reopening),
     ("call-f", Subject::Call(Called::F)),
     ("call-joined", Subject::Call(Called::Joined)),
 ];
@@ -134,6 +138,7 @@ pub(crate) fn try_subject<R: Print + Threads + Wait + Sync>(
         Subject::OpeningNew => try_new(rt, alloc),
         Subject::OpeningOpen => try_open(rt, alloc),
         Subject::Settlement => try_settle(rt, alloc),
+        Subject::Reopening => try_reopening(rt, alloc),
         Subject::Call(called) => try_call(rt, alloc, called),
     }
 }

@@ -2,7 +2,7 @@ use Rattle.std.proofs.Common.{subst, sym}
 use Rattle.std.specs.List.{All}
 use Rattle.mh_site.specs.Worlds.{AreTyped}
 use Rattle.mh_site.specs.Laws.Tables.{opening_keeps, Early}
-use Rattle.mh_site.proofs.world.World.open.Goals as goal
+use Rattle.mh_site.proofs.world.open_over.Goals as goal
 
 pub invariant_of-result : goal.invariant_of-result
 invariant_of-result c = (
