@@ -133,11 +133,12 @@ impl Book {
         ensures ascending { IsStrictlyIncreasing result.now }
         ensures book { IsBook self.now }
     {
-        self.plans[plan - 1].plan.plan().links.as_slice()
+        self.plan(plan).links.as_slice()
     }
 
-    // Whether a site was not retargeted since the snapshot of a plan.
-    pub(crate) fn is_current(&self, plan: usize, site: usize) -> bool
+    /// Whether a site was not retargeted since the snapshot of a plan, so that an installation of the
+    /// plan does not skip it. O(1).
+    pub fn is_current(&self, plan: usize, site: usize) -> bool
         requires published { IsPublished self.now.records plan }
         requires inside { site < length self.now.definition.sites }
         ensures value { result ≡ is_current_at self.now.records plan site }
@@ -146,8 +147,9 @@ impl Book {
         self.snapshots[snapshot - 1].versions()[site] == self.world.version(site)
     }
 
-    // Whether all points that a link needs are valid.
-    pub(crate) fn is_eligible(&self, link: usize) -> bool
+    /// Whether all points that a link needs are valid. An installation leaves out a link that is not.
+    /// O(needs).
+    pub fn is_eligible(&self, link: usize) -> bool
         requires inside { link < length (links_of self.now.definition) }
         ensures value { result ≡ is_eligible_after self.now.definition self.now.records link }
     {

@@ -169,7 +169,7 @@ impl Book {
         let _links = self.totals.links();
         let invalid = self.invalid_points()?;
         let records = first_records(self.alloc, &invalid, ledgers, OldHits::Keep)?;
-        let world = open_without(self.alloc, &definition, invalid)?;
+        let world = open_without(self.alloc, Some(&self.world), &definition, invalid)?;
         let more = definition.link_count() - self.definition.link_count();
         let (totals, ledgers) = self.totals.extended(self.alloc, ledgers, more)?;
         Ok(Extension {

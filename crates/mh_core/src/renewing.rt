@@ -203,7 +203,7 @@ impl Book {
         let fallen = self.fallen(again)?;
         let records = first_records(self.alloc, &fallen, ledgers, hits)?;
         let definition = self.renewed(again)?;
-        let world = open_without(self.alloc, &definition, fallen)?;
+        let world = open_without(self.alloc, Some(&self.world), &definition, fallen)?;
         Ok(Beginning {
             definition,
             world,
@@ -238,18 +238,29 @@ impl Book {
     }
 }
 
-// The world of a definition in which these points are invalid.
+// The world of a definition in which these points are invalid, with the code of an earlier world.
 pub(crate) fn open_without(
     alloc: Global,
+    earlier: Option<&World>,
     definition: &Definition,
     points: Listing<u32>,
 ) -> Result<World, NoMemory>
     ensures value { IfOk result (λ w. w
         ≡ replay (opened definition.now) (Invalidate points ∷ [])) }
 {
-    let mut world = World::open(alloc, definition)?;
+    let mut world = open(alloc, earlier, definition)?;
     world.absorb(Control::Invalidate(points));
     Ok(world)
+}
+
+// The world of a definition before any control, with the code of an earlier world.
+fn open(alloc: Global, earlier: Option<&World>, definition: &Definition) -> Result<World, NoMemory>
+    ensures value { IfOk result (λ w. w ≡ opened definition.now) }
+{
+    match earlier {
+        Some(world) => world.reopen(definition),
+        None => World::open(alloc, definition),
+    }
 }
 
 // An invalidation of these points, and a flush of each worker of what goes on counting of the hits

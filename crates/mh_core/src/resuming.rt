@@ -178,7 +178,7 @@ impl Book {
             ledger_limit,
             total_limit,
         )?;
-        let world = open_without(alloc, &definition, invalid)?;
+        let world = open_without(alloc, None, &definition, invalid)?;
         let book = Book {
             alloc,
             definition,

@@ -3,15 +3,18 @@
 ghost use Rattle.std.specs.Prelude.{◌≡◌, ◌<◌, ◌≤◌, ◌^◌, false, length, slice_index_or};
 ghost use Rattle.mh_site.specs.Links.{link_at, links as links_of};
 ghost use Rattle.mh_core.specs.Hits.{unflushed};
-ghost use Rattle.mh_core.specs.Installations.{kept};
+ghost use Rattle.mh_core.specs.Books.{IsBook};
+ghost use Rattle.mh_core.specs.Installations.{IsPublished, kept, plan_at};
 ghost use Rattle.mh_core.specs.Limits.{most_hits};
-ghost use Rattle.mh_core.specs.Records.{is_valid, plans, snapshots, total, version};
+ghost use Rattle.mh_core.specs.Records.{base, is_valid, plans, snapshots, total, version};
 ghost use Rattle.mh_core.specs.State.{gain, unflushed_of_all};
 
 use crate::book::Book;
 use crate::machine::Machine;
 use crate::problem::link_of;
+use mh_cert::Plan;
 use mh_site::Link;
+use mh_tree::Declared;
 
 impl Book {
     /// Whether a point is valid: no record invalidated it.
@@ -20,6 +23,15 @@ impl Book {
         ensures value { result ≡ is_valid self.now.records point }
     {
         is_among(self.world().valid(), point)
+    }
+
+    /// The tree of a site: that of its last retargeting, else the one that it was opened with. Each
+    /// call of the site means what it means, also where links run in its place.
+    pub fn tree(&self, site: usize) -> &Declared
+        requires inside { site < length self.now.definition.sites }
+        ensures value { result.now ≡ base self.now.definition self.now.records site }
+    {
+        self.world().base(site)
     }
 
     /// How often a site was retargeted.
@@ -81,6 +93,15 @@ impl Book {
         ensures count { result ≡ plans self.now.records }
     {
         self.plans.len()
+    }
+
+    /// The plan of this number, from 1.
+    pub fn plan(&self, plan: usize) -> &Plan
+        requires published { IsPublished self.now.records plan }
+        ensures value { result.now ≡ (plan_at self.now.records plan).plan }
+        ensures book { IsBook self.now }
+    {
+        self.plans[plan - 1].plan.plan()
     }
 }
 
