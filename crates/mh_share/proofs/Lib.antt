@@ -1,3 +1,4 @@
 mod Fieldless
+mod NoCaller
 mod Results
 mod Sending

@@ -1,2 +1,4 @@
 pub mod Callers
 pub mod Desks
+pub mod Laws
+pub mod Renewals

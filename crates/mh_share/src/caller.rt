@@ -12,6 +12,7 @@ ghost use Rattle.mh_core.specs.Runtimes.{TakesNoMemory};
 ghost use Rattle.mh_core.specs.declared.reply.Reply.TheVariants.{Called};
 ghost use Rattle.mh_share.specs.Callers.{call_tests, caller_by};
 ghost use Rattle.mh_share.specs.Desks.{RefusesLook};
+ghost use Rattle.mh_share.specs.Renewals.{with_ledger};
 
 use crate::desk::Desk;
 use crate::shown::Shown;
@@ -23,6 +24,7 @@ use mh_type::{Outcome, Value};
 use std::alloc::Global;
 use std::fmt;
 use std::marker::Model;
+use std::mem::swap;
 use std::sync::Arc;
 
 /// What one thread calls through: the world of its last look, the ledger of its worker, and a
@@ -102,6 +104,15 @@ impl Caller {
         ensures links { length self.now.ledger.unflushed ≡ length (links self.now.shown.definition) }
     {
         &self.ledger
+    }
+
+    /// Exchanges its ledger for another one, of as many links.
+    pub fn exchange(&mut self, ledger: &mut Ledger)
+        requires links { length ledger.old.unflushed ≡ length self.old.ledger.unflushed }
+        ensures given { ledger.new ≡ self.old.ledger }
+        ensures taken { self.new ≡ with_ledger self.old ledger.old }
+    {
+        swap(&mut self.ledger, ledger);
     }
 
     /// What a call of a site gives, and the number of nodes that it entered

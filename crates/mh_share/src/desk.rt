@@ -28,8 +28,8 @@ use std::sync::Arc;
 /// A contract sees the book, and the book as it was when the shown world was the newest.
 #[derive(Drop)]
 pub struct Desk {
-    alloc: Global,
-    book: Book,
+    pub(crate) alloc: Global,
+    pub(crate) book: Book,
     shown: Arc<Shown>,
 }
 

@@ -19,9 +19,11 @@ mod caller;
 mod crossing;
 mod desk;
 mod past;
+mod renewing;
 mod shown;
 
 pub use caller::Caller;
 pub use crossing::desks_cross_threads;
 pub use desk::Desk;
-pub use mh_core::{Limits, NoMemory, Refusal};
+pub use mh_core::{Limits, NoMemory, Refusal, Renewal};
+pub use mh_ledger::{Ledger, OldHits};

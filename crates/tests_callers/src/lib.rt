@@ -6,4 +6,6 @@ mod looking;
 #[cfg(test)]
 mod making;
 #[cfg(test)]
+mod renewing;
+#[cfg(test)]
 mod threads;

@@ -81,3 +81,19 @@ pub(crate) fn total(desk: &Desk) -> Option<u64> {
         None
     }
 }
+
+/// Has each caller look.
+pub(crate) fn look_all(desk: &Desk, callers: &mut [Caller]) -> Result<(), Refusal> {
+    for caller in callers {
+        caller.look(desk)?;
+    }
+    Ok(())
+}
+
+/// Flushes each caller.
+pub(crate) fn flush_all(desk: &mut Desk, callers: &mut [Caller]) -> Result<(), Refusal> {
+    for caller in callers {
+        desk.flush(caller)?;
+    }
+    Ok(())
+}

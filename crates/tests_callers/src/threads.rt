@@ -1,7 +1,7 @@
 //! Calls in threads, each by the world of its own last look.
 
-use crate::making::{call, open, the_point, total};
-use mh_share::{Caller, Desk, Refusal, desks_cross_threads};
+use crate::making::{call, flush_all, look_all, open, the_point, total};
+use mh_share::{Caller, Desk, desks_cross_threads};
 use std::alloc::Global;
 use std::test::Fail;
 use std::thread::{Threads, map_vec};
@@ -46,22 +46,6 @@ fn call_in_threads<R: Threads + Sync>(
     desks_cross_threads();
     let work = |caller: Caller| -> Called { call_many(caller, calls, expected) };
     take_back(alloc, map_vec(rt, callers, &work).ok()?)
-}
-
-/// Has each caller look.
-fn look_all(desk: &Desk, callers: &mut [Caller]) -> Result<(), Refusal> {
-    for caller in callers {
-        caller.look(desk)?;
-    }
-    Ok(())
-}
-
-/// Flushes each caller.
-fn flush_all(desk: &mut Desk, callers: &mut [Caller]) -> Result<(), Refusal> {
-    for caller in callers {
-        desk.flush(caller)?;
-    }
-    Ok(())
 }
 
 /// Calls in threads by the first world, and by the world without the point.
