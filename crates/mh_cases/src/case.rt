@@ -50,7 +50,8 @@ pub(crate) struct Case<'a> {
 impl<'a> Case<'a> {
     /// Reads an object with the keys `id`, `words`, `stdin`, `stdout`, `stderr` and `status`. With
     /// a key `length` its input has spaces put behind it up to that number of bytes, a key `where`
-    /// has the place of its fault, and a key `explained` its explanation.
+    /// has the place of its fault, and a key `explained` its explanation. A key `meant`, the input
+    /// as who wrote it meant it, is for people and for tools/check_schema.
     pub(crate) fn read(alloc: Global, value: &'a Value) -> Result<Case<'a>, CaseFault> {
         let mut words = Vec::new(alloc);
         for word in member(value, "words")?

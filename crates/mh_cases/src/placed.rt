@@ -1,10 +1,7 @@
 //! Where the fault of a case is, and how it is explained.
 
 use crate::case::Case;
-use mh_explain::{
-    InputForm, explanation, place_in_claim, place_in_problem, place_in_script, unread_keys,
-};
-use mh_text::readers::read_json;
+use mh_explain::{InputForm, explanation, unread_keys};
 use mh_text::{Fault, InputFault, TextFault, read_plan, read_problem, read_script};
 use std::alloc::Global;
 
@@ -60,21 +57,20 @@ fn claim_read(alloc: Global, input: &[u8]) -> Result<(), Fault> {
     Ok(())
 }
 
-/// The path to the least part of an input that has its first fault.
+/// The path to the part of an input that has its first fault; empty for the input itself.
 fn place(alloc: Global, form: InputForm, input: &[u8]) -> anyhow::Result<String> {
     let Some(fault) = first_fault(alloc, form, input) else {
         anyhow::bail!("an input has no fault");
     };
-    let Ok(value) = read_json(alloc, input) else {
-        anyhow::bail!("an input is no JSON");
+    let lines = explanation(alloc, form, input, fault)?;
+    let Some(line) = lines.as_str().split('\n').next() else {
+        anyhow::bail!("an explanation has no line");
     };
-    let place = match form {
-        InputForm::Script => place_in_script(alloc, &value, fault)?,
-        InputForm::Problem => place_in_problem(alloc, &value, fault)?,
-        InputForm::Claim => place_in_claim(alloc, &value, fault)?,
-    };
-    let path = format!(in alloc; "{place}")?;
-    Ok(path)
+    match line.strip_prefix("  where: ") {
+        Some("the input itself") => Ok(String::new(alloc)),
+        Some(path) => Ok(String::from_str(alloc, path)?),
+        None => anyhow::bail!("an explanation names no place"),
+    }
 }
 
 /// The explanation of the first fault of an input, and the notes of the keys that nothing reads.

@@ -1,12 +1,12 @@
 -- How what is asked ends: its work, the last flush, and what is told.
-use Rattle.std.proofs.Common.{◌≡◌, ◌≢◌, ◌⊎◌, ◌<◌, ◌≤◌, inl, inr, refl, sym, ap, ◌∙◌, subst, ℕ, Bool, true, false, List, [], ◌++◌, append-nil, Option, Some, None, Result, Ok, Err, IfOk, IfErr, IfSome, arith}
+use Rattle.std.proofs.Common.{◌≡◌, ◌≢◌, ◌⊎◌, ◌<◌, ◌≤◌, inl, inr, refl, sym, ap, ◌∙◌, subst, ℕ, Bool, true, false, List, [], ◌∷◌, ◌++◌, append-nil, Option, Some, None, Result, Ok, Err, IfOk, IfErr, IfSome, OnOk, arith}
 use Rattle.std.proofs.KnownBytes.{Appends-kept, Keeps-refl, Keeps-trans}
 use Rattle.std.specs.Io.KnownBytes.{Appends, Keeps}
 use Rattle.mh_core.specs.Legal.{MachineState}
 use Rattle.mh_text.specs.declared.json.step.Step.{Step}
 use Rattle.mh_text.specs.Bytes.{HasFailed, one_more}
 use Rattle.mh_text.specs.Faults.{fault_line}
-use Rattle.mh_text.specs.Gives.{IsEndOf, IsHonest, no_memory}
+use Rattle.mh_text.specs.Gives.{IsEndOf, IsHonest, NoOtherFailed, no_memory}
 use Rattle.mh_text.specs.Lines.{lines_of}
 use Rattle.mh_text.specs.Output as output
 use Rattle.mh_text.specs.Output.{first, outside, EndsEarly, Failed}
@@ -16,21 +16,27 @@ use Rattle.mh_text.specs.declared.fault.TextFault.{TextFault}
 use Rattle.mh_text.specs.declared.fault.TextFault.TheVariants.{Input, ReadFailed, WriteFailed, NoReader}
 use Rattle.mh_text.specs.declared.json.script.Script.{Script}
 use Rattle.mh_text.specs.declared.streams.run.RunOptions.{RunOptions}
-use Rattle.mh_command.specs.Answers.{Answers, EndsIn, FailsIn, FailsOn, IsAnswerOf, IsAnswerTo, IsAnswerUnless, IsHelp, Works, output_alone, turned_down}
+use Rattle.mh_command.specs.Answers.{Answers, FailsIn, FailsOn, IsAnswerOf, IsAnswerTo, IsAnswerUnless, IsHelp, IsStopped, Works, output_alone, turned_down}
 use Rattle.mh_command.specs.Statuses.{status_told}
-use Rattle.mh_command.specs.Streams.{IsDone, IsTold, IsToldFor}
+use Rattle.mh_command.proofs.Beginnings.{one_more_fails}
+use Rattle.mh_command.specs.Readings.{fault_explained, refused_at, IsExplained}
+use Rattle.mh_command.specs.Streams.{IsDone, IsShown, IsTold}
 use Rattle.mh_command.specs.declared.request.Asked.{Asked}
 use Rattle.mh_command.specs.declared.request.Request.{Request}
 use Rattle.mh_command.specs.declared.request.Request.TheVariants.{Run, Check, CheckProfile, Plan, Stress, Profile}
 
-pub one_more_fails : (n : ℕ) → HasFailed n (one_more n)
-one_more_fails n = omega arith
-
 pub four_is_no_two : {n : ℕ} → n ≡ 4 → n ≢ 2
 four_is_no_two four two = omega (arith, four, two)
 
+pub four_is_no_zero : {n : ℕ} → n ≡ 4 → n ≢ 0
+four_is_no_zero four zero = omega (arith, four, zero)
+
 pub four_is_not_below_two : {n : ℕ} → n ≡ 4 → n < 2 → ⊥
 four_is_not_below_two four small = omega (arith, four, small)
+
+-- memory kept a text back
+pub nothing_shown : (old : Option (List ℕ)) (failures status wanted : ℕ) → status ≡ 4 → IsShown old old failures failures status wanted
+nothing_shown old failures status wanted four = (10 ∷ [], λ is. cc, inr (inr (four, (Keeps-refl old, refl))))
 
 pub nothing_appended : (old new : Option (List ℕ)) → Keeps old new → Appends old new []
 nothing_appended None new kept = tt
@@ -191,9 +197,25 @@ module _ (old new : Option (List ℕ)) (A B : Type 0) (e : Fault) (small : statu
       let turned = refuses_on asked.request bytes fails in
       (subst (λ o. IsAnswerUnless o asked.request bytes (turned_down e)) (sym unrefused) turned.0, turned.1)
 
-is_asked : (explain : Bool) (help : List ℕ) → (explain ≡ false → help ≡ []) → help ≢ [] → explain ≡ true
-is_asked true help none some = refl
-is_asked false help none some = absurd (some (none refl))
+-- a failed flush is no fault of the input
+not_explained : (at : Option ℕ) → fault_explained at None ≡ fault_explained at (Some (outside WriteFailed))
+not_explained None = refl
+not_explained (Some at) = refl
+
+-- what is told beside an answer is told beside the fault of its last flush
+help_of_flush : (asked : Asked) (input : Option (List ℕ)) (status : ℕ) (help : List ℕ) → IsHelp asked input (Ok status) help
+    → IsHelp asked input (Err (outside WriteFailed)) help
+help_of_flush asked None status help helped = record { unexplained = helped.unexplained; silent = tt; explained = tt }
+help_of_flush asked (Some bytes) status help helped = record {
+  unexplained = helped.unexplained;
+  silent = tt;
+  explained = subst (λ cause. IsExplained asked.request bytes cause help) (not_explained (refused_at asked bytes)) helped.explained;
+}
+
+-- a fault may be told with nothing behind it
+pub nothing_told : (asked : Asked) (input : Option (List ℕ)) (e : Fault) → IsHelp asked input (Err e) []
+nothing_told asked None e = record { unexplained = λ plain. refl; silent = tt; explained = tt }
+nothing_told asked (Some bytes) e = record { unexplained = λ plain. refl; silent = tt; explained = inl refl }
 
 -- The work of what is asked from the output o to m, a flush to n, and what is told from the errors e to f.
 -- The numbers are the failures of the input, of the output and of the errors.
@@ -215,15 +237,15 @@ module _ (asked : Asked) (input o m n e f : Option (List ℕ)) (in_old in_new ou
   IsWritten = Answers asked input result o n e f
 
   abbrev pub Stops : Type 0
-  Stops = (fault : Fault) × EndsIn asked input o n A (HasFailed out_old out_new) fault × IsToldFor e f err_old err_new asked.reading.explain result fault
+  Stops = IsStopped asked input o n A (HasFailed out_old out_new) e f err_old err_new result
 
   told_known : (fault : Fault) → IsTold e f err_old err_new help result fault → (0 < result) × (result ≤ 4) × (result ≢ 2)
-  told_known fault (inl (is, line, quiet)) = subst (λ s. (0 < s) × (s ≤ 4) × (s ≢ 2)) (sym is) (told_range fault.kind)
-  told_known fault (inr (inl (three, failed))) = (omega (arith, three), omega (arith, three), omega (arith, three))
+  told_known fault (inl (is, (line, quiet))) = subst (λ s. (0 < s) × (s ≤ 4) × (s ≢ 2)) (sym is) (told_range fault.kind)
+  told_known fault (inr (inl (three, cut))) = (omega (arith, three), omega (arith, three), omega (arith, three))
   told_known fault (inr (inr (four, idle))) = (omega (arith, four), omega (arith, four), omega (arith, four))
 
   pub is_known : (worked : Result ℕ Fault) → IfOk worked (λ status. status < 2) → IfOk worked IsFinished → IfErr worked IsEnded → (result ≤ 4) × (result ≢ 2)
-  is_known (Ok status) small (inl (inl (is, written, quiet), same)) told = (omega (arith, is, small), omega (arith, is, small))
+  is_known (Ok status) small (inl (inl (is, (written, quiet)), same)) told = (omega (arith, is, small), omega (arith, is, small))
   is_known (Ok status) small (inl (inr (some, three, failed), same)) told = (omega (arith, three), omega (arith, three))
   is_known (Ok status) small (inr (failed, more)) told = let k = told_known (outside WriteFailed) failed in (k.1, k.2)
   is_known (Err fault) small done (told, same) = let k = told_known fault told in (k.1, k.2)
@@ -257,12 +279,12 @@ module _ (asked : Asked) (input o m n e f : Option (List ℕ)) (in_old in_new ou
 
   pub answers : (worked : Result ℕ Fault) → IfOk worked (Works asked input o m) → IfErr worked (FailsIn asked input o m A B) → IsHelp asked input worked help
       → IfOk worked IsFinished → IfErr worked IsEnded → result < 2 → IsWritten
-  answers (Ok status) works fails helped (inl (inl (is, written, quiet), same)) told small = answer_done input status is written works helped
+  answers (Ok status) works fails helped (inl (inl (is, (written, quiet)), same)) told small = answer_done input status is written works helped
   answers (Ok status) works fails helped (inl (inr (some, three, failed), same)) told small = absurd (omega (arith, three, small))
-  answers (Ok status) works fails helped (inr (inl (is, line, quiet), more)) told small = absurd (omega (arith, is, small))
+  answers (Ok status) works fails helped (inr (inl (is, (line, quiet)), more)) told small = absurd (omega (arith, is, small))
   answers (Ok status) works fails helped (inr (inr (inl (is, failed)), more)) told small = absurd (omega (arith, is, small))
   answers (Ok status) works fails helped (inr (inr (inr (is, idle)), more)) told small = absurd (omega (arith, is, small))
-  answers (Err fault) works fails helped done (inl (is, line, quiet), same) small =
+  answers (Err fault) works fails helped done (inl (is, (line, quiet)), same) small =
       let low : status_told fault.kind < 2 = omega (arith, is, small) in
       answer_turned input fault is small (refuses_input o m A B fault low asked input fails) line helped
   answers (Err fault) works fails helped done (inr (inl (is, failed)), same) small = absurd (omega (arith, is, small))
@@ -270,45 +292,59 @@ module _ (asked : Asked) (input o m n e f : Option (List ℕ)) (in_old in_new ou
 
   pub stops : (worked : Result ℕ Fault) → IfOk worked (λ status. status < 2) → IfOk worked (Works asked input o m) → IfErr worked (FailsIn asked input o m A B) → IsHelp asked input worked help
       → IsHonest worked in_old in_new out_old out_mid → IfOk worked IsFinished → IfErr worked IsEnded → 2 ≤ result → Stops
-  stops (Ok status) small works fails helped honest (inl (inl (is, written, quiet), same)) told large = absurd (omega (arith, is, small, large))
-  stops (Ok status) small works fails helped honest (inl (inr (some, three, failed), same)) told large = (
-    outside WriteFailed,
-    inr (refl, inr (is_asked asked.reading.explain help helped.unexplained some), (status, works_kept o m n kept asked input status works)),
-    ([], λ plain. refl, inr (inl (three, failed))),
-  )
+  stops (Ok status) small works fails helped honest (inl (inl (is, (written, quiet)), same)) told large = absurd (omega (arith, is, small, large))
+  stops (Ok status) small works fails helped honest (inl (inr (some, three, cut), same)) told large =
+      inr (three, (status, works_kept o m n kept asked input status works, (help, helped, cut)))
   stops (Ok status) small works fails helped honest (inr (failed, more)) told large =
-      let counted : HasFailed out_old out_new = subst (λ k. HasFailed k out_new) honest.1 (subst (HasFailed out_mid) (sym more) (one_more_fails out_mid)) in
-      (outside WriteFailed, inr (refl, inl counted, (status, works_kept o m n kept asked input status works)), (help, helped.unexplained, failed))
-  stops (Err fault) small works fails helped honest done (told, same) large = (
-    fault,
-    inl (subst (λ k. FailsIn asked input o n A (HasFailed out_old k) fault) (sym same) (fails_kept o m n kept asked input A B fault fails)),
-    (help, helped.unexplained, told),
-  )
+      let counted : HasFailed out_old out_new = subst (λ k. HasFailed k out_new) honest.1 (subst (HasFailed out_mid) (sym more) (one_more_fails out_mid (one_more out_mid) refl)) in
+      let flushed = help_of_flush asked input status help helped in
+      inl (outside WriteFailed, inr (refl, counted, (status, works_kept o m n kept asked input status works)), (help, flushed, failed))
+  stops (Err fault) small works fails helped honest done (told, same) large =
+      let fails_still = subst (λ k. FailsIn asked input o n A (HasFailed out_old k) fault) (sym same) (fails_kept o m n kept asked input A B fault fails) in
+      inl (fault, inl fails_still, (help, helped, told))
 
   pub some_failed : (worked : Result ℕ Fault) → IfOk worked (λ status. status < 2) → IsHonest worked in_old in_new out_old out_mid
       → IfOk worked IsFinished → IfErr worked IsEnded → result ≡ 3 → A ⊎ HasFailed out_old out_new ⊎ HasFailed err_old err_new
-  some_failed (Ok status) small honest (inl (inl (is, written, quiet), same)) told three = absurd (omega (arith, is, small, three))
-  some_failed (Ok status) small honest (inl (inr (some, is, failed), same)) told three = inr (inr failed)
+  some_failed (Ok status) small honest (inl (inl (is, (written, quiet)), same)) told three = absurd (omega (arith, is, small, three))
+  some_failed (Ok status) small honest (inl (inr (some, is, cut), same)) told three = inr (inr cut.0)
   some_failed (Ok status) small honest (inr (failed, more)) told three =
-      inr (inl (subst (λ k. HasFailed k out_new) honest.1 (subst (HasFailed out_mid) (sym more) (one_more_fails out_mid))))
-  some_failed (Err fault) small honest done (inl (is, line, same_errors), same) three =
+      inr (inl (subst (λ k. HasFailed k out_new) honest.1 (subst (HasFailed out_mid) (sym more) (one_more_fails out_mid (one_more out_mid) refl))))
+  some_failed (Err fault) small honest done (inl (is, (line, same_errors)), same) three =
       elim (stream_failed A B fault.kind (sym is ∙ three) honest) [
         | inl read ↦ inl read
         | inr write ↦ inr (inl (subst (HasFailed out_old) (sym same) write))
       ]
-  some_failed (Err fault) small honest done (inr (inl (is, failed)), same) three = inr (inr failed)
+  some_failed (Err fault) small honest done (inr (inl (is, cut)), same) three = inr (inr cut.0)
   some_failed (Err fault) small honest done (inr (inr (four, idle)), same) three = absurd (omega (arith, four, three))
 
-  pub is_quiet : (worked : Result ℕ Fault) → IsHonest worked in_old in_new out_old out_mid → IfOk worked IsFinished → IfErr worked IsEnded → result ≡ 0
+  not_told : (fault : Fault) (k : TextFault) → status_told k ≡ 3 → result ≡ status_told fault.kind → result < 3 → fault.kind ≢ k
+  not_told fault k three is small same =
+      let now : status_told k < 3 = subst (λ status. status < 3) (is ∙ ap status_told same) small in
+      omega (arith, three, now)
+
+  pub is_quiet : (worked : Result ℕ Fault) → IsHonest worked in_old in_new out_old out_mid
+      → IfErr worked (λ fault. NoOtherFailed fault.kind in_old in_new out_old out_mid) → IfOk worked IsFinished → IfErr worked IsEnded → result < 3
       → (in_new ≡ in_old) × (out_new ≡ out_old) × (err_new ≡ err_old)
-  is_quiet (Ok status) honest (inl (inl (is, written, quiet), same)) told zero = (honest.0, same ∙ honest.1, quiet)
-  is_quiet (Ok status) honest (inl (inr (some, three, failed), same)) told zero = absurd (omega (arith, three, zero))
-  is_quiet (Ok status) honest (inr (failed, more)) told zero = let k = told_known (outside WriteFailed) failed in let above = k.0 in absurd (omega (arith, above, zero))
-  is_quiet (Err fault) honest done (told, same) zero = let k = told_known fault told in let above = k.0 in absurd (omega (arith, above, zero))
+  is_quiet (Ok status) honest others (inl (inl (is, (written, quiet)), same)) told small = (honest.0, same ∙ honest.1, quiet)
+  is_quiet (Ok status) honest others (inl (inr (some, three, cut), same)) told small = absurd (omega (arith, three, small))
+  is_quiet (Ok status) honest others (inr (inl (is, (line, quiet)), more)) told small = absurd (omega (arith, is, small))
+  is_quiet (Ok status) honest others (inr (inr (inl (three, cut)), more)) told small = absurd (omega (arith, three, small))
+  is_quiet (Ok status) honest others (inr (inr (inr (four, idle)), more)) told small = absurd (omega (arith, four, small))
+  is_quiet (Err fault) honest others done (inl (is, (line, quiet)), same) small = (
+    others.0 (not_told fault ReadFailed refl is small),
+    same ∙ others.1 (not_told fault WriteFailed refl is small),
+    quiet,
+  )
+  is_quiet (Err fault) honest others done (inr (inl (three, cut)), same) small = absurd (omega (arith, three, small))
+  is_quiet (Err fault) honest others done (inr (inr (four, idle)), same) small = absurd (omega (arith, four, small))
+
+  pub is_at_end : (worked : Result ℕ Fault) (IsEnd : Type 0) → OnOk worked IsEnd → IfErr worked IsEnded → result ≡ 0 → IsEnd
+  is_at_end (Ok status) IsEnd end told zero = end
+  is_at_end (Err fault) IsEnd end (told, same) zero = let k = told_known fault told in let above = k.0 in absurd (omega (arith, above, zero))
 
   pub is_unexplained : (worked : Result ℕ Fault) → IsHelp asked input worked help → IfOk worked IsFinished → IfErr worked IsEnded → result ≡ 0
       → asked.reading.explain ≡ false → Keeps e f
-  is_unexplained (Ok status) helped (inl (inl (is, written, quiet), same)) told zero plain = appended_nothing e f (subst (Appends e f) (helped.unexplained plain) written)
+  is_unexplained (Ok status) helped (inl (inl (is, (written, quiet)), same)) told zero plain = appended_nothing e f (subst (Appends e f) (helped.unexplained plain) written)
   is_unexplained (Ok status) helped (inl (inr (some, three, failed), same)) told zero plain = absurd (omega (arith, three, zero))
   is_unexplained (Ok status) helped (inr (failed, more)) told zero plain = let k = told_known (outside WriteFailed) failed in let above = k.0 in absurd (omega (arith, above, zero))
   is_unexplained (Err fault) helped done (told, same) zero plain = let k = told_known fault told in let above = k.0 in absurd (omega (arith, above, zero))

@@ -1,3 +1,4 @@
+mod Beginnings
 mod CommandLines
 mod Ends
 mod Options

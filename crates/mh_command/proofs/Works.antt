@@ -16,13 +16,13 @@ use Rattle.mh_text.specs.Problems.{rows_at}
 use Rattle.mh_text.specs.Script.{script_of}
 use Rattle.mh_text.specs.declared.fault.Fault.{Fault}
 use Rattle.mh_text.specs.declared.fault.InputFault.{InputFault}
-use Rattle.mh_text.specs.declared.fault.InputFault.TheVariants.{NoMemory}
+use Rattle.mh_text.specs.declared.fault.InputFault.TheVariants.{BadShape}
 use Rattle.mh_text.specs.declared.fault.TextFault.{TextFault}
 use Rattle.mh_text.specs.declared.fault.TextFault.TheVariants.{Input, ReadFailed, WriteFailed, NoReader}
 use Rattle.mh_explain.specs.Unread.{first_unread, first_of_read}
-use Rattle.mh_explain.specs.declared.input.InputForm.{InputForm}
+use Rattle.mh_text.specs.declared.json.form.InputForm.{InputForm}
 use Rattle.mh_command.specs.Answers.{FailsIn, FailsOn, IsAnswerUnless, IsFaultOf, IsHelp, Works, WorksOn, fault_at, output_alone}
-use Rattle.mh_command.specs.Readings.{fault_explained, fault_told, form_of, refused_at, unread_in, ExplainsAs, IsExplained, IsRefusal}
+use Rattle.mh_command.specs.Readings.{fault_explained, fault_told, form_of, refused_at, unread_fault, unread_in, IsExplained, IsRefusal}
 use Rattle.mh_command.specs.declared.request.Asked.{Asked}
 use Rattle.mh_command.specs.declared.request.Request.{Request}
 use Rattle.mh_command.specs.declared.request.Request.TheVariants.{Run, Check, CheckProfile, Plan, Stress, Profile}
@@ -125,6 +125,13 @@ module _ (e told : Fault) (read : e.kind ≡ ReadFailed → told ≡ outside no_
     | inr not ↦ subst (λ (f : Fault). IsEndOf C B f.kind) (sym (other not)) (end_by A C B e.kind not end)
   ]
 
+  -- where it is told as no failed write, none failed
+  pub others_held : (old new : ℕ) → (e.kind ≢ WriteFailed → new ≡ old) → told.kind ≢ WriteFailed → new ≡ old
+  others_held old new quiet not = elim (is_read_failed e.kind) [
+    | inl is ↦ quiet (λ write. cc)
+    | inr kept ↦ quiet (λ write. not (ap (λ f. f.kind) (other kept) ∙ write))
+  ]
+
 -- the work is done for what is asked where the input is not refused
 pub works_unrefused : (asked : Asked) (bytes : List ℕ) (old new : Option (List ℕ)) (status : ℕ) → refused_at asked bytes ≡ None
     → WorksOn asked.request (Some bytes) old new status → Works asked (Some bytes) old new status
@@ -198,31 +205,15 @@ none_helped asked None (Err e) help none = record { unexplained = λ plain. none
 none_helped asked (Some bytes) (Ok status) help none = record { unexplained = λ plain. none; silent = λ read. none; explained = inl none }
 none_helped asked (Some bytes) (Err e) help none = record { unexplained = λ plain. none; silent = tt; explained = inl none }
 
--- want of memory is explained by nothing
-lines_of_memory : (form : Option InputForm) (request : Request) (input lines : List ℕ) → lines ≡ [] → ExplainsAs form request input NoMemory lines
-lines_of_memory None request input lines none = inl none
-lines_of_memory (Some form) request input lines none = λ is. cc
-
-memory_explained : (request : Request) (input help : List ℕ) → IsExplained request input None help → IsExplained request input (Some NoMemory) help
-memory_explained request input help (inl none) = inl none
-memory_explained request input help (inr (lines, notes, both, explains, read)) = inr (lines, notes, both, lines_of_memory (form_of request) request input lines explains, read)
-
-memory_at : (found : Option ℕ) (request : Request) (input help : List ℕ) → IsExplained request input None help
-    → IsExplained request input (fault_explained found (Some (outside no_memory))) help
-memory_at (Some at) request input help explained = explained
-memory_at None request input help explained = memory_explained request input help explained
-
--- the help for an input that is refused for a key, or whose keys could not be looked at
-module _ (asked : Asked) (bytes : List ℕ) (e : Fault) (help : List ℕ) (explained : IsExplained asked.request bytes None help) where
-  refused_explained : (e ≡ outside no_memory) ⊎ IsRefusal asked bytes e → IsExplained asked.request bytes (fault_explained (refused_at asked bytes) (Some e)) help
-  refused_explained (inl memory) =
-      subst (λ f. IsExplained asked.request bytes (fault_explained (refused_at asked bytes) (Some f)) help) (sym memory)
-      (memory_at (refused_at asked bytes) asked.request bytes help explained)
-  refused_explained (inr (at, is, same)) =
-      subst (λ o. IsExplained asked.request bytes (fault_explained o (Some e)) help) (sym is) explained
-
-  pub refused_helped : (e ≡ outside no_memory) ⊎ IsRefusal asked bytes e → (asked.reading.explain ≡ false → help ≡ []) → IsHelp asked (Some bytes) (Err e) help
-  refused_helped refused plain = record { unexplained = plain; silent = tt; explained = refused_explained refused }
+-- the help for an input that is refused for a key
+pub refused_helped : (asked : Asked) (bytes : List ℕ) (at : ℕ) (help : List ℕ) → refused_at asked bytes ≡ Some at
+    → IsExplained asked.request bytes (Some BadShape) help → (asked.reading.explain ≡ false → help ≡ []) → IsHelp asked (Some bytes) (Err (unread_fault at)) help
+refused_helped asked bytes at help is explained plain =
+    record {
+      unexplained = plain;
+      silent = tt;
+      explained = subst (λ o. IsExplained asked.request bytes (fault_explained o (Some (unread_fault at))) help) (sym is) explained;
+    }
 
 -- the help for the end of the work, over an input that is not refused
 module _ (asked : Asked) (bytes : List ℕ) (fault : Option InputFault) (help : List ℕ) (unrefused : refused_at asked bytes ≡ None) (explained : IsExplained asked.request bytes fault help) where

@@ -21,6 +21,7 @@ use Rattle.mh_profile.specs.Planning as profile
 use Rattle.mh_profile.specs.declared.planning.ProfileOptions.{ProfileOptions}
 use Rattle.mh_command.specs.Readings.{fault_explained, form_of, refused_at, unread_fault, unread_in, IsExplained, IsRefusal}
 use Rattle.mh_command.specs.Statuses.{status_found}
+use Rattle.mh_command.specs.Streams.{IsCut, IsTold}
 use Rattle.mh_command.specs.declared.request.Asked.{Asked}
 use Rattle.mh_command.specs.declared.request.Request.{Request}
 use Rattle.mh_command.specs.declared.request.Request.TheVariants as request
@@ -154,12 +155,11 @@ FailsIn asked input old new ReadHasFailed WriteHasFailed e =
     (Keeps old new × IsUnread (IsRefusal asked) input ReadHasFailed e)
     ⊎ (IfSome input (λ bytes. refused_at asked bytes ≡ None) × FailsOn asked.request input old new ReadHasFailed WriteHasFailed e)
 
--- What is asked ends in a fault: its own; or that of the last flush, or of what explains the answer; and the whole answer is then
--- written.
+-- What is asked ends in a fault: its own; or that of the last flush, and the whole answer is then written.
 abbrev pub EndsIn : Asked → Option (List ℕ) → Option (List ℕ) → Option (List ℕ) → Type 0 → Type 0 → Fault → Type 0
 EndsIn asked input old new ReadHasFailed WriteHasFailed e =
     FailsIn asked input old new ReadHasFailed WriteHasFailed e
-    ⊎ ((e ≡ outside WriteFailed) × (WriteHasFailed ⊎ (asked.reading.explain ≡ true)) × ((status : ℕ) × Works asked input old new status))
+    ⊎ ((e ≡ outside WriteFailed) × WriteHasFailed × ((status : ℕ) × Works asked input old new status))
 
 -- the fault of an end
 abbrev pub fault_at : Result ℕ Fault → Option Fault
@@ -172,3 +172,21 @@ pub record IsHelp (asked : Asked) (input : Option (List ℕ)) (end : Result ℕ 
   pub unexplained : asked.reading.explain ≡ false → help ≡ []
   pub silent : IfOk end (λ status. IfSome input (λ bytes. unread_in (form_of asked.request) bytes ≡ None → help ≡ []))
   pub explained : IfSome input (λ bytes. IsExplained asked.request bytes (fault_explained (refused_at asked bytes) (fault_at end)) help)
+
+-- What is asked over an input, from the output o to n and from the errors e to f. The numbers are the failures of the errors.
+module _ (asked : Asked) (input o n : Option (List ℕ)) (ReadHasFailed WriteHasFailed : Type 0) (e f : Option (List ℕ)) (failures_old failures_new : ℕ) where
+  -- it ends in a fault, which is told with what explains it, or that was kept back
+  abbrev pub IsTurnedAway : ℕ → Type 0
+  IsTurnedAway status =
+      (fault : Fault) × EndsIn asked input o n ReadHasFailed WriteHasFailed fault
+      × ((help : List ℕ) × IsHelp asked input (Err fault) help × IsTold e f failures_old failures_new help status fault)
+
+  -- its whole answer is written, and a part of what is told beside it was kept back
+  abbrev pub IsCutBeside : ℕ → Type 0
+  IsCutBeside status =
+      (status ≡ 3) × ((found : ℕ) × Works asked input o n found
+      × ((help : List ℕ) × IsHelp asked input (Ok found) help × IsCut e f failures_old failures_new help))
+
+  -- it has no answer: it ends in a fault that is told, or a part of what is told beside its answer was kept back
+  abbrev pub IsStopped : ℕ → Type 0
+  IsStopped status = IsTurnedAway status ⊎ IsCutBeside status

@@ -9,8 +9,8 @@ use Rattle.mh_text.specs.declared.fault.TextFault.{TextFault}
 use Rattle.mh_text.specs.declared.fault.TextFault.TheVariants.{Input, ReadFailed, WriteFailed, NoReader}
 use Rattle.mh_explain.specs.Explanations.{Explains}
 use Rattle.mh_explain.specs.Unread.{first_unread}
-use Rattle.mh_explain.specs.declared.input.InputForm.{InputForm}
-use Rattle.mh_explain.specs.declared.input.InputForm.TheVariants.{Script, Problem, Claim}
+use Rattle.mh_text.specs.declared.json.form.InputForm.{InputForm}
+use Rattle.mh_text.specs.declared.json.form.InputForm.TheVariants.{Script, Problem, Claim}
 use Rattle.mh_profile.specs.Claims.{IsParted}
 use Rattle.mh_profile.specs.Faulty.{IsFaulty, IsUnknown}
 use Rattle.mh_profile.specs.declared.faulty.FaultyLine.{FaultyLine}
@@ -55,9 +55,10 @@ abbrev pub fault_told : Option Fault → Option InputFault
 fault_told None = None
 fault_told (Some e) = input_fault e.kind
 
--- the fault of an input that is explained: none where the input is refused for a key that nothing reads, which has its note
+-- the fault of an input that is explained; where the input is refused for a key that nothing reads, which has its note, it is its
+-- first other fault
 abbrev pub fault_explained : Option ℕ → Option Fault → Option InputFault
-fault_explained (Some at) fault = None
+fault_explained (Some at) fault = Some BadShape
 fault_explained None fault = fault_told fault
 
 -- the lines of the profile in an input

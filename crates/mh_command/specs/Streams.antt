@@ -1,10 +1,14 @@
 -- What happens to the streams of a command line.
-use Rattle.std.specs.Prelude.{◌≡◌, ◌≢◌, ◌⊎◌, ℕ, Bool, false, List, [], ◌++◌, Option}
+use Rattle.std.specs.Prelude.{◌≡◌, ◌≢◌, ◌⊎◌, ℕ, List, [], ◌++◌, Option}
 use Rattle.std.specs.Io.KnownBytes.{Appends, Keeps}
 use Rattle.mh_text.specs.Bytes.{HasFailed}
 use Rattle.mh_text.specs.Faults.{fault_line}
 use Rattle.mh_text.specs.declared.fault.Fault.{Fault}
 use Rattle.mh_command.specs.Statuses.{status_told}
+
+-- known bytes grow by a beginning of a text, which may be all of it
+abbrev pub AppendsBeginning : Option (List ℕ) → Option (List ℕ) → List ℕ → Type 0
+AppendsBeginning old new text = (front rest : List ℕ) × (text ≡ front ++ rest) × Appends old new front
 
 -- The numbers are the failures of the stream before and after.
 module _ (old new : Option (List ℕ)) (failures_old failures_new : ℕ) where
@@ -12,26 +16,27 @@ module _ (old new : Option (List ℕ)) (failures_old failures_new : ℕ) where
   abbrev pub IsIdle : Type 0
   IsIdle = Keeps old new × (failures_new ≡ failures_old)
 
-  -- a text was kept back: its write failed, or memory ran out before it
-  abbrev pub IsKeptBack : ℕ → Type 0
-  IsKeptBack status = ((status ≡ 3) × HasFailed failures_old failures_new) ⊎ ((status ≡ 4) × IsIdle)
+  -- a text stands written, and nothing failed
+  abbrev pub IsWritten : List ℕ → Type 0
+  IsWritten text = Appends old new text × (failures_new ≡ failures_old)
+
+  -- the stream failed behind a beginning of a text, which stands written
+  abbrev pub IsCut : List ℕ → Type 0
+  IsCut text = HasFailed failures_old failures_new × AppendsBeginning old new text
+
+  -- a text was kept back: the stream failed, or memory ran out before it
+  abbrev pub IsKeptBack : List ℕ → ℕ → Type 0
+  IsKeptBack text status = ((status ≡ 3) × IsCut text) ⊎ ((status ≡ 4) × IsIdle)
 
   -- the line of a fault stands written with what explains it, and the status is its own; or this was kept back
   abbrev pub IsTold : List ℕ → ℕ → Fault → Type 0
   IsTold help status e =
-      ((status ≡ status_told e.kind) × Appends old new (fault_line e ++ help) × (failures_new ≡ failures_old)) ⊎ IsKeptBack status
-
-  -- the same, with nothing that explains it where that is not asked for
-  abbrev pub IsToldFor : Bool → ℕ → Fault → Type 0
-  IsToldFor explain status e = (help : List ℕ) × (explain ≡ false → help ≡ []) × IsTold help status e
+      ((status ≡ status_told e.kind) × IsWritten (fault_line e ++ help)) ⊎ IsKeptBack (fault_line e ++ help) status
 
   -- some text that is not empty stands written, with this status; or it was kept back
   abbrev pub IsShown : ℕ → ℕ → Type 0
-  IsShown status wanted =
-      ((status ≡ wanted) × ((text : List ℕ) × (text ≢ []) × Appends old new text) × (failures_new ≡ failures_old)) ⊎ IsKeptBack status
+  IsShown status wanted = (text : List ℕ) × (text ≢ []) × (((status ≡ wanted) × IsWritten text) ⊎ IsKeptBack text status)
 
   -- there was no fault to tell, and the rest stands written; or a part of it was kept back
   abbrev pub IsDone : List ℕ → ℕ → ℕ → Type 0
-  IsDone help status wanted =
-      ((status ≡ wanted) × Appends old new help × (failures_new ≡ failures_old))
-      ⊎ ((help ≢ []) × (status ≡ 3) × HasFailed failures_old failures_new)
+  IsDone help status wanted = ((status ≡ wanted) × IsWritten help) ⊎ ((help ≢ []) × (status ≡ 3) × IsCut help)

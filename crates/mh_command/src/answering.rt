@@ -1,5 +1,5 @@
 //! What is told of the work for a request, and of words that ask for none.
-ghost use Rattle.std.specs.Prelude.{◌≡◌, ◌≢◌, ◌++◌, ◌⊎◌, string_bytes, IfOk, IfErr, OnOk, OnErr};
+ghost use Rattle.std.specs.Prelude.{◌≡◌, ◌≢◌, ◌++◌, ◌<◌, ◌⊎◌, string_bytes, IfOk, IfErr, OnOk, OnErr};
 ghost use Rattle.std.specs.Io.KnownBytes.{Appends, Keeps};
 ghost use Rattle.clap.specs.Words.{kind_of};
 ghost use Rattle.clap.specs.declared.error.kind.ErrorKind.{ErrorKind};
@@ -8,7 +8,7 @@ ghost use Rattle.mh_text.specs.Output.{outside};
 ghost use Rattle.mh_text.specs.declared.fault.TextFault.TheVariants.{WriteFailed};
 ghost use Rattle.mh_command.specs.CommandLine.{IsReply};
 ghost use Rattle.mh_command.specs.Statuses.{status_answered};
-ghost use Rattle.mh_command.specs.Streams.{IsTold, IsShown, IsDone};
+ghost use Rattle.mh_command.specs.Streams.{IsCut, IsTold, IsShown, IsDone};
 
 use crate::status::{COMMAND_LINE, DONE, IO_FAILED, NO_MEMORY, status_of_fault};
 use crate::working::Outcome;
@@ -23,7 +23,8 @@ fn write_text<W: Write>(stream: &mut Watched<W>, text: &str, help: &str) -> Resu
     ensures ok { OnOk result (Appends (W.contents stream.old.inner)
         (W.contents stream.new.inner) (text.now ++ help.now)) }
     ensures kept { OnOk result (stream.new.failures ≡ stream.old.failures) }
-    ensures failed { OnErr result (HasFailed stream.old.failures stream.new.failures) }
+    ensures cut { OnErr result (IsCut (W.contents stream.old.inner) (W.contents stream.new.inner)
+        stream.old.failures stream.new.failures (text.now ++ help.now)) }
 {
     stream.write_all(text.as_bytes())?;
     stream.write_all(help.as_bytes())?;
@@ -128,10 +129,13 @@ pub(crate) fn reply<W: Write, E: Write>(
     ensures told { status_answered (kind_of error.now) ≡ 2
         → IsShown (E.contents err.old.inner) (E.contents err.new.inner) err.old.failures
         err.new.failures result 2 }
+    ensures output { status_answered (kind_of error.now) ≡ 2 → out.new ≡ out.old }
+    ensures errors { status_answered (kind_of error.now) ≡ 0 → err.new ≡ err.old }
     ensures unread { result ≢ 1 }
-    ensures help { result ≡ 0 → Keeps (E.contents err.old.inner) (E.contents err.new.inner)
-        × (out.new.failures ≡ out.old.failures) × (err.new.failures ≡ err.old.failures) }
-    ensures wrong { result ≡ 2 → Keeps (W.contents out.old.inner) (W.contents out.new.inner) }
+    ensures help { result ≡ 0 → err.new ≡ err.old }
+    ensures wrong { result ≡ 2 → out.new ≡ out.old }
+    ensures done { result < 3 → (out.new.failures ≡ out.old.failures)
+        × (err.new.failures ≡ err.old.failures) }
     ensures failed { result ≡ 3 → HasFailed out.old.failures out.new.failures
         ⊎ HasFailed err.old.failures err.new.failures }
 {

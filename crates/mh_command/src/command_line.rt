@@ -2,13 +2,12 @@
 ghost use Rattle.std.specs.Prelude.{◌≡◌, ◌≢◌, ◌⊎◌, ◌<◌, ◌≤◌, [], ◌∷◌, false, map, IfSome};
 ghost use Rattle.clap.specs.Words.{fault_of};
 ghost use Rattle.clap.specs.declared.error.kind.ErrorKind.{ErrorKind};
-ghost use Rattle.std.specs.Io.KnownBytes.{Keeps};
+ghost use Rattle.std.specs.Io.KnownBytes.{IsAtEnd, Keeps};
 ghost use Rattle.mh_text.specs.Bytes.{HasFailed};
-ghost use Rattle.mh_text.specs.declared.fault.Fault.{Fault};
-ghost use Rattle.mh_command.specs.Answers.{Answers, EndsIn, IsTurnedDown};
+ghost use Rattle.mh_command.specs.Answers.{Answers, IsStopped, IsTurnedDown};
 ghost use Rattle.mh_command.specs.CommandLine.{program, AsksFor, AsksNoExplanation, AsksHelp, AsksVersion, HasWorkers, IsReply};
 ghost use Rattle.mh_command.specs.Statuses.{status_answered};
-ghost use Rattle.mh_command.specs.Streams.{IsShown, IsToldFor};
+ghost use Rattle.mh_command.specs.Streams.{IsShown};
 ghost use Rattle.mh_command.specs.declared.request.Asked.{Asked};
 
 use crate::answering::{end, reply};
@@ -37,17 +36,17 @@ fn perform<T: Threads + Wait + Sync, R: Read, W: Write, E: Write>(
     ensures answers { result < 2 → Answers asked (R.remaining reader.old.inner) result
         (W.contents out.old.inner) (W.contents out.new.inner) (E.contents err.old.inner)
         (E.contents err.new.inner) }
-    ensures stopped { 2 ≤ result → (e : Fault)
-        × EndsIn asked (R.remaining reader.old.inner) (W.contents out.old.inner)
-        (W.contents out.new.inner) (HasFailed reader.old.failures reader.new.failures)
-        (HasFailed out.old.failures out.new.failures) e
-        × IsToldFor (E.contents err.old.inner) (E.contents err.new.inner) err.old.failures
-        err.new.failures asked.reading.explain result e }
+    ensures stopped { 2 ≤ result → IsStopped asked (R.remaining reader.old.inner)
+        (W.contents out.old.inner) (W.contents out.new.inner)
+        (HasFailed reader.old.failures reader.new.failures)
+        (HasFailed out.old.failures out.new.failures) (E.contents err.old.inner)
+        (E.contents err.new.inner) err.old.failures err.new.failures result }
     ensures failed { result ≡ 3 → HasFailed reader.old.failures reader.new.failures
         ⊎ HasFailed out.old.failures out.new.failures
         ⊎ HasFailed err.old.failures err.new.failures }
-    ensures done { result ≡ 0 → (reader.new.failures ≡ reader.old.failures)
+    ensures done { result < 3 → (reader.new.failures ≡ reader.old.failures)
         × (out.new.failures ≡ out.old.failures) × (err.new.failures ≡ err.old.failures) }
+    ensures end { result ≡ 0 → IsAtEnd (R.remaining reader.new.inner) }
     ensures unexplained { result ≡ 0 → asked.reading.explain ≡ false
         → Keeps (E.contents err.old.inner) (E.contents err.new.inner) }
 {
@@ -94,32 +93,35 @@ pub fn command<T: Threads + Wait + Sync, S: AsStr, R: Read, W: Write, E: Write>(
         → Answers asked (R.remaining reader.old.inner) result (W.contents out.old.inner)
         (W.contents out.new.inner) (E.contents err.old.inner) (E.contents err.new.inner) }
     ensures stopped { (asked : Asked) → AsksFor asked (map S.text words.now) → 2 ≤ result
-        → (e : Fault) × EndsIn asked (R.remaining reader.old.inner) (W.contents out.old.inner)
+        → IsStopped asked (R.remaining reader.old.inner) (W.contents out.old.inner)
         (W.contents out.new.inner) (HasFailed reader.old.failures reader.new.failures)
-        (HasFailed out.old.failures out.new.failures) e
-        × IsToldFor (E.contents err.old.inner) (E.contents err.new.inner) err.old.failures
-        err.new.failures asked.reading.explain result e }
+        (HasFailed out.old.failures out.new.failures) (E.contents err.old.inner)
+        (E.contents err.new.inner) err.old.failures err.new.failures result }
     ensures turned_down { result ≡ 1 → IfSome (R.remaining reader.old.inner) IsTurnedDown }
     ensures failed { result ≡ 3 → HasFailed reader.old.failures reader.new.failures
         ⊎ HasFailed out.old.failures out.new.failures
         ⊎ HasFailed err.old.failures err.new.failures }
-    ensures done { result ≡ 0 → (reader.new.failures ≡ reader.old.failures)
+    ensures done { result < 3 → (reader.new.failures ≡ reader.old.failures)
         × (out.new.failures ≡ out.old.failures) × (err.new.failures ≡ err.old.failures) }
+    ensures end { (asked : Asked) → AsksFor asked (map S.text words.now) → result ≡ 0
+        → IsAtEnd (R.remaining reader.new.inner) }
     ensures unexplained { result ≡ 0 → AsksNoExplanation (map S.text words.now)
         → Keeps (E.contents err.old.inner) (E.contents err.new.inner) }
-    ensures wrong { result ≡ 2 → Keeps (W.contents out.old.inner) (W.contents out.new.inner)
-        × (reader.new ≡ reader.old) }
+    ensures wrong { result ≡ 2 → (out.new ≡ out.old) × (reader.new ≡ reader.old) }
     ensures replied { (kind : ErrorKind) → fault_of program (map S.text words.now) ≡ kind ∷ []
         → IsReply result kind × (reader.new ≡ reader.old) }
     ensures told { (kind : ErrorKind) → fault_of program (map S.text words.now) ≡ kind ∷ []
         → status_answered kind ≡ 2 → IsShown (E.contents err.old.inner) (E.contents err.new.inner)
-        err.old.failures err.new.failures result 2 }
+        err.old.failures err.new.failures result 2 × (out.new ≡ out.old) }
+    ensures shown { (kind : ErrorKind) → fault_of program (map S.text words.now) ≡ kind ∷ []
+        → status_answered kind ≡ 0 → IsShown (W.contents out.old.inner) (W.contents out.new.inner)
+        out.old.failures out.new.failures result 0 × (err.new ≡ err.old) }
     ensures help { AsksHelp (map S.text words.now) → IsShown (W.contents out.old.inner)
         (W.contents out.new.inner) out.old.failures out.new.failures result 0
-        × (reader.new ≡ reader.old) }
+        × (err.new ≡ err.old) × (reader.new ≡ reader.old) }
     ensures version { AsksVersion (map S.text words.now) → IsShown (W.contents out.old.inner)
         (W.contents out.new.inner) out.old.failures out.new.failures result 0
-        × (reader.new ≡ reader.old) }
+        × (err.new ≡ err.old) × (reader.new ≡ reader.old) }
 {
     match parse(alloc, words) {
         Ok(Some(asked)) => perform(rt, alloc, asked, reader, out, err),

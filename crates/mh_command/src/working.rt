@@ -1,13 +1,14 @@
 //! Work for what is asked, over an input that is read whole first where the options of reading want
 //! it.
 ghost use Rattle.std.specs.Prelude.{◌≡◌, ◌≢◌, ◌<◌, ◌⊎◌, [], None, Some, false, string_bytes, IfOk, IfErr, IfSome, OnOk};
+ghost use Rattle.std.specs.Io.KnownBytes.{IsAtEnd};
 ghost use Rattle.mh_text.specs.Bytes.{HasFailed};
-ghost use Rattle.mh_text.specs.Gives.{no_memory, IsHonest, IsHonestReading};
+ghost use Rattle.mh_text.specs.Gives.{no_memory, IsHonest, IsHonestReading, NoOtherFailed};
 ghost use Rattle.mh_text.specs.Output.{outside, IsUnread};
-ghost use Rattle.mh_text.specs.declared.fault.TextFault.TheVariants.{ReadFailed};
+ghost use Rattle.mh_text.specs.declared.fault.TextFault.TheVariants.{ReadFailed, WriteFailed};
 ghost use Rattle.mh_command.specs.Answers.{fault_at, Works, WorksOn, FailsIn, FailsOn, IsFaultOf, IsHelp};
 ghost use Rattle.mh_command.specs.CommandLine.{HasWorkers};
-ghost use Rattle.mh_command.specs.Readings.{fault_told, form_of, refused_at, unread_in, ExplainsFault, IsExplained, IsRefusal};
+ghost use Rattle.mh_command.specs.Readings.{fault_told, form_of, refused_at, unread_fault as fault_unread, unread_in, ExplainsFault, IsExplained};
 
 use crate::line_reasons::line_reasons;
 use crate::request::{Asked, Request};
@@ -64,6 +65,9 @@ fn work<T: Threads + Wait + Sync, R: Read, W: Write>(
         (HasFailed out.old.failures out.new.failures)) }
     ensures honest { IsHonest result reader.old.failures reader.new.failures
         out.old.failures out.new.failures }
+    ensures others { IfErr result (λ e. NoOtherFailed e.kind reader.old.failures
+        reader.new.failures out.old.failures out.new.failures) }
+    ensures end { OnOk result (IsAtEnd (R.remaining reader.new.inner)) }
 {
     match request {
         Request::Run(options) => {
@@ -121,6 +125,8 @@ fn work_over<T: Threads + Wait + Sync, W: Write>(
         (W.contents out.old.inner) (W.contents out.new.inner) ⊥
         (HasFailed out.old.failures out.new.failures)) }
     ensures honest { IsHonest result 0 0 out.old.failures out.new.failures }
+    ensures others { IfErr result (λ e. e.kind ≢ WriteFailed
+        → out.new.failures ≡ out.old.failures) }
 {
     let mut reader = Watched::new(input);
     match work(rt, alloc, request, &mut reader, out) {
@@ -142,20 +148,23 @@ fn unread(alloc: Global, request: Request, input: &[u8]) -> Result<UnreadKeys, N
     }
 }
 
-/// Refuses an input for its first key that nothing reads, where that is asked.
-fn refuse_unread(alloc: Global, asked: Asked, input: &[u8]) -> Result<(), Fault>
-    ensures ok { OnOk result (refused_at asked input.now ≡ None) }
-    ensures fails { IfErr result (λ e. (e ≡ outside no_memory) ⊎ IsRefusal asked input.now e) }
+/// Where the first key stands that nothing reads, if the input is refused for it.
+fn refused(alloc: Global, asked: Asked, input: &[u8]) -> Result<Option<u64>, NoMemory>
+    ensures value { IfOk result (λ at. at ≡ refused_at asked input.now) }
 {
     if !asked.reading.strict {
-        return Ok(());
+        return Ok(None);
     }
-    match unread(alloc, asked.request, input)?.first {
-        None => Ok(()),
-        Some(at) => Err(Fault {
-            kind: TextFault::Input(InputFault::BadShape),
-            at,
-        }),
+    Ok(unread(alloc, asked.request, input)?.first)
+}
+
+/// The fault of a key that nothing reads, in the event of this number, or outside the events at 0.
+fn unread_fault(at: u64) -> Fault
+    ensures value { result ≡ fault_unread at }
+{
+    Fault {
+        kind: TextFault::Input(InputFault::BadShape),
+        at,
     }
 }
 
@@ -269,18 +278,23 @@ fn work_on<T: Threads + Wait + Sync, W: Write>(
         (W.contents out.old.inner) (W.contents out.new.inner) ⊥
         (HasFailed out.old.failures out.new.failures)) }
     ensures honest { IsHonest result.end 0 0 out.old.failures out.new.failures }
+    ensures others { IfErr result.end (λ e. e.kind ≢ WriteFailed
+        → out.new.failures ≡ out.old.failures) }
     ensures help { IsHelp asked (Some input.now) result.end (string_bytes result.help) }
 {
-    if let Err(fault) = refuse_unread(alloc, asked, input) {
-        return Outcome {
-            end: Err(fault),
-            help: help_for(alloc, asked, input, None),
-        };
-    }
-    let end = work_over(rt, alloc, asked.request, input, out);
-    Outcome {
-        end,
-        help: help_for(alloc, asked, input, fault_of(end)),
+    match refused(alloc, asked, input) {
+        Ok(None) => {
+            let end = work_over(rt, alloc, asked.request, input, out);
+            Outcome {
+                end,
+                help: help_for(alloc, asked, input, fault_of(end)),
+            }
+        }
+        Ok(Some(at)) => Outcome {
+            end: Err(unread_fault(at)),
+            help: help_for(alloc, asked, input, Some(InputFault::BadShape)),
+        },
+        Err(NoMemory) => Outcome::alone(alloc, Err(Fault::from(InputFault::NoMemory))),
     }
 }
 
@@ -303,6 +317,9 @@ fn work_whole<T: Threads + Wait + Sync, R: Read, W: Write>(
         (HasFailed out.old.failures out.new.failures)) }
     ensures honest { IsHonest result.end reader.old.failures reader.new.failures
         out.old.failures out.new.failures }
+    ensures others { IfErr result.end (λ e. NoOtherFailed e.kind reader.old.failures
+        reader.new.failures out.old.failures out.new.failures) }
+    ensures end { OnOk result.end (IsAtEnd (R.remaining reader.new.inner)) }
     ensures help { IsHelp asked (R.remaining reader.old.inner) result.end
         (string_bytes result.help) }
 {
@@ -324,6 +341,9 @@ fn keep_lines<R: Read>(
     ensures failed { IfErr result (IsUnread (IsFaultOf request) (R.remaining reader.old.inner)
         (HasFailed reader.old.failures reader.new.failures)) }
     ensures honest { IsHonestReading result reader.old.failures reader.new.failures }
+    ensures others { IfErr result (λ e. e.kind ≢ ReadFailed
+        → reader.new.failures ≡ reader.old.failures) }
+    ensures end { OnOk result (IsAtEnd (R.remaining reader.new.inner)) }
 {
     match request {
         Request::CheckProfile => keep_claim(alloc, reader),
@@ -355,6 +375,9 @@ fn work_lines<T: Threads + Wait + Sync, R: Read, W: Write>(
         (HasFailed out.old.failures out.new.failures)) }
     ensures honest { IsHonest result.end reader.old.failures reader.new.failures
         out.old.failures out.new.failures }
+    ensures others { IfErr result.end (λ e. NoOtherFailed e.kind reader.old.failures
+        reader.new.failures out.old.failures out.new.failures) }
+    ensures end { OnOk result.end (IsAtEnd (R.remaining reader.new.inner)) }
     ensures help { IsHelp asked (R.remaining reader.old.inner) result.end
         (string_bytes result.help) }
 {
@@ -382,6 +405,9 @@ pub(crate) fn work_asked<T: Threads + Wait + Sync, R: Read, W: Write>(
         (HasFailed out.old.failures out.new.failures)) }
     ensures honest { IsHonest result.end reader.old.failures reader.new.failures
         out.old.failures out.new.failures }
+    ensures others { IfErr result.end (λ e. NoOtherFailed e.kind reader.old.failures
+        reader.new.failures out.old.failures out.new.failures) }
+    ensures end { OnOk result.end (IsAtEnd (R.remaining reader.new.inner)) }
     ensures help { IsHelp asked (R.remaining reader.old.inner) result.end
         (string_bytes result.help) }
 {

@@ -4,10 +4,7 @@ use Rattle.serde_json.specs.View.{view, items_view}
 use Rattle.serde_json.specs.declared.value.Value.{Value, Array}
 use Rattle.serde_json.proofs.Views.{view-Array}
 use Rattle.mh_text.specs.Shape.{to_list}
-use Rattle.mh_text.specs.declared.json.scope.Scope.{Scope}
-use Rattle.mh_explain.specs.declared.form.Shape.{Shape}
-use Rattle.mh_explain.specs.Forms.{items_fault, list_fault}
-use Rattle.mh_explain.specs.Trees.{items_in}
+use Rattle.mh_explain.specs.Unread.{items_in}
 
 pub to_list-items_view : (vs : List Value) → to_list (items_view vs) ≡ map view vs
 to_list-items_view [] = refl
@@ -15,7 +12,3 @@ to_list-items_view (v ∷ vs) = ap (λ ds. view v ∷ ds) (to_list-items_view vs
 
 pub items_in_array : (v : Vec Value Global) → items_in (view (Array v)) ≡ map view v.items
 items_in_array v = rw (view-Array v) (to_list-items_view v.items)
-
--- the fault of an array is that of its items
-pub list_fault_array : (scope : Scope) (shape : Shape) (v : Vec Value Global) → list_fault scope shape (view (Array v)) ≡ items_fault scope shape 0 (map view v.items)
-list_fault_array scope shape v = rw (view-Array v, to_list-items_view v.items) refl

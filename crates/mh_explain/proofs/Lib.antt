@@ -1,9 +1,3 @@
-mod Depths
-mod Faults
-mod Firsts
 mod Items
-mod Lists
 mod Names
-mod Problems
 mod Unreads
-mod Whole

@@ -3,7 +3,7 @@ use Rattle.std.proofs.Common.{◌≡◌, ℕ, ◌∷◌, [], Option, Some, None,
 use Rattle.serde_json.specs.Data.{Data}
 use Rattle.mh_text.specs.declared.fault.Fault.{Fault}
 use Rattle.mh_text.specs.Inputs.{json_of_input}
-use Rattle.mh_explain.specs.declared.input.InputForm.{InputForm}
+use Rattle.mh_text.specs.declared.json.form.InputForm.{InputForm}
 use Rattle.mh_explain.specs.Unread.{Objects, first_along, first_of, first_of_read, first_unread, first_unread_in, or_later}
 
 pub unread_of_json : (form : InputForm) (bytes : List ℕ) (d : Data) → json_of_input bytes ≡ Ok d → first_unread form bytes ≡ first_unread_in form d

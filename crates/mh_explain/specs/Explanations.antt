@@ -1,26 +1,21 @@
 -- What an explanation of a fault tells of its place.
-use Rattle.std.specs.Prelude.{ℕ, ◌≡◌, Bool, true, false, List, [], ◌∷◌, ◌++◌, Some, Ok, codes}
-use Rattle.serde_json.specs.Data.{Data}
-use Rattle.mh_text.specs.declared.fault.InputFault.{InputFault}
-use Rattle.mh_text.specs.declared.fault.InputFault.TheVariants.{NoMemory, TooLong, NotJson}
+use Rattle.std.specs.Prelude.{ℕ, ◌≡◌, Bool, true, false, List, [], ◌∷◌, ◌++◌, Option, Some, None, Result, Ok, Err, codes, ⊤}
+use Rattle.serde_json.specs.Data.{Data, array, member, no_items, no_members, number, object, unsigned}
+use Rattle.mh_text.specs.Forms.{misread_by}
 use Rattle.mh_text.specs.Inputs.{json_of_input}
-use Rattle.mh_explain.specs.declared.input.InputForm.{InputForm}
-use Rattle.mh_explain.specs.declared.input.InputForm.TheVariants.{Script, Problem, Claim}
-use Rattle.mh_explain.specs.declared.key.Key.{Key}
-use Rattle.mh_explain.specs.Keys.{path_text}
-use Rattle.mh_explain.specs.Places.{Reading, script, problem, claim, fault_of, IsPlace, Leads}
+use Rattle.mh_text.specs.Keys.{path_text}
+use Rattle.mh_text.specs.Misreads.{MisreadData}
+use Rattle.mh_text.specs.declared.fault.Fault.{Fault}
+use Rattle.mh_text.specs.declared.fault.InputFault.{InputFault}
+use Rattle.mh_text.specs.declared.fault.InputFault.TheVariants.{NoMemory, TooLong}
+use Rattle.mh_text.specs.declared.key.Key.{Key}
+use Rattle.mh_text.specs.declared.json.form.InputForm.{InputForm}
+use Rattle.mh_text.specs.declared.json.form.InputForm.TheVariants as form
 
--- what an input of a form is read as
-abbrev pub reading_of : InputForm → Reading
-reading_of Script = script
-reading_of Problem = problem
-reading_of Claim = claim
-
--- whether a fault is one of parts of a value, and not of memory, of the length or of the text
+-- whether some part of an input, or its text, has a fault
 abbrev pub is_of_part : InputFault → Bool
 is_of_part NoMemory = false
 is_of_part TooLong = false
-is_of_part NotJson = false
 is_of_part _ = true
 
 -- a place as a line shows it
@@ -28,12 +23,35 @@ abbrev pub place_text : List Key → List ℕ
 place_text [] = codes "the input itself"
 place_text (key ∷ rest) = path_text (key ∷ rest)
 
--- the lines begin with that of the place of the fault, to which the reading of this form leads
-abbrev pub NamesPlace : InputForm → InputFault → Data → List ℕ → Type 0
-NamesPlace form e d lines =
-    (path : List Key) × (rest : List ℕ) × IsPlace e d path × Leads e (reading_of form) d path × (lines ≡ codes "  where: " ++ (place_text path ++ (10 ∷ rest)))
+-- lines begin with that of a place
+abbrev pub NamesPlace : List Key → List ℕ → Type 0
+NamesPlace path lines = (rest : List ℕ) × (lines ≡ codes "  where: " ++ (place_text path ++ (10 ∷ rest)))
 
--- lines explain a fault of an input that is read as this form: where a part of it has the fault, they begin with that of its place
+-- lines explain the fault of a value: they begin with that of its place; there are none where there is no fault
+abbrev pub ExplainsMisread : Option MisreadData → List ℕ → Type 0
+ExplainsMisread (Some misread) lines = NamesPlace misread.path lines
+ExplainsMisread None lines = lines ≡ []
+
+-- the same of an input; of a text that is no JSON nothing is said
+abbrev pub ExplainsRead : InputForm → Result Data Fault → List ℕ → Type 0
+ExplainsRead form (Ok d) lines = ExplainsMisread (misread_by form d) lines
+ExplainsRead form (Err e) lines = ⊤
+
+-- lines explain a fault of an input that is read as this form
 abbrev pub Explains : InputForm → List ℕ → InputFault → List ℕ → Type 0
-Explains form input e lines =
-    is_of_part e ≡ true → (d : Data) → json_of_input input ≡ Ok d → fault_of (reading_of form) d ≡ Some e → NamesPlace form e d lines
+Explains form input e lines = is_of_part e ≡ true → ExplainsRead form (json_of_input input) lines
+
+-- the script of a definition, with one worker and without events
+abbrev pub script_around : Data → Data
+script_around definition =
+    object (member (codes "definition") definition
+    (member (codes "events") (array no_items)
+    (member (codes "workers") (number (unsigned 1)) no_members)))
+
+-- lines explain the fault of a definition that stands alone: those of its script
+abbrev pub ExplainsAlone : Result Data Fault → List ℕ → Type 0
+ExplainsAlone (Ok d) lines = ExplainsMisread (misread_by form.Script (script_around d)) lines
+ExplainsAlone (Err e) lines = ⊤
+
+abbrev pub ExplainsDefinition : List ℕ → List ℕ → Type 0
+ExplainsDefinition input lines = ExplainsAlone (json_of_input input) lines

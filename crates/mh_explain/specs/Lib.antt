@@ -1,13 +1,3 @@
-pub mod Closed
 pub mod Explanations
-pub mod Forms
-pub mod Keys
-pub mod Laws
-pub mod Looks
 pub mod Near
-pub mod Parts
-pub mod Places
-pub mod Problems
-pub mod Told
-pub mod Trees
 pub mod Unread

@@ -1,4 +1,4 @@
--- The keys of an input that nothing reads: where objects stand in each form of input, and which keys of each are read.
+-- The keys of an input that nothing reads: where objects stand in each form of input, and which keys of each are known.
 use Rattle.std.specs.Prelude.{ℕ, ◌+◌, ◌||◌, List, [], ◌∷◌, ◌++◌, Option, Some, None, Bool, false, not, codes, bytes_eq, Result, Ok, Err, if◌then◌else◌}
 use Rattle.serde_json.specs.Data.{Data, null, boolean, number, string, array, object, Members, no_members, member}
 use Rattle.serde_json.specs.Find.{get, at, as_str}
@@ -6,32 +6,32 @@ use Rattle.mh_site.specs.declared.version.Version.{Version}
 use Rattle.mh_site.specs.declared.version.Version.TheVariants.{One, Two}
 use Rattle.mh_text.specs.declared.fault.Fault.{Fault}
 use Rattle.mh_text.specs.Inputs.{json_of_input}
+use Rattle.mh_text.specs.Keys.{field_name}
+use Rattle.mh_text.specs.Misreads.{MisreadData}
+use Rattle.mh_text.specs.Shape.{to_list}
 use Rattle.mh_text.specs.Versions.{version_of}
-use Rattle.mh_explain.specs.declared.input.InputForm.{InputForm}
-use Rattle.mh_explain.specs.declared.input.InputForm.TheVariants as input
-use Rattle.mh_explain.specs.declared.key.Field.{Field}
-use Rattle.mh_explain.specs.declared.key.Field.TheVariants as field
+use Rattle.mh_text.specs.declared.json.form.InputForm.{InputForm}
+use Rattle.mh_text.specs.declared.json.form.InputForm.TheVariants as input
+use Rattle.mh_text.specs.declared.key.Field.{Field}
+use Rattle.mh_text.specs.declared.key.Field.TheVariants as field
 use Rattle.mh_explain.specs.declared.unread.Step.{Step}
 use Rattle.mh_explain.specs.declared.unread.Step.TheVariants.{At, Each, Offered}
-use Rattle.mh_explain.specs.Forms.{version_or_two}
-use Rattle.mh_explain.specs.Keys.{field_name}
-use Rattle.mh_explain.specs.Trees.{items_in}
 
--- objects of one kind: the steps that lead to them, and the keys that are read of each
+-- objects of one kind: the steps that lead to them, and the keys that are known of each
 pub record Objects : Type 0 where
   pub steps : List Step
   pub keys : List Field
 
--- the keys of a link, whose charge version 1 does not read
+-- the keys of a link, whose charge version 1 does not read; its name is known, for those who read the input, and is never read
 abbrev pub with_charge : Version → List Field → List Field
 with_charge One keys = keys
 with_charge Two keys = keys ++ field.Charge ∷ []
 
 abbrev pub link_keys : Version → List Field
-link_keys version = with_charge version (field.When ∷ field.Weight ∷ field.Needs ∷ [])
+link_keys version = with_charge version (field.When ∷ field.Weight ∷ field.Needs ∷ field.Name ∷ [])
 
 abbrev pub row_keys : Version → List Field
-row_keys version = with_charge version (field.Gain ∷ field.Eligible ∷ field.Needs ∷ [])
+row_keys version = with_charge version (field.Gain ∷ field.Eligible ∷ field.Needs ∷ field.Name ∷ [])
 
 abbrev pub plan_keys : List Field
 plan_keys = field.Links ∷ field.Points ∷ field.Value ∷ field.Flow ∷ field.Charges ∷ []
@@ -90,9 +90,18 @@ objects_of input.Script version = script_objects version
 objects_of input.Problem version = problem_objects version
 objects_of input.Claim version = claim_objects version
 
+-- a version that may be there: 2 where none is read
+abbrev pub version_or_two : Result Version MisreadData → Version
+version_or_two (Ok version) = version
+version_or_two (Err m) = Two
+
+abbrev pub version_where : Option Data → Version
+version_where (Some d) = version_or_two (version_of d)
+version_where None = Two
+
 -- the version of an object that may be there
 abbrev pub version_at : Option Data → Version
-version_at (Some d) = version_or_two (version_of d)
+version_at (Some d) = version_where (get (field_name field.Version) d)
 version_at None = Two
 
 -- the version of an input, which says whether charges are read
@@ -119,6 +128,15 @@ has_unread keys (boolean b) = false
 has_unread keys (number n) = false
 has_unread keys (string s) = false
 has_unread keys (array ds) = false
+
+-- the items of an array, and none of any other value
+abbrev pub items_in : Data → List Data
+items_in (array ds) = to_list ds
+items_in null = []
+items_in (boolean b) = []
+items_in (number n) = []
+items_in (string s) = []
+items_in (object ms) = []
 
 -- the first, or else the second
 abbrev pub or_later : Option ℕ → Option ℕ → Option ℕ

@@ -1,28 +1,13 @@
 //! What stands at the place of a fault, as a line shows it.
-use crate::key::Field;
 use crate::spot::Spot;
-use crate::tables::needed_keys;
 use crate::words::quoted;
 use mh_base::NoMemory;
-use mh_text::InputFault;
+use mh_text::Wanted;
 use serde_json::{Map, Value};
 use std::alloc::Global;
 
 /// The most bytes of a part that a line shows.
 const LONGEST: usize = 120;
-
-/// The first key that an object has to have and has not.
-pub(crate) fn missing_key(spot: &Spot<'_>) -> Option<Field> {
-    if !spot.value.is_object() {
-        return None;
-    }
-    for field in needed_keys(&spot.reading) {
-        if spot.value.get(field.name()).is_none() {
-            return Some(*field);
-        }
-    }
-    None
-}
 
 /// A text that is cut where it is too long, with `..` at its end.
 pub(crate) fn cut(alloc: Global, text: String) -> Result<String, NoMemory> {
@@ -58,11 +43,9 @@ fn keys(alloc: Global, members: &Map<String, Value>) -> Result<String, NoMemory>
 
 /// What stands at the place of a fault: the keys of an object that lacks one, and else the part as
 /// JSON, cut where it is long.
-pub(crate) fn found(alloc: Global, fault: InputFault, spot: &Spot<'_>) -> Result<String, NoMemory> {
-    if fault == InputFault::BadShape && missing_key(spot).is_some() {
-        if let Value::Object(members) = spot.value {
-            return cut(alloc, keys(alloc, members)?);
-        }
+pub(crate) fn found(alloc: Global, spot: &Spot<'_>) -> Result<String, NoMemory> {
+    match (spot.wanted, spot.value) {
+        (Wanted::Missing(_), Value::Object(members)) => cut(alloc, keys(alloc, members)?),
+        _ => cut(alloc, spot.value.to_string(alloc)?),
     }
-    cut(alloc, spot.value.to_string(alloc)?)
 }

@@ -1,51 +1,21 @@
 //! Where a fault of an input is, what stands there, and why it is one.
-ghost use Rattle.std.specs.Prelude.{◌≡◌, ◌≢◌, ◌⊎◌, [], Some, string_bytes, IfOk};
+ghost use Rattle.std.specs.Prelude.{◌≡◌, ◌≢◌, ◌⊎◌, [], string_bytes, IfOk};
 ghost use Rattle.serde_json.specs.View.{view};
-ghost use Rattle.mh_text.specs.Gives.{no_memory};
-ghost use Rattle.mh_explain.specs.Explanations.{place_text, reading_of, Explains, NamesPlace};
-ghost use Rattle.mh_explain.specs.Places.{IsPlace, Leads, fault_of};
+ghost use Rattle.mh_text.specs.declared.fault.InputFault.TheVariants.{NoMemory as out_of_memory};
+ghost use Rattle.mh_text.specs.Forms.{misread_by};
+ghost use Rattle.mh_explain.specs.Explanations.{place_text, script_around as script_with, Explains, ExplainsDefinition, ExplainsMisread, NamesPlace};
 
-use crate::found::{cut, found};
-use crate::input::InputForm;
-use crate::key::Key;
+use crate::found::found;
+use crate::no_json::Text;
 use crate::path::Path;
-use crate::problem::{place_in_claim, place_in_problem};
-use crate::script::place_in_script;
-use crate::spot::spot_in;
-use crate::walk::Place;
+use crate::spot::Spot;
+use crate::values::value_at;
 use crate::why::why;
 use mh_base::NoMemory;
-use mh_site::Listing;
-use mh_text::readers::read_json;
-use mh_text::{Fault, InputFault, TextFault};
-use serde_json::{Error, Value};
-use std::alloc::Global;
-use std::str;
-
-/// How many bytes before the fault of a text are shown.
-const BYTES_BEFORE: usize = 40;
-
-/// How many bytes from the fault of a text on are shown.
-const BYTES_BEHIND: usize = 20;
-
-/// The place of a fault of an input.
-fn place(
-    alloc: Global,
-    form: InputForm,
-    value: &Value,
-    fault: InputFault,
-) -> Result<Place, NoMemory>
-    ensures place { IfOk result (λ place. fault_of (reading_of form) (view value.now) ≡ Some fault
-        → IsPlace fault (view value.now) place.path) }
-    ensures leads { IfOk result (λ place. Leads fault (reading_of form) (view value.now)
-        place.path) }
-{
-    match form {
-        InputForm::Script => place_in_script(alloc, value, fault),
-        InputForm::Problem => place_in_problem(alloc, value, fault),
-        InputForm::Claim => place_in_claim(alloc, value, fault),
-    }
-}
+use mh_text::readers::parse_json;
+use mh_text::{InputFault, InputForm, Key, Misread, Wanted, first_misread};
+use serde_json::{Value, json};
+use std::alloc::{AllocError, Global};
 
 /// A path as text, with words for the empty one.
 fn path_text(alloc: Global, keys: &[Key]) -> Result<String, NoMemory>
@@ -58,115 +28,83 @@ fn path_text(alloc: Global, keys: &[Key]) -> Result<String, NoMemory>
     Ok(format!(in alloc; "{path}")?)
 }
 
-/// What stands at the end of a path, and why it is a fault: a line each.
-fn reasons(
-    alloc: Global,
-    form: InputForm,
-    input: &Value,
-    fault: InputFault,
-    keys: &[Key],
-) -> Result<String, NoMemory> {
-    let Some(spot) = spot_in(alloc, form, input, keys)? else {
-        return Ok(String::new(alloc));
-    };
-    let found = found(alloc, fault, &spot)?;
-    let why = why(alloc, input, fault, &spot)?;
+/// What stands at the place of a fault, and why it is one: a line each.
+fn reasons(alloc: Global, fault: InputFault, spot: &Spot<'_>) -> Result<String, NoMemory> {
+    let found = found(alloc, spot)?;
+    let why = why(alloc, fault, spot)?;
     Ok(format!(in alloc; "  found: {found}\n  why:   {why}\n")?)
 }
 
-/// The explanation of a fault of a value of JSON.
-fn of_value(
+/// The explanation of a fault that a value has when it is read as a form.
+fn of_misread(
     alloc: Global,
     form: InputForm,
-    value: &Value,
-    fault: InputFault,
+    input: &Value,
+    misread: Misread,
 ) -> Result<String, NoMemory>
-    ensures place { IfOk result (λ lines. fault_of (reading_of form) (view value.now) ≡ Some fault
-        → NamesPlace form fault (view value.now) (string_bytes lines)) }
+    ensures place { IfOk result (λ lines. NamesPlace misread.path (string_bytes lines)) }
 {
-    let place = place(alloc, form, value, fault)?;
-    let keys = place.path.as_slice();
-    let path = path_text(alloc, keys)?;
-    let reasons = reasons(alloc, form, value, fault, keys)?;
-    Ok(format!(in alloc; "  where: {path}\n{reasons}")?)
-}
-
-/// Bytes as text, with `?` for each that is no printable ASCII, and `nothing` for none.
-fn printable(alloc: Global, bytes: &[u8]) -> Result<String, NoMemory> {
-    if bytes.is_empty() {
-        return Ok(String::from_str(alloc, "nothing")?);
-    }
-    let mut text = String::new(alloc);
-    for byte in bytes {
-        if byte.is_ascii_graphic() || *byte == b' ' {
-            text.push(char::from(*byte))?;
-        } else {
-            text.push('?')?;
+    let (fault, wanted) = (misread.fault(), misread.wanted());
+    let path = misread.into_path(alloc);
+    let place = path_text(alloc, &path)?;
+    let reasons = match value_at(input, &path) {
+        Some(value) => {
+            let path = &path;
+            let spot = Spot {
+                form,
+                input,
+                path,
+                value,
+                wanted,
+            };
+            reasons(alloc, fault, &spot)?
         }
-    }
-    Ok(text)
+        None => String::new(alloc),
+    };
+    Ok(format!(in alloc; "  where: {place}\n{reasons}")?)
 }
 
-/// Where a line of this number, from 1, begins.
-fn line_start(input: &[u8], line: usize) -> usize {
-    let mut seen: usize = 1;
-    for (i, byte) in input.iter().enumerate() {
-        if seen >= line {
-            return i;
-        }
-        if *byte == b'\n' {
-            seen = seen.saturating_add(1);
-        }
+/// The explanation of the first fault of a value of JSON.
+fn of_value(alloc: Global, form: InputForm, value: &Value) -> Result<String, NoMemory>
+    ensures explains { IfOk result (λ lines. ExplainsMisread (misread_by form (view value.now))
+        (string_bytes lines)) }
+{
+    match first_misread(alloc, form, value)? {
+        Some(misread) => of_misread(alloc, form, value, misread),
+        None => Ok(String::new(alloc)),
     }
-    input.len()
-}
-
-/// The bytes around a column of a line.
-fn around(input: &[u8], line: usize, column: usize) -> &[u8] {
-    let start = line_start(input, line);
-    let fault = start.saturating_add(column).min(input.len());
-    let from = start.max(fault.saturating_sub(BYTES_BEFORE)).min(fault);
-    let to = fault.saturating_add(BYTES_BEHIND).min(input.len());
-    let shown = &input[from..to];
-    match shown.split(|byte| *byte == b'\n').next() {
-        Some(first) => first,
-        None => shown,
-    }
-}
-
-/// Why a text is no JSON: it is not UTF-8, which is told at the first byte that is none, or what
-/// the JSON crate says.
-fn why_no_json(alloc: Global, input: &[u8], error: &Error) -> Result<String, NoMemory> {
-    if str::from_utf8(input).is_err() {
-        return Ok(String::from_str(alloc, "the text is not UTF-8 from here on")?);
-    }
-    cut(alloc, format!(in alloc; "{error}")?)
 }
 
 /// The explanation of a text that is no JSON.
-fn of_text(alloc: Global, input: &[u8]) -> Result<String, NoMemory> {
-    match Value::from_slice(alloc, input) {
-        Ok(_) => Ok(String::new(alloc)),
-        Err(error) => {
-            if error.is_memory() {
-                return Err(NoMemory);
-            }
-            let (line, column) = (error.line(), error.column());
-            let found = printable(alloc, around(input, line, column))?;
-            let why = why_no_json(alloc, input, &error)?;
-            Ok(format!(in alloc;
-                "  where: line {line} column {column}\n  found: {found}\n  why:   {why}\n"
-            )?)
+fn of_text(alloc: Global, input: &[u8], misread: Misread) -> Result<String, NoMemory>
+    ensures memory { IfOk result (λ _. misread.fault ≢ out_of_memory) }
+{
+    match (misread.fault(), misread.wanted()) {
+        (InputFault::NoMemory, _) => Err(NoMemory),
+        (
+            _,
+            Wanted::Json {
+                line,
+                column,
+                is_cut,
+            },
+        ) => Text {
+            input,
+            line,
+            column,
+            is_cut,
         }
+        .explanation(alloc),
+        _ => Ok(String::new(alloc)),
     }
 }
 
 /// The lines that explain a fault of an input: where it is, what stands there, and why it is one.
 ///
 /// Each line begins with two spaces and a word, `where:`, `found:` or `why:`, and ends with a
-/// newline. The first one names the place of the fault, which is the one that reading the input in
-/// this form gives. There is none where no part of the input has the fault: memory ran out, or the
-/// input is too long. Fails only if memory runs out.
+/// newline. The first one names the place of the first fault that reading the input in this form
+/// gives; there is none where it gives none, nor where no part of the input has the fault: memory
+/// ran out, or the input is too long. Fails only if memory runs out.
 pub fn explanation(
     alloc: Global,
     form: InputForm,
@@ -179,20 +117,32 @@ pub fn explanation(
 {
     match fault {
         InputFault::NoMemory | InputFault::TooLong => Ok(String::new(alloc)),
-        InputFault::NotJson => of_text(alloc, input),
-        _ => match read_json(alloc, input) {
-            Ok(value) => of_value(alloc, form, &value, fault),
-            Err(fault) => nothing_of(alloc, fault),
+        _ => match parse_json(alloc, input) {
+            Ok(value) => of_value(alloc, form, &value),
+            Err(misread) => of_text(alloc, input, misread),
         },
     }
 }
 
-/// No explanation, unless memory ran out.
-fn nothing_of(alloc: Global, fault: Fault) -> Result<String, NoMemory>
-    ensures other { IfOk result (λ _. fault.kind ≢ no_memory) }
+/// The script of a definition, with one worker and without events.
+fn script_around(alloc: Global, definition: Value) -> Result<Value, AllocError>
+    ensures value { IfOk result (λ v. view v ≡ script_with (view definition)) }
 {
-    if fault.kind == TextFault::Input(InputFault::NoMemory) {
-        return Err(NoMemory);
+    json!(in alloc; {"definition": definition, "events": [], "workers": 1})
+}
+
+/// The lines that explain the fault of a definition that stands alone, as a host opens one.
+///
+/// They are those of the script of this definition, so that each place in it begins with
+/// `definition`; there are none where it has no fault. Fails only if memory runs out.
+pub fn definition_explanation(alloc: Global, input: &[u8]) -> Result<String, NoMemory>
+    ensures place { IfOk result (λ lines. ExplainsDefinition input.now (string_bytes lines)) }
+{
+    match parse_json(alloc, input) {
+        Ok(definition) => {
+            let script = script_around(alloc, definition)?;
+            of_value(alloc, InputForm::Script, &script)
+        }
+        Err(misread) => of_text(alloc, input, misread),
     }
-    Ok(String::new(alloc))
 }

@@ -2,21 +2,19 @@
 ghost use Rattle.std.specs.Prelude.{◌≡◌, ◌∷◌, [], map, option_map, Some, None, if◌then◌else◌, IfOk, OnOk};
 ghost use Rattle.serde_json.specs.View.{view, members_view};
 ghost use Rattle.mh_explain.specs.declared.unread.Step.TheVariants.{At};
-ghost use Rattle.mh_explain.specs.Unread.{first_along, first_in, first_of, first_unread, first_unread_in, first_where, has_other, is_read as is_among, offered_in, or_later, version_in, version_at as version_where, objects_of, script_objects, problem_objects, claim_objects};
+ghost use Rattle.mh_explain.specs.Unread.{first_along, first_in, first_of, first_unread, first_unread_in, first_where, has_other, is_read as is_among, offered_in, or_later, version_in, objects_of, script_objects, problem_objects, claim_objects};
 
-use crate::input::InputForm;
-use crate::key::{Field, Key};
 use crate::near::nearest;
-use crate::path::{Path, longer};
-use crate::reading::{items, version_or_later};
-use crate::tables::{
+use crate::objects::{
     CLAIM_KEYS, DEFINITION_KEYS, LIMIT_KEYS, PLAN_KEYS, POINT_KEYS, PROBLEM_KEYS, SCRIPT_KEYS,
     SITE_KEYS, link_keys, row_keys,
 };
+use crate::path::{Path, longer};
+use crate::values::{items, version_of};
 use mh_base::NoMemory;
 use mh_site::Version;
 use mh_text::readers::read_json;
-use mh_text::{InputFault, TextFault};
+use mh_text::{Field, InputFault, InputForm, Key, TextFault};
 use serde_json::{Map, Value};
 use std::alloc::Global;
 
@@ -252,12 +250,21 @@ fn note(alloc: Global, look: &Look<'_>, key: &str) -> Result<String, NoMemory> {
     write!(note, "note: {place}")?;
     push_key(alloc, &mut note, look.path.is_empty(), key)?;
     note.push_str(" is not read")?;
+    if is_of_version_2(look.keys, key) {
+        note.push_str("; version 2 reads it\n")?;
+        return Ok(note);
+    }
     let names = names(alloc, look.keys)?;
     if let Some(meant) = nearest(alloc, key, &names)? {
         write!(note, "; is \"{meant}\" meant?")?;
     }
     note.push('\n')?;
     Ok(note)
+}
+
+/// Whether a key is the charge of a link of version 1, which has needs.
+fn is_of_version_2(keys: &[Field], key: &str) -> bool {
+    key == Field::Charge.name() && is_read(keys, Field::Needs.name())
 }
 
 /// The names of keys.
@@ -293,24 +300,14 @@ pub(crate) fn is_plain(key: &str) -> bool {
     !key.is_empty()
 }
 
-/// The version of what a value has at a key, and 2 where none is read.
-fn version_at(value: Option<&Value>) -> Result<Version, NoMemory>
-    ensures value { IfOk result (λ v. v ≡ version_where (option_map (λ v. view v.now) value.entry)) }
-{
-    match value {
-        Some(value) => version_or_later(value),
-        None => Ok(Version::Two),
-    }
-}
-
 /// The version of an input, which says whether charges are read.
-fn version_of_input(form: InputForm, value: &Value) -> Result<Version, NoMemory>
+pub(crate) fn version_of_input(form: InputForm, value: &Value) -> Result<Version, NoMemory>
     ensures value { IfOk result (λ v. v ≡ version_in form (view value.now)) }
 {
     match form {
-        InputForm::Script => version_at(value.get("definition")),
-        InputForm::Problem => version_or_later(value),
-        InputForm::Claim => version_at(value.get("problem")),
+        InputForm::Script => version_of(value.get("definition")),
+        InputForm::Problem => version_of(Some(value)),
+        InputForm::Claim => version_of(value.get("problem")),
     }
 }
 
@@ -329,19 +326,14 @@ impl UnreadKeys {
         let (points, sites) = (Step::At(Field::Points), Step::At(Field::Sites));
         let (links, limits) = (Step::At(Field::Links), Step::At(Field::Limits));
         let events = Step::At(Field::Events);
-        self.add_objects(alloc, &[], &SCRIPT_KEYS, script)?;
-        self.add_objects(alloc, &[definition], &DEFINITION_KEYS, script)?;
-        self.add_objects(
-            alloc,
-            &[definition, points, Step::Each],
-            &POINT_KEYS,
-            script,
-        )?;
-        self.add_objects(alloc, &[definition, sites, Step::Each], &SITE_KEYS, script)?;
+        self.add_objects(alloc, &[], SCRIPT_KEYS, script)?;
+        self.add_objects(alloc, &[definition], DEFINITION_KEYS, script)?;
+        self.add_objects(alloc, &[definition, points, Step::Each], POINT_KEYS, script)?;
+        self.add_objects(alloc, &[definition, sites, Step::Each], SITE_KEYS, script)?;
         let to_links = [definition, sites, Step::Each, links, Step::Each];
         self.add_objects(alloc, &to_links, link_keys(version), script)?;
-        self.add_objects(alloc, &[limits], &LIMIT_KEYS, script)?;
-        self.add_objects(alloc, &[events, Step::Offered], &PLAN_KEYS, script)?;
+        self.add_objects(alloc, &[limits], LIMIT_KEYS, script)?;
+        self.add_objects(alloc, &[events, Step::Offered], PLAN_KEYS, script)?;
         Ok(())
     }
 
@@ -356,7 +348,7 @@ impl UnreadKeys {
             (first_of (problem_objects version) (view problem.now))) }
     {
         let links = Step::At(Field::Links);
-        self.add_objects(alloc, &[], &PROBLEM_KEYS, problem)?;
+        self.add_objects(alloc, &[], PROBLEM_KEYS, problem)?;
         self.add_objects(alloc, &[links, Step::Each], row_keys(version), problem)
     }
 
@@ -367,15 +359,15 @@ impl UnreadKeys {
     {
         let problem = Step::At(Field::Problem);
         let (links, plan) = (Step::At(Field::Links), Step::At(Field::Plan));
-        self.add_objects(alloc, &[], &CLAIM_KEYS, claim)?;
-        self.add_objects(alloc, &[problem], &PROBLEM_KEYS, claim)?;
+        self.add_objects(alloc, &[], CLAIM_KEYS, claim)?;
+        self.add_objects(alloc, &[problem], PROBLEM_KEYS, claim)?;
         self.add_objects(
             alloc,
             &[problem, links, Step::Each],
             row_keys(version),
             claim,
         )?;
-        self.add_objects(alloc, &[plan], &PLAN_KEYS, claim)
+        self.add_objects(alloc, &[plan], PLAN_KEYS, claim)
     }
 
     /// Adds the keys of an input that nothing reads.

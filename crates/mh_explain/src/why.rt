@@ -1,30 +1,25 @@
 //! Why a part of an input has a fault, in a sentence.
 mod definitions;
+mod forms;
+mod missing;
 mod names;
+mod numbers;
 mod problems;
 mod shapes;
 mod trees;
 mod types;
-mod values;
 
 use crate::spot::Spot;
 use mh_base::NoMemory;
 use mh_text::InputFault;
-use serde_json::Value;
 use std::alloc::Global;
 
 /// The sentence for a fault that this part of an input has.
-pub(crate) fn why(
-    alloc: Global,
-    input: &Value,
-    fault: InputFault,
-    spot: &Spot<'_>,
-) -> Result<String, NoMemory> {
+pub(crate) fn why(alloc: Global, fault: InputFault, spot: &Spot<'_>) -> Result<String, NoMemory> {
     match fault {
-        InputFault::BadShape => shapes::why_bad(alloc, input, spot),
-        InputFault::BadValue => values::why_bad(alloc, spot),
-        InputFault::UnknownShared => names::why_unknown_shared(alloc, input, spot.value),
-        InputFault::UnknownSite => names::why_unknown_site(alloc, input, spot.value),
+        InputFault::BadShape | InputFault::BadValue => shapes::why_other(alloc, spot),
+        InputFault::UnknownShared => names::why_unknown_shared(alloc, spot.input, spot.value),
+        InputFault::UnknownSite => names::why_unknown_site(alloc, spot.input, spot.value),
         InputFault::Tree(cause) => trees::why_refused(alloc, cause, spot),
         InputFault::Definition(cause) => definitions::why_definition(alloc, cause, spot.value),
         InputFault::Problem(cause) => problems::why_none(alloc, cause, spot.value),

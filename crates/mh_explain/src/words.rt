@@ -3,6 +3,7 @@ ghost use Rattle.std.specs.Prelude.{◌≡◌, IfOk, string_bytes};
 ghost use Rattle.serde_json.specs.Data.{string};
 ghost use Rattle.serde_json.specs.Written.{compact_text};
 
+use crate::found::cut;
 use crate::near::nearest;
 use mh_base::NoMemory;
 use serde_json::Value;
@@ -40,11 +41,49 @@ pub(crate) fn wanted(alloc: Global, what: &str, value: &Value) -> Result<String,
     Ok(format!(in alloc; "{what} is wanted here, and this is {kind}")?)
 }
 
-/// The question whether a word that is near is meant, and nothing where none is.
-pub(crate) fn meant(alloc: Global, word: &str, known: &[&str]) -> Result<String, NoMemory> {
-    match nearest(alloc, word, known)? {
-        Some(near) => Ok(format!(in alloc; "; is \"{near}\" meant?")?),
-        None => Ok(String::new(alloc)),
+/// The question whether a name that is near is meant, or which names there are of such things.
+pub(crate) fn meant(
+    alloc: Global,
+    name: &str,
+    known: &[&str],
+    one: &str,
+    many: &str,
+) -> Result<String, NoMemory> {
+    if let Some(near) = nearest(alloc, name, known)? {
+        return Ok(format!(in alloc; "is \"{near}\" meant?")?);
+    }
+    match known {
+        [] => Ok(format!(in alloc; "there is no {one}")?),
+        [only] => Ok(format!(in alloc; "the only {one} is \"{only}\"")?),
+        _ => {
+            let names = cut(alloc, listed(alloc, known)?)?;
+            Ok(format!(in alloc; "the {many} are {names}")?)
+        }
+    }
+}
+
+/// Names with commas between them.
+fn listed(alloc: Global, names: &[&str]) -> Result<String, NoMemory> {
+    let mut text = String::new(alloc);
+    for name in names {
+        if !text.is_empty() {
+            text.push_str(", ")?;
+        }
+        text.push_str(name)?;
+    }
+    Ok(text)
+}
+
+/// The question whether a word that is near is meant, or all that are known, which do or are this.
+pub(crate) fn meant_of(
+    alloc: Global,
+    word: &str,
+    known: &str,
+    do_this: &str,
+) -> Result<String, NoMemory> {
+    match nearest(alloc, word, &words_of(alloc, known)?)? {
+        Some(near) => Ok(format!(in alloc; "is \"{near}\" meant?")?),
+        None => Ok(format!(in alloc; "{known} {do_this}")?),
     }
 }
 
@@ -81,4 +120,52 @@ pub(crate) fn words_of<'a>(alloc: Global, text: &'a str) -> Result<Vec<&'a str>,
         words.push(word)?;
     }
     Ok(words)
+}
+
+/// Bytes as text, with `?` for each that is no printable ASCII, and `nothing` for none.
+pub(crate) fn printable(alloc: Global, bytes: &[u8]) -> Result<String, NoMemory> {
+    if bytes.is_empty() {
+        return Ok(String::from_str(alloc, "nothing")?);
+    }
+    let mut text = String::new(alloc);
+    for byte in bytes {
+        if byte.is_ascii_graphic() || *byte == b' ' {
+            text.push(char::from(*byte))?;
+        } else {
+            text.push('?')?;
+        }
+    }
+    Ok(text)
+}
+
+/// That a word is no kind, and what is one.
+pub(crate) fn why_no_kind(alloc: Global, word: &str) -> Result<String, NoMemory> {
+    if word.is_empty() {
+        return Ok(String::from_str(
+            alloc,
+            "a kind is missing here: int, long, boolean or String",
+        )?);
+    }
+    let shown = quoted(alloc, word)?;
+    let known = ["int", "long", "boolean", "String"];
+    Ok(match nearest(alloc, word, &known)? {
+        Some(near) => format!(in alloc; "{shown} is not a kind; is \"{near}\" meant?")?,
+        None => format!(in alloc; "{shown} is not a kind; int, long, boolean and String are")?,
+    })
+}
+
+/// That there are more of a thing than a version allows, and how many version 2 does.
+pub(crate) fn why_too_many(
+    alloc: Global,
+    what: &str,
+    found: usize,
+    most: usize,
+    later: usize,
+) -> Result<String, NoMemory> {
+    if most == later {
+        return Ok(format!(in alloc; "there are {found} {what}, and this version allows {most}")?);
+    }
+    Ok(format!(in alloc;
+        "there are {found} {what}, and this version allows {most}; version 2 allows {later}"
+    )?)
 }

@@ -1,7 +1,9 @@
 mod Amounts
 mod Claims
 mod KeyRuns
+mod LineFaults
 mod Lines
+mod Longer
 mod NameTexts
 mod Needs
 mod Reading

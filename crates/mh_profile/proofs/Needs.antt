@@ -14,13 +14,14 @@ use Rattle.std.proofs.lemmas.Map.Keys.{IsStrictlyIncreasing-dedup}
 use Rattle.std.proofs.lemmas.Map.Views.{any-filter_same}
 use Rattle.mh_network.specs.Laws.{member_is}
 use Rattle.mh_network.specs.Selection.{member}
+use Rattle.mh_text.specs.Misreads.{here}
 use Rattle.mh_text.specs.declared.fault.InputFault.TheVariants.{NeedTwice}
 use Rattle.mh_profile.specs.Profiles.{named_below, needs_among}
 
 -- ---- lists of numbers that rise and have the same members are the same
 
-here : (x : ℕ) (xs : List ℕ) → member (x ∷ xs) x ≡ true
-here x xs = or_left (x == x) (member xs x) (eq-eqb x x refl)
+among_first : (x : ℕ) (xs : List ℕ) → member (x ∷ xs) x ≡ true
+among_first x xs = or_left (x == x) (member xs x) (eq-eqb x x refl)
 
 abbrev Rises : List ℕ → Type 0
 Rises xs = AllPairs (λ x y. x < y) xs
@@ -53,11 +54,11 @@ tails x xs ys up vp same j =
 
 rising_same : (xs ys : List ℕ) → Rises xs → Rises ys → ((j : ℕ) → member xs j ≡ member ys j) → xs ≡ ys
 rising_same [] [] up vp same = refl
-rising_same [] (y ∷ ys) up vp same = absurd (true≢false (sym (same y ∙ here y ys)))
-rising_same (x ∷ xs) [] up vp same = absurd (true≢false (sym (sym (same x) ∙ here x xs)))
+rising_same [] (y ∷ ys) up vp same = absurd (true≢false (sym (same y ∙ among_first y ys)))
+rising_same (x ∷ xs) [] up vp same = absurd (true≢false (sym (sym (same x) ∙ among_first x xs)))
 rising_same (x ∷ xs) (y ∷ ys) up vp same =
-    let one = first_least x y ys vp (sym (same x) ∙ here x xs) in
-    let other = first_least y x xs up (same y ∙ here y ys) in
+    let one = first_least x y ys vp (sym (same x) ∙ among_first x xs) in
+    let other = first_least y x xs up (same y ∙ among_first y ys) in
     let first : x ≡ y = omega (arith, one, other) in
     let vp′ : Rises (x ∷ ys) = subst (λ z. Rises (z ∷ ys)) (sym first) vp in
     let same′ : (j : ℕ) → member (x ∷ xs) j ≡ member (x ∷ ys) j = λ j. subst (λ z. member (x ∷ xs) j ≡ member (z ∷ ys) j) (sym first) (same j) in
@@ -119,7 +120,7 @@ module _ (n : ℕ) (named sorted needs : List ℕ) (moved : IsPermutation named 
       let all : (length (named_below n named) == length named) ≡ true = eq-eqb _ _ (ap length (sym left) ∙ e) in
       rw (below, all) (ap (λ xs. Ok xs) (sym left))
 
-  pub are_twice : (length needs ≡ length named → ⊥) → needs_among n named ≡ Err NeedTwice
+  pub are_twice : (length needs ≡ length named → ⊥) → needs_among n named ≡ Err (here NeedTwice)
   are_twice e =
       let fewer : (length (named_below n named) == length named) ≡ false = ne_eqb _ _ (λ same. e (ap length left ∙ same)) in
       rw (below, fewer) refl

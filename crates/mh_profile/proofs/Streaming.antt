@@ -1,7 +1,9 @@
 -- What is read of a reader's bytes, chunk by chunk.
-use Rattle.std.proofs.Common.{◌≡◌, ◌⊎◌, ℕ, List, [], ◌++◌, Option, Some, None, Result, Ok, Err, IfOk, IfErr, IfSome, sym, ap, ◌∙◌, inl, inr}
+use Rattle.std.proofs.Common.{◌≡◌, ◌⊎◌, ◌+◌, ◌≤◌, ℕ, List, [], ◌++◌, length, Option, Some, None, Result, Ok, Err, IfOk, IfErr, IfSome, sym, ap, ◌∙◌, inl, inr, arith}
 use Rattle.std.specs.Io.KnownBytes.{Consumes, IsAtEnd}
-use Rattle.std.proofs.lemmas.List.{append_assoc}
+use Rattle.std.proofs.KnownBytes.{Consumes-trans}
+use Rattle.std.proofs.lemmas.List.{append_assoc, length-append}
+use Rattle.std.proofs.lemmas.Grind.{common_steps}
 use Rattle.mh_text.specs.declared.fault.Fault.{Fault}
 use Rattle.mh_profile.specs.declared.profile.Profile.{Profile}
 use Rattle.mh_profile.specs.declared.reader.LineReader.{LineReader}
@@ -11,7 +13,9 @@ use Rattle.mh_profile.specs.declared.planning.ProfileOptions.{ProfileOptions}
 use Rattle.mh_profile.specs.Inputs.{IsFaultOfLines, IsProfileFault, IsProfileInput}
 use Rattle.mh_profile.specs.Planning.{IsPlanOf, IsPlanned}
 use Rattle.mh_profile.specs.Profiles.{profile_of}
-use Rattle.mh_profile.specs.Readers.{resumed, Takes}
+use Rattle.mh_profile.specs.Limits.{most_at_once, most_in_all}
+use Rattle.mh_profile.specs.Readers.{resumed, taken_by, IsReading, Takes}
+use Rattle.mh_text.specs.Bytes.{LosesAtMost}
 use Rattle.mh_text.specs.Output.{outside, IsUnread}
 
 -- a reader that has taken these bytes, the first of an input
@@ -20,6 +24,22 @@ HasTaken front r = (rest : List ℕ) → profile_of (front ++ rest) ≡ resumed 
 
 pub more_taken : (front bytes : List ℕ) (r next : LineReader) → HasTaken front r → Takes r bytes (Ok next) → HasTaken (front ++ bytes) next
 more_taken front bytes r next taken more = λ rest. ap profile_of (append_assoc front bytes rest) ∙ (taken (bytes ++ rest) ∙ more rest)
+
+pub more_counted : (front bytes : List ℕ) (r next : LineReader) → length front ≡ taken_by r → taken_by next ≡ taken_by r + length bytes
+    → length (front ++ bytes) ≡ taken_by next
+more_counted front bytes r next count more = length-append front bytes ∙ ap (λ n. n + length bytes) count ∙ sym more
+
+-- a reader has taken no more than the limit of all lines
+pub taken_within : (r : LineReader) → IsReading r → taken_by r ≤ most_in_all
+taken_within r reading = grind (arith, common_steps)
+
+-- and so it has lost few of the bytes of an input: those that it has taken, and one part more
+pub few_lost : (old mid new : Option (List ℕ)) (front part : List ℕ) (r : LineReader) → IsReading r → length front ≡ taken_by r → Consumes old mid front
+    → Consumes mid new part → length part ≤ most_at_once → LosesAtMost (most_in_all + most_at_once) old new
+few_lost old mid new front part r reading count begun more few =
+    let within = taken_within r reading in
+    let sum = length-append front part in
+    (front ++ part, Consumes-trans old mid new front part begun more, omega (arith, sum, count, within, few))
 
 module _ (H : Type 0) where
   told : (input : List ℕ) (s : Result Profile Fault) → GivesAt (λ x. x) s (profile_of input) → IfErr s (IsUnread IsFaultOfLines (Some input) H)

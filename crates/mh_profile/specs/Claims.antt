@@ -9,10 +9,10 @@ use Rattle.mh_cert.specs.declared.plan.Plan.{Plan}
 use Rattle.mh_text.specs.Checks.{IsCutOff, IsFound}
 use Rattle.mh_text.specs.Gives.{◌>>=◌, at_place, too_long}
 use Rattle.mh_text.specs.Inputs.{json_in}
+use Rattle.mh_text.specs.Misreads.{MisreadData}
 use Rattle.mh_text.specs.Output.{IsUnread, outside}
 use Rattle.mh_text.specs.Plans.{plan_of}
 use Rattle.mh_text.specs.declared.fault.Fault.{Fault}
-use Rattle.mh_text.specs.declared.fault.InputFault.{InputFault}
 use Rattle.mh_text.specs.declared.lines.verdict.Verdict.{Verdict}
 use Rattle.mh_profile.specs.Inputs.{IsProfileFault, IsProfileInput}
 use Rattle.mh_profile.specs.Limits.{most_in_claim}
@@ -30,16 +30,16 @@ IsParted input lines line =
     × (lines ≡ take start (take end input)) × (line ≡ drop start (take end input))
 
 -- what stands at the key `plan`, or the value itself
-abbrev pub claimed_where : Data → Option Data → Result Plan InputFault
+abbrev pub claimed_where : Data → Option Data → Result Plan MisreadData
 claimed_where d None = plan_of d
 claimed_where d (Some plan) = plan_of plan
 
 -- the plan that a value has at that key, or is
-abbrev pub claimed_plan : Data → Result Plan InputFault
+abbrev pub claimed_plan : Data → Result Plan MisreadData
 claimed_plan d = claimed_where d (get (codes "plan") d)
 
 -- the plan of a line
-abbrev pub plan_in_line : List ℕ → Result Plan InputFault
+abbrev pub plan_in_line : List ℕ → Result Plan MisreadData
 plan_in_line line = json_in line >>= claimed_plan
 
 -- the plan of the line that stands behind lines, at its number

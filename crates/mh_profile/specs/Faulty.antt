@@ -6,9 +6,11 @@ use Rattle.serde_json.specs.Data.{Data}
 use Rattle.serde_json.specs.Find.{as_str, get}
 use Rattle.serde_json.specs.View.{view}
 use Rattle.serde_json.specs.declared.value.Value.{Value}
+use Rattle.mh_text.specs.Gives.{at_place}
 use Rattle.mh_text.specs.Inputs.{json_in}
 use Rattle.mh_text.specs.Shape.{list_of}
 use Rattle.mh_text.specs.declared.fault.InputFault.{InputFault}
+use Rattle.mh_text.specs.declared.fault.TextFault.TheVariants.{Input}
 use Rattle.mh_profile.specs.declared.faulty.FaultyLine.{FaultyLine}
 use Rattle.mh_profile.specs.declared.profile.Profile.{Profile}
 use Rattle.mh_profile.specs.Lines.{lines_of}
@@ -32,7 +34,7 @@ pub record IsFaulty (input : List ℕ) (fault : InputFault) (line : FaultyLine) 
   pub before : Profile
   pub read : profile_of front ≡ Ok before
   pub names : line.points ≡ before.points
-  pub fails : text_of_line line.number before line.bytes ≡ Err fault
+  pub fails : at_place line.number (text_of_line line.number before line.bytes) ≡ Err (record { kind = Input fault; at = line.number })
 
 -- whether a text that may be there is the name of no point
 abbrev pub is_new : List (List ℕ) → Option (List ℕ) → Bool

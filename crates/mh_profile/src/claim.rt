@@ -1,10 +1,10 @@
 //! Claims: a profile, and behind it a line that is said to be a best plan of it.
-ghost use Rattle.std.specs.Prelude.{◌≡◌, ◌≢◌, ◌⊎◌, ◌==◌, ◌≤◌, ◌+◌, IfOk, IfErr, IfSome, OnOk, List, ℕ, length};
+ghost use Rattle.std.specs.Prelude.{◌≡◌, ◌≢◌, ◌⊎◌, ◌==◌, ◌<◌, ◌≤◌, ◌+◌, IfOk, IfErr, IfSome, OnOk, List, ℕ, length};
 ghost use Rattle.std.specs.Io.KnownBytes.{IsAtEnd};
 ghost use Rattle.std.specs.List.{IsAfterLastMatch};
 ghost use Rattle.serde_json.specs.View.{view};
 ghost use Rattle.mh_text.specs.Bytes.{HasFailed, LosesAtMost};
-ghost use Rattle.mh_text.specs.Gives.{at_place, no_memory, Gives, GivesAt, IsHonestReading, IsOfInput};
+ghost use Rattle.mh_text.specs.Gives.{at_place, no_memory, too_long, Gives, GivesAt, IsHonestReading, IsOfInput};
 ghost use Rattle.mh_text.specs.Output.{outside, IsUnread};
 ghost use Rattle.mh_text.specs.declared.fault.TextFault.TheVariants.{ReadFailed};
 ghost use Rattle.mh_profile.specs.Claims.{claimed_plan, plan_in_line, is_said, IsClaim, IsClaimFault, IsParted, IsReadClaim, IsReadClaimFault};
@@ -17,7 +17,7 @@ use crate::reader::{LineReader, placed};
 use mh_cert::Plan;
 use mh_network::Problem;
 use mh_text::readers::{parse_json, read_plan_value};
-use mh_text::{Fault, InputFault, Watched, read_up_to};
+use mh_text::{Fault, Misread, Watched, read_up_to};
 use serde_json::Value;
 use std::alloc::Global;
 use std::io::Read;
@@ -86,7 +86,7 @@ pub(crate) fn line_count(bytes: &[u8]) -> u64
 }
 
 /// The plan that a value has at the key `plan`, or, where it has none, is.
-fn read_claimed(alloc: Global, value: &Value) -> Result<Plan, InputFault>
+fn read_claimed(alloc: Global, value: &Value) -> Result<Plan, Misread>
     ensures value { Gives (λ x. x) result (claimed_plan (view value.now)) }
 {
     match value.get("plan") {
@@ -96,7 +96,7 @@ fn read_claimed(alloc: Global, value: &Value) -> Result<Plan, InputFault>
 }
 
 /// The plan of a line.
-fn read_plan_line(alloc: Global, line: &[u8]) -> Result<Plan, InputFault>
+fn read_plan_line(alloc: Global, line: &[u8]) -> Result<Plan, Misread>
     ensures value { Gives (λ x. x) result (plan_in_line line.now) }
 {
     let value = parse_json(alloc, line)?;
@@ -110,7 +110,7 @@ fn read_numbered_plan(alloc: Global, number: u64, line: &[u8]) -> Result<Plan, F
 {
     match read_plan_line(alloc, line) {
         Ok(plan) => Ok(plan),
-        Err(fault) => Err(placed(fault, number)),
+        Err(misread) => Err(placed(misread.fault(), number)),
     }
 }
 
@@ -147,6 +147,9 @@ pub fn keep_claim<R: Read>(alloc: Global, reader: &mut Watched<R>) -> Result<Vec
     ensures ok { IfOk result (λ input. IfSome (R.remaining reader.old.inner)
         (λ bytes. input.items ≡ bytes)) }
     ensures short { IfOk result (λ input. length input.items ≤ most_in_claim) }
+    ensures long { IfErr result (λ e. (e ≡ outside no_memory) ⊎ (e ≡ outside ReadFailed)
+        ⊎ ((e ≡ outside too_long) × IfSome (R.remaining reader.old.inner)
+        (λ bytes. most_in_claim < length bytes))) }
     ensures failed { IfErr result (IsUnread IsReadClaimFault (R.remaining reader.old.inner)
         (HasFailed reader.old.failures reader.new.failures)) }
     ensures honest { IsHonestReading result reader.old.failures reader.new.failures }

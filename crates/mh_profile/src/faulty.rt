@@ -3,6 +3,8 @@ ghost use Rattle.std.specs.Prelude.{◌≡◌, ◌≢◌, ◌<◌, ◌≤◌, �
 ghost use Rattle.std.specs.List.{HoldsAt, IsFirstMatchOrLen};
 ghost use Rattle.serde_json.specs.Find.{as_str};
 ghost use Rattle.serde_json.specs.View.{view};
+ghost use Rattle.mh_text.specs.Gives.{at_place};
+ghost use Rattle.mh_text.specs.declared.fault.TextFault.TheVariants.{Input};
 ghost use Rattle.mh_profile.specs.Faulty.{is_new, IsFaulty, IsUnknown};
 ghost use Rattle.mh_profile.specs.Profiles.{text_of_line};
 
@@ -11,8 +13,8 @@ use crate::line::read_line;
 use crate::names::PointNames;
 use crate::profile::Profile;
 use mh_network::Listing;
-use mh_text::InputFault;
 use mh_text::readers::{list, parse_json};
+use mh_text::{InputFault, Wanted};
 use serde_json::Value;
 use std::alloc::Global;
 
@@ -55,13 +57,15 @@ fn line_stop(lines: &[u8], number: u64) -> usize
 }
 
 /// Whether a line, whose bytes are these, has this fault behind what was read.
+#[tactic(auto, using(crate::proofs::LineFaults::line_fault))]
 fn has_fault(alloc: Global, profile: Profile, number: u64, bytes: &[u8], fault: InputFault) -> bool
     requires of_line { fault ≢ InputFault.NoMemory }
-    ensures value { IsTrue result → text_of_line number profile bytes.now ≡ Err fault }
+    ensures value { IsTrue result → at_place number (text_of_line number profile bytes.now)
+        ≡ Err (record { kind = Input fault; at = number }) }
 {
     match read_line(alloc, profile, number, bytes) {
         Ok(_) => false,
-        Err(found) => found == fault,
+        Err(misread) => misread.fault() == fault,
     }
 }
 
@@ -156,7 +160,7 @@ impl FaultyLine {
         let Ok(value) = parse_json(alloc, self.bytes.as_slice()) else {
             return None;
         };
-        let Ok(needs) = list(value.get("needs")?) else {
+        let Ok(needs) = list(value.get("needs")?, Wanted::List) else {
             return None;
         };
         let name = new_name(&self.points, needs)?;

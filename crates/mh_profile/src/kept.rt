@@ -1,9 +1,10 @@
 //! Inputs of lines that are kept whole, for whoever explains their fault.
-ghost use Rattle.std.specs.Prelude.{◌≡◌, ◌≢◌, ◌≤◌, ◌+◌, ◌⊎◌, ◌++◌, ℕ, List, length, Err, IfErr, IfOk, IfSome, IsErrOf, OnOk};
+ghost use Rattle.std.specs.Prelude.{◌≡◌, ◌≢◌, ◌<◌, ◌≤◌, ◌+◌, ◌⊎◌, ◌++◌, ℕ, List, length, Err, IfErr, IfOk, IfSome, IsErrOf, OnOk};
 ghost use Rattle.std.specs.Io.KnownBytes.{Consumes, IsAtEnd};
 ghost use Rattle.mh_text.specs.Bytes.{HasFailed, LosesAtMost};
 ghost use Rattle.mh_text.specs.Gives.{no_memory, IsHonestReading, IsOfInput};
 ghost use Rattle.mh_text.specs.Output.{outside, IsUnread};
+ghost use Rattle.mh_text.specs.declared.fault.TextFault.TheVariants.{ReadFailed};
 ghost use Rattle.mh_profile.specs.Inputs.{IsProfileFault};
 ghost use Rattle.mh_profile.specs.Limits.{most_in_all};
 ghost use Rattle.mh_profile.specs.Profiles.{profile_of};
@@ -59,10 +60,13 @@ fn fault_of_long(alloc: Global, front: &[u8]) -> Fault
 ///
 /// It is read to its end, or to the first byte past 67,108,864. Where it is longer than that, this
 /// fails with the first fault of its lines, as `read_profile` does.
+#[tactic(auto, using(crate::proofs::Longer::longer_front))]
 pub fn keep_profile<R: Read>(alloc: Global, reader: &mut Watched<R>) -> Result<Vec<u8>, Fault>
     ensures ok { IfOk result (λ input. IfSome (R.remaining reader.old.inner)
         (λ bytes. input.items ≡ bytes)) }
     ensures short { IfOk result (λ input. length input.items ≤ most_in_all) }
+    ensures long { IfErr result (λ e. (e ≡ outside no_memory) ⊎ (e ≡ outside ReadFailed)
+        ⊎ IfSome (R.remaining reader.old.inner) (λ bytes. most_in_all < length bytes)) }
     ensures failed { IfErr result (IsUnread IsProfileFault (R.remaining reader.old.inner)
         (HasFailed reader.old.failures reader.new.failures)) }
     ensures honest { IsHonestReading result reader.old.failures reader.new.failures }

@@ -3,16 +3,15 @@ ghost use Rattle.std.specs.Prelude.{◌≡◌, codes};
 ghost use Rattle.serde_json.specs.Find.{get};
 ghost use Rattle.serde_json.specs.View.{view};
 ghost use Rattle.mh_text.specs.Gives.{Gives};
-ghost use Rattle.mh_text.specs.Problems.{eligible_where};
 ghost use Rattle.mh_profile.specs.Lines.{is_blank};
-ghost use Rattle.mh_profile.specs.Profiles.{amount_of, amount_where, entry_of, link_of, needs_among, needs_where, place_named, point_of, row_of, text_of_line};
+ghost use Rattle.mh_profile.specs.Profiles.{amount_of, amount_where, eligible_where, entry_of, link_of, needs_among, needs_where, place_named, places_named, point_of, row_of, text_of_line};
 
 use crate::names::PointNames;
 use crate::profile::Profile;
 use mh_base::are_below;
 use mh_network::{LinkRow, Listing};
-use mh_text::InputFault;
-use mh_text::readers::{count, each, list, member, parse_json, text};
+use mh_text::readers::{count, each, parse_json, part, text};
+use mh_text::{Field, InputFault, Misread, Wanted};
 use serde_json::Value;
 use std::alloc::Global;
 
@@ -20,47 +19,54 @@ use std::alloc::Global;
 const MOST: u64 = 0x7fff_ffff_ffff_ffff;
 
 /// An amount that has to be there.
-fn amount(value: &Value, key: &str) -> Result<u64, InputFault>
-    ensures value { Gives (λ x. x) result (amount_of key.now (view value.now)) }
+fn amount(value: &Value, key: Field) -> Result<u64, Misread>
+    ensures value { Gives (λ x. x) result (amount_of key (view value.now)) }
 {
-    count(member(value, key)?, MOST)
+    count(part(value, key)?, MOST, Wanted::up_to(MOST))
 }
 
 /// The charge of a link, 0 where it is absent.
-fn charge(link: &Value) -> Result<u64, InputFault>
+fn charge(link: &Value) -> Result<u64, Misread>
     ensures value { Gives (λ x. x) result
         (amount_where (get (codes "charge") (view link.now))) }
 {
     match link.get("charge") {
-        Some(charge) => count(charge, MOST),
+        Some(charge) => count(charge, MOST, Wanted::up_to(MOST)),
         None => Ok(0),
     }
 }
 
 /// Whether a link may be chosen, which it may where nothing is said.
-fn eligible(link: &Value) -> Result<bool, InputFault>
+fn eligible(link: &Value) -> Result<bool, Misread>
     ensures value { Gives (λ x. x) result
         (eligible_where (get (codes "eligible") (view link.now))) }
 {
     match link.get("eligible") {
-        Some(eligible) => eligible.as_bool().ok_or(InputFault::BadShape),
+        Some(eligible) => eligible.as_bool().ok_or(Misread::of(InputFault::BadShape)),
         None => Ok(true),
     }
 }
 
 /// The number of the point that a value names, or one past the last.
-fn place(points: &PointNames, name: &Value) -> Result<u32, InputFault>
+fn place(points: &PointNames, name: &Value) -> Result<u32, Misread>
     ensures value { Gives (λ x. x) result (place_named points.now (view name.now)) }
 {
-    Ok(points.place(text(name)?) as u32)
+    Ok(points.place(text(name, Wanted::Text)?) as u32)
+}
+
+/// The numbers of the points that a list names.
+fn named_places(alloc: Global, points: &PointNames, names: &Value) -> Result<Listing<u32>, Misread>
+    ensures value { Gives (λ x. x) result (places_named points.now (view names.now)) }
+{
+    each(alloc, names, |name| place(points, name))
 }
 
 /// The points that were named, ascending, where each is one of so many and none was named twice.
-fn needs_among_points(points: usize, named: Listing<u32>) -> Result<Listing<u32>, InputFault>
+fn needs_among_points(points: usize, named: Listing<u32>) -> Result<Listing<u32>, Misread>
     ensures value { Gives (λ x. x) result (needs_among points named) }
 {
     if !are_below(named.as_slice(), points) {
-        return Err(InputFault::UnknownPoint);
+        return Err(Misread::of(InputFault::UnknownPoint));
     }
     let count = named.len();
     let mut needs = named.into_vec();
@@ -70,26 +76,26 @@ fn needs_among_points(points: usize, named: Listing<u32>) -> Result<Listing<u32>
     if needs.len() == count {
         Ok(needs)
     } else {
-        Err(InputFault::NeedTwice)
+        Err(Misread::of(InputFault::NeedTwice))
     }
 }
 
 /// The points that a link needs, none where nothing is said.
-fn needs(alloc: Global, points: &PointNames, link: &Value) -> Result<Listing<u32>, InputFault>
+fn needs(alloc: Global, points: &PointNames, link: &Value) -> Result<Listing<u32>, Misread>
     ensures value { Gives (λ x. x) result (needs_where points.now (get (codes "needs") (view link.now))) }
 {
     let Some(names) = link.get("needs") else {
         return Ok(Listing::from_vec(Vec::new(alloc)));
     };
-    let named = each(alloc, list(names)?, |name| place(points, name))?;
+    let named = named_places(alloc, points, names)?;
     needs_among_points(points.len(), named)
 }
 
 /// A link: its gain, its charge, whether it may be chosen, and its needs.
-fn read_row(alloc: Global, points: &PointNames, link: &Value) -> Result<LinkRow, InputFault>
+fn read_row(alloc: Global, points: &PointNames, link: &Value) -> Result<LinkRow, Misread>
     ensures value { Gives (λ x. x) result (row_of points.now (view link.now)) }
 {
-    let gain = amount(link, "gain")?;
+    let gain = amount(link, Field::Gain)?;
     let charge = charge(link)?;
     let eligible = eligible(link)?;
     let needs = needs(alloc, points, link)?;
@@ -102,16 +108,11 @@ fn read_row(alloc: Global, points: &PointNames, link: &Value) -> Result<LinkRow,
 }
 
 /// A profile with the point of line `line`.
-fn read_point(
-    profile: Profile,
-    line: u64,
-    value: &Value,
-    name: &Value,
-) -> Result<Profile, InputFault>
+fn read_point(profile: Profile, line: u64, value: &Value, name: &Value) -> Result<Profile, Misread>
     ensures value { Gives (λ x. x) result (point_of line profile (view value.now) (view name.now)) }
 {
-    let name = text(name)?;
-    let cost = amount(value, "cost")?;
+    let name = text(name, Wanted::Text)?;
+    let cost = amount(value, Field::Cost)?;
     profile.with_point(line, name, cost)
 }
 
@@ -122,21 +123,16 @@ fn read_link(
     line: u64,
     value: &Value,
     name: &Value,
-) -> Result<Profile, InputFault>
+) -> Result<Profile, Misread>
     ensures value { Gives (λ x. x) result (link_of line profile (view value.now) (view name.now)) }
 {
-    let name = text(name)?;
+    let name = text(name, Wanted::Text)?;
     let row = read_row(alloc, &profile.points, value)?;
     profile.with_link(line, name, row)
 }
 
 /// A profile with the point or the link of line `line`.
-fn read_entry(
-    alloc: Global,
-    profile: Profile,
-    line: u64,
-    value: &Value,
-) -> Result<Profile, InputFault>
+fn read_entry(alloc: Global, profile: Profile, line: u64, value: &Value) -> Result<Profile, Misread>
     ensures value { Gives (λ x. x) result (entry_of line profile (view value.now)) }
 {
     if let Some(name) = value.get("point") {
@@ -144,7 +140,7 @@ fn read_entry(
     }
     match value.get("link") {
         Some(name) => read_link(alloc, profile, line, value, name),
-        None => Err(InputFault::BadShape),
+        None => Err(Misread::of(InputFault::BadShape)),
     }
 }
 
@@ -163,7 +159,7 @@ pub(crate) fn read_line(
     profile: Profile,
     line: u64,
     bytes: &[u8],
-) -> Result<Profile, InputFault>
+) -> Result<Profile, Misread>
     ensures value { Gives (λ x. x) result (text_of_line line profile bytes.now) }
 {
     if blank(bytes) {

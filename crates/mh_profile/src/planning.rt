@@ -1,13 +1,14 @@
 //! Planning: a profile in, the lines of its plan out.
-ghost use Rattle.std.specs.Prelude.{◌≡◌, ◌≢◌, ◌<◌, ◌≤◌, ℕ, List, string_bytes, IfOk, IfErr, IfSome, OnOk};
+ghost use Rattle.std.specs.Prelude.{◌≡◌, ◌≢◌, ◌<◌, ◌≤◌, ◌+◌, ℕ, List, string_bytes, IfOk, IfErr, IfSome, OnOk};
 ghost use Rattle.std.specs.Io.KnownBytes.{Appends, IsAtEnd};
 ghost use Rattle.mh_cert.specs.Plans.{Matches};
 ghost use Rattle.mh_plan.specs.Limits.{most_workers};
-ghost use Rattle.mh_text.specs.Bytes.{HasFailed};
+ghost use Rattle.mh_text.specs.Bytes.{HasFailed, LosesAtMost};
 ghost use Rattle.mh_text.specs.Gives.{IsHonest, IsHonestReading, NoOtherFailed};
 ghost use Rattle.mh_text.specs.Output.{IsUnread};
 ghost use Rattle.mh_text.specs.declared.fault.TextFault.TheVariants.{ReadFailed};
 ghost use Rattle.mh_profile.specs.Inputs.{IsProfileFault, IsProfileInput};
+ghost use Rattle.mh_profile.specs.Limits.{most_at_once, most_in_all};
 ghost use Rattle.mh_profile.specs.Planning.{FailsPlan, IsPlanOf, IsPlanned, lines_for};
 
 use crate::named::NamedProblem;
@@ -40,6 +41,8 @@ fn read_named<R: Read>(alloc: Global, reader: &mut Watched<R>) -> Result<NamedPr
     ensures others { IfErr result (λ e. e.kind ≢ ReadFailed
         → reader.new.failures ≡ reader.old.failures) }
     ensures end { OnOk result (IsAtEnd (R.remaining reader.new.inner)) }
+    ensures most { LosesAtMost (most_in_all + most_at_once) (R.remaining reader.old.inner)
+        (R.remaining reader.new.inner) }
 {
     read_profile(alloc, reader)?.into_problem()
 }
@@ -81,8 +84,8 @@ fn plan_named<T: Threads + Sync>(
 /// its certificate (`mh_text::plan_json`) where it is asked for: the best links, the fewest where
 /// several sets are best.
 ///
-/// The input is read to its end, or to its first fault. A fault of the input, or of memory, writes
-/// nothing. A failing write leaves a beginning of the lines, and is told of no line.
+/// The input is read as by `read_profile`. A fault of the input, or of memory, writes nothing. A
+/// failing write leaves a beginning of the lines, and is told of no line.
 pub fn plan_profile<T: Threads + Sync, R: Read, W: Write>(
     rt: &T,
     alloc: Global,
@@ -104,6 +107,8 @@ pub fn plan_profile<T: Threads + Sync, R: Read, W: Write>(
     ensures others { IfErr result (λ e. NoOtherFailed e.kind reader.old.failures
         reader.new.failures writer.old.failures writer.new.failures) }
     ensures end { OnOk result (IsAtEnd (R.remaining reader.new.inner)) }
+    ensures most { LosesAtMost (most_in_all + most_at_once) (R.remaining reader.old.inner)
+        (R.remaining reader.new.inner) }
 {
     let named = read_named(alloc, reader)?;
     let lines = plan_named(rt, alloc, options, &named)?;

@@ -5,7 +5,7 @@ ghost use Rattle.mh_profile.specs.Profiles.{nothing, with_link, with_point};
 
 use crate::names::{LinkNames, PointNames};
 use mh_network::{GREATEST_COUNT, LinkRow, Listing, ProblemFault};
-use mh_text::InputFault;
+use mh_text::{InputFault, Misread};
 use std::alloc::Global;
 
 /// The points and the links of the lines that were read, each by number in the order of the lines.
@@ -38,15 +38,15 @@ impl Profile {
     }
 
     /// With one point more, of line `line`.
-    pub(crate) fn with_point(self, line: u64, name: &str, cost: u64) -> Result<Profile, InputFault>
+    pub(crate) fn with_point(self, line: u64, name: &str, cost: u64) -> Result<Profile, Misread>
         ensures value { Gives (λ x. x) result (with_point line self name.now cost) }
     {
         let mut profile = self;
         if profile.points.contains(name) {
-            return Err(InputFault::PointTwice);
+            return Err(Misread::of(InputFault::PointTwice));
         }
         if profile.points.len() >= GREATEST_COUNT {
-            return Err(InputFault::Problem(ProblemFault::TooManyPoints));
+            return Err(Misread::from(ProblemFault::TooManyPoints));
         }
         profile.points.push(name)?;
         profile.costs.push(cost)?;
@@ -55,17 +55,12 @@ impl Profile {
     }
 
     /// With one link more, of line `line`.
-    pub(crate) fn with_link(
-        self,
-        line: u64,
-        name: &str,
-        link: LinkRow,
-    ) -> Result<Profile, InputFault>
+    pub(crate) fn with_link(self, line: u64, name: &str, link: LinkRow) -> Result<Profile, Misread>
         ensures value { Gives (λ x. x) result (with_link line self name.now link) }
     {
         let mut profile = self;
         if profile.links.len() >= GREATEST_COUNT {
-            return Err(InputFault::Problem(ProblemFault::TooManyLinks));
+            return Err(Misread::from(ProblemFault::TooManyLinks));
         }
         profile.names.push(name)?;
         profile.links.push(link)?;

@@ -81,7 +81,7 @@ fn read_numbered(
 {
     match read_line(alloc, profile, number, bytes) {
         Ok(profile) => Ok(profile),
-        Err(fault) => Err(placed(fault, number)),
+        Err(misread) => Err(placed(misread.fault(), number)),
     }
 }
 
@@ -98,6 +98,7 @@ impl LineReader {
     pub fn new(alloc: Global) -> LineReader
         ensures value { (input : List ℕ) → resumed result input ≡ profile_of input }
         ensures reading { IsReading result }
+        ensures none { taken_by result ≡ 0 }
     {
         LineReader {
             alloc,

@@ -1,11 +1,12 @@
 //! Profiles from a reader.
-ghost use Rattle.std.specs.Prelude.{◌≡◌, ◌≢◌, Ok, List, ℕ, IfErr, IfOk, IfSome, OnOk};
+ghost use Rattle.std.specs.Prelude.{◌≡◌, ◌≢◌, ◌+◌, Ok, List, ℕ, IfErr, IfOk, IfSome, OnOk};
 ghost use Rattle.std.specs.Io.KnownBytes.{IsAtEnd};
-ghost use Rattle.mh_text.specs.Bytes.{HasFailed};
+ghost use Rattle.mh_text.specs.Bytes.{HasFailed, LosesAtMost};
 ghost use Rattle.mh_text.specs.Gives.{IsHonestReading};
 ghost use Rattle.mh_text.specs.Output.{IsUnread};
 ghost use Rattle.mh_text.specs.declared.fault.TextFault.TheVariants.{ReadFailed};
 ghost use Rattle.mh_profile.specs.Inputs.{IsFaultOfLines};
+ghost use Rattle.mh_profile.specs.Limits.{most_at_once, most_in_all};
 ghost use Rattle.mh_profile.specs.Profiles.{profile_of};
 
 use crate::profile::Profile;
@@ -16,7 +17,8 @@ use std::io::Read;
 
 /// What the lines that the reader gives say.
 ///
-/// The input is read to its end, or to its first fault.
+/// The input is read by parts of 8,192 bytes, to its end, or to the part in which its first fault
+/// shows, and no more than 67,117,056 bytes of it.
 pub fn read_profile<R: Read>(alloc: Global, reader: &mut Watched<R>) -> Result<Profile, Fault>
     ensures ok { IfOk result (λ x. IfSome (R.remaining reader.old.inner)
         (λ input. profile_of input ≡ Ok x)) }
@@ -26,6 +28,8 @@ pub fn read_profile<R: Read>(alloc: Global, reader: &mut Watched<R>) -> Result<P
     ensures others { IfErr result (λ e. e.kind ≢ ReadFailed
         → reader.new.failures ≡ reader.old.failures) }
     ensures end { OnOk result (IsAtEnd (R.remaining reader.new.inner)) }
+    ensures most { LosesAtMost (most_in_all + most_at_once) (R.remaining reader.old.inner)
+        (R.remaining reader.new.inner) }
 {
     let mut lines = LineReader::new(alloc);
     let mut buffer = [0u8; 8192];

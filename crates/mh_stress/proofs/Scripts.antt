@@ -1,16 +1,17 @@
 -- The fault of an input is never that of readers of a published world; what is written of a script.
 use Rattle.std.proofs.Common.{◌≡◌, inl, inr, ℕ, ◌+◌, Bool, true, false, List, [], ◌∷◌, Option, Some, None, Result, Ok, Err, IfErr, IfSome, ap, subst, sym, ◌∙◌}
-use Rattle.std.specs.Prelude.{⊤, MatchResult, codes, if◌then◌else◌, nat_le, length}
+use Rattle.std.specs.Prelude.{⊤, MatchResult, if◌then◌else◌, nat_le, length}
 use Rattle.mh_text.specs.Bytes.{most_bytes}
 use Rattle.mh_text.specs.Gives.{◌>>=◌, at_place, no_memory}
 use Rattle.mh_text.specs.Inputs.{json_in, json_of_input}
 use Rattle.mh_text.specs.Output.{EndsReading, IsUnread, outside, script_of_input}
-use Rattle.mh_text.specs.Script.{declarations_of, limits_of, schedule_of, script_of, step_list_of, step_of, steps_of, workers_of}
-use Rattle.mh_text.specs.Shape.{each_from, list_of, member_of}
+use Rattle.mh_text.specs.Misreads.{MisreadData, here}
+use Rattle.mh_text.specs.Script.{preamble_of, script_of, step_list_of, step_of, steps_of}
+use Rattle.mh_text.specs.Shape.{each_from, list_of, part_of}
 use Rattle.mh_text.specs.declared.fault.Fault.{Fault}
-use Rattle.mh_text.specs.declared.fault.InputFault.{InputFault}
 use Rattle.mh_text.specs.declared.fault.InputFault.TheVariants.{TooLong}
 use Rattle.mh_text.specs.declared.fault.TextFault.TheVariants.{NoReader, ReadFailed}
+use Rattle.mh_text.specs.declared.key.Field.TheVariants as field
 use Rattle.mh_text.specs.declared.json.declarations.Declarations.{Declarations}
 use Rattle.mh_text.specs.Planning.{IsCutShort}
 use Rattle.mh_text.specs.declared.json.script.Script.{Script}
@@ -22,7 +23,7 @@ abbrev HasNone : {A : Type 0} → Result A Fault → Type 0
 HasNone (Ok x) = ⊤
 HasNone (Err e) = e.kind ≡ NoReader → ⊥
 
-placed : {A : Type 0} (n : ℕ) (r : Result A InputFault) → HasNone (at_place n r)
+placed : {A : Type 0} (n : ℕ) (r : Result A MisreadData) → HasNone (at_place n r)
 placed n (Ok x) = tt
 placed n (Err e) = λ is. cc
 
@@ -39,27 +40,21 @@ steps_none declared ds = each_none (λ n d. at_place n (step_of declared d)) (λ
 
 step_list_none : (declared : Declarations) (d : _) → HasNone (step_list_of declared d)
 step_list_none declared d =
-    followed (at_place 0 (member_of (codes "events") d)) _ (placed 0 (member_of (codes "events") d)) (λ events.
+    followed (at_place 0 (part_of field.Events d)) _ (placed 0 (part_of field.Events d)) (λ events.
     followed (at_place 0 (list_of events)) _ (placed 0 (list_of events)) (λ ds. steps_none declared ds))
-
-schedule_none : (declared : Declarations) (d : _) → HasNone (schedule_of declared d)
-schedule_none declared d =
-    followed (at_place 0 (workers_of d)) _ (placed 0 (workers_of d)) (λ workers.
-    followed (at_place 0 (limits_of d)) _ (placed 0 (limits_of d)) (λ limits.
-    followed (step_list_of declared d) _ (step_list_none declared d) (λ steps. tt)))
 
 script_none : (d : _) → HasNone (script_of d)
 script_none d =
-    followed (at_place 0 (declarations_of d)) _ (placed 0 (declarations_of d)) (λ declared.
-    followed (schedule_of declared d) _ (schedule_none declared d) (λ schedule. tt))
+    followed (at_place 0 (preamble_of d)) _ (placed 0 (preamble_of d)) (λ preamble.
+    followed (step_list_of preamble.declared d) _ (step_list_none preamble.declared d) (λ steps. tt))
 
-chosen : {A : Type 0} (b : Bool) (n : ℕ) (r s : Result A InputFault) → HasNone (if b then at_place n r else at_place n s)
+chosen : {A : Type 0} (b : Bool) (n : ℕ) (r s : Result A MisreadData) → HasNone (if b then at_place n r else at_place n s)
 chosen true n r s = placed n r
 chosen false n r s = placed n s
 
 input_none : (input : List ℕ) → HasNone (script_of_input input)
 input_none input =
-    followed (json_of_input input) script_of (chosen (nat_le (length input) most_bytes) 0 (json_in input) (Err TooLong)) script_none
+    followed (json_of_input input) script_of (chosen (nat_le (length input) most_bytes) 0 (json_in input) (Err (here TooLong))) script_none
 
 memory_differs : no_memory ≡ NoReader → ⊥
 memory_differs same = cc

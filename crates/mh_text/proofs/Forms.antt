@@ -5,10 +5,11 @@ use Rattle.serde_json.specs.View.{view, items_view}
 use Rattle.serde_json.specs.declared.value.Value.{Value, Array}
 use Rattle.serde_json.proofs.Views.{view-Array}
 use Rattle.mh_tree.specs.Handle.{TypedTree}
-use Rattle.mh_text.specs.declared.fault.InputFault.{InputFault}
+use Rattle.mh_text.specs.declared.key.Key.TheVariants.{Item}
+use Rattle.mh_text.specs.Misreads.{MisreadData, under}
 use Rattle.mh_text.specs.declared.json.scope.Scope.{Scope}
 use Rattle.mh_text.specs.Gives.{◌>>=◌}
-use Rattle.mh_text.specs.Shape.{text_of, each_from}
+use Rattle.mh_text.specs.Shape.{text_of, items_from}
 use Rattle.mh_text.specs.Trees.{part, parts_of, tree_of, filter_of, filters_of, filters_in, form_from, form_named}
 use Rattle.mh_text.proofs.Loop.{with_front}
 
@@ -32,16 +33,16 @@ module _ (scope : Scope) where
           rw (take_rest, ← is, read) refl
 
   -- filters are read item by item
-  filters_in-items_view : (vs : List Value) (n : ℕ) → filters_in scope (items_view vs) ≡ each_from (λ _ d. filter_of scope d) n (map view vs)
+  filters_in-items_view : (vs : List Value) (n : ℕ) → filters_in scope n (items_view vs) ≡ items_from (λ _ d. filter_of scope d) n (map view vs)
   filters_in-items_view [] n = refl
   filters_in-items_view (v ∷ vs) n =
-      ap (λ (r : Result (List (Option TypedTree)) InputFault). filter_of scope (view v) >>= λ filter. r >>= λ filters. Ok (filter ∷ filters)) (filters_in-items_view vs (n + 1))
+      ap (λ (r : Result (List (Option TypedTree)) MisreadData). under (Item n) (filter_of scope (view v)) >>= λ filter. r >>= λ filters. Ok (filter ∷ filters)) (filters_in-items_view vs (n + 1))
 
-  no_front : (r : Result (List (Option TypedTree)) InputFault) → with_front [] r ≡ r
+  no_front : (r : Result (List (Option TypedTree)) MisreadData) → with_front [] r ≡ r
   no_front (Ok xs) = refl
   no_front (Err e) = refl
 
   pub filters_of_array : (v : Vec Value Global) (xs : List Value) → xs ≡ v.items
-      → with_front [] (each_from (λ _ d. filter_of scope d) 0 (map view xs)) ≡ filters_of scope (view (Array v))
+      → with_front [] (items_from (λ _ d. filter_of scope d) 0 (map view xs)) ≡ filters_of scope (view (Array v))
   filters_of_array v xs same =
-      no_front _ ∙ ap (λ ys. each_from (λ _ d. filter_of scope d) 0 (map view ys)) same ∙ sym (filters_in-items_view v.items 0) ∙ rw (view-Array v) refl
+      no_front _ ∙ ap (λ ys. items_from (λ _ d. filter_of scope d) 0 (map view ys)) same ∙ sym (filters_in-items_view v.items 0) ∙ rw (view-Array v) refl

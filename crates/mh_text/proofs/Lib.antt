@@ -4,8 +4,8 @@ mod Forms
 mod Loop
 mod PlanData
 mod ProblemInputs
-mod Points
 mod Problems
+mod ProblemTests
 mod Reached
 mod Reports
 mod Runs

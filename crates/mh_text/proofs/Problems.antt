@@ -1,16 +1,21 @@
 -- What the making of a problem refuses, as a fault of the input.
-use Rattle.std.proofs.Common.{◌≡◌, ◌⊎◌, inl, inr}
+use Rattle.std.proofs.Common.{◌≡◌, ◌⊎◌, inl, inr, Ok, Err, ap, refl}
+use Rattle.serde_json.specs.Data.{Data}
+use Rattle.mh_base.specs.Listed.{made_unless}
 use Rattle.mh_network.specs.declared.fault.ProblemFault.{ProblemFault}
 use Rattle.mh_network.specs.declared.fault.ProblemFault.TheVariants.{NoMemory, GainTooLarge, CostTooLarge, NeedOutOfRange, NeedsNotAscending, TooManyLinks, TooManyPoints, TooManyNeeds}
 use Rattle.mh_base.specs.Tests.{Passes, Refuses}
+use Rattle.mh_network.specs.Problems.{ProblemData, problem_of}
 use Rattle.mh_text.specs.declared.fault.Fault.{Fault}
 use Rattle.mh_text.specs.declared.fault.InputFault.TheVariants as input
 use Rattle.mh_text.specs.declared.fault.TextFault.TheVariants as text
 use Rattle.mh_text.specs.declared.json.problem.ProblemRows.{ProblemRows}
 use Rattle.mh_text.specs.Gives.{of_problem, no_memory}
+use Rattle.mh_text.specs.Misreads.{here}
 use Rattle.mh_text.specs.Output.{outside}
-use Rattle.mh_text.specs.Problems.{IsNotMade}
+use Rattle.mh_text.specs.Problems.{rows_of, problem_made, problem_read, IsMade, IsNotMade}
 use Rattle.mh_text.specs.Versions.{version_tests}
+use Rattle.mh_text.proofs.ProblemTests.{decided}
 
 module _ (rows : ProblemRows) where
   abbrev IsCause : ProblemFault → Type 0
@@ -30,3 +35,21 @@ module _ (rows : ProblemRows) where
   not_made TooManyLinks e is refused = of_tests TooManyLinks e is (λ same. cc) refused
   not_made TooManyPoints e is refused = of_tests TooManyPoints e is (λ same. cc) refused
   not_made TooManyNeeds e is refused = of_tests TooManyNeeds e is (λ same. cc) refused
+
+module _ (d : Data) (rows : ProblemRows) where
+  abbrev problem : ProblemData
+  problem = problem_of rows.links rows.costs
+
+  -- links and costs that pass make their problem
+  pub problem_is_read : (p : ProblemData) → rows_of d ≡ Ok rows → IsMade rows p → problem_read d ≡ Ok p
+  problem_is_read p read is =
+      let made : problem_made rows ≡ Ok problem = ap (made_unless problem) ((decided rows).passes is.0) in
+      rw (read, made, is.1) refl
+
+  -- and else the first test that fails is told
+  pub problem_is_refused : (cause : ProblemFault) → rows_of d ≡ Ok rows → IsCause rows cause
+      → (of_problem cause ≡ input.NoMemory) ⊎ (problem_read d ≡ Err (here (of_problem cause)))
+  problem_is_refused cause read (inl refuses) =
+      let refused : problem_made rows ≡ Err cause = ap (made_unless problem) ((decided rows).refuses cause refuses) in
+      inr (rw (read, refused) refl)
+  problem_is_refused cause read (inr memory) = inl (ap of_problem memory.1)

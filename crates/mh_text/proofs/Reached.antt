@@ -6,9 +6,10 @@ use Rattle.serde_json.specs.View.{view}
 use Rattle.serde_json.specs.declared.value.Value.{Value}
 use Rattle.mh_text.specs.declared.json.declarations.Declarations.{Declarations}
 use Rattle.mh_text.specs.declared.fault.Fault.{Fault}
+use Rattle.mh_text.specs.declared.json.script.Preamble.{Preamble}
 use Rattle.mh_text.specs.declared.json.step.Step.{Step}
 use Rattle.mh_text.specs.Gives.{◌>>=◌, at_place, no_memory, GivesUpTo}
-use Rattle.mh_text.specs.Script.{declarations_of, step_of, steps_of, schedule_of, script_of, IsNext, IsReached, IsReachedBy}
+use Rattle.mh_text.specs.Script.{preamble_of, step_of, steps_of, step_list_of, script_of, IsNext, IsNextOf, IsReached}
 use Rattle.mh_text.specs.Shape.{each_from}
 use Rattle.mh_text.proofs.Loop.{with_front}
 
@@ -91,9 +92,14 @@ module _ (declared : Declarations) (values : List Value) (i at : ℕ) (before : 
   step_fails e (inl memory) = inr (inl (ap (λ f. f.kind) memory, subst (IsNext declared (map view values)) (sym (ap (λ f. f.at) memory)) is_next))
   step_fails e (inr here) = inr (inr (fails_next e here))
 
--- what fails behind the declarations fails in the script
-pub script_fails : (d : Data) (declared : Declarations) (e : Fault) → declarations_of d ≡ Ok declared
-    → GivesUpTo (IsReachedBy declared d) (Err e) (schedule_of declared d) → GivesUpTo (IsReached d) (Err e) (script_of d)
-script_fails d declared e is (inl memory) = inl memory
-script_fails d declared e is (inr (inl (memory, reached))) = inr (inl (memory, (declared, is, reached)))
-script_fails d declared e is (inr (inr first)) = inr (inr (rw (is, first) refl))
+-- what fails first fails all
+pub fails_first : {A B E M : Type 0} (r : Result A E) (f : A → Result B E) (e : E) → M ⊎ (r ≡ Err e) → M ⊎ ((r >>= f) ≡ Err e)
+fails_first r f e (inl memory) = inl memory
+fails_first r f e (inr fails) = inr (rw fails refl)
+
+-- what fails behind the preamble fails in the script
+pub script_fails : (d : Data) (preamble : Preamble) (e : Fault) → preamble_of d ≡ Ok preamble
+    → GivesUpTo (IsNextOf preamble.declared d) (Err e) (step_list_of preamble.declared d) → GivesUpTo (IsReached d) (Err e) (script_of d)
+script_fails d preamble e is (inl memory) = inl memory
+script_fails d preamble e is (inr (inl (memory, reached))) = inr (inl (memory, (preamble, is, reached)))
+script_fails d preamble e is (inr (inr first)) = inr (inr (rw (is, first) refl))

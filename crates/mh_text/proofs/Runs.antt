@@ -18,6 +18,7 @@ use Rattle.mh_text.specs.declared.json.script.Script.{Script}
 use Rattle.mh_text.specs.declared.json.step.Step.{Step}
 use Rattle.mh_text.specs.Bytes.{AppendsFront, HasFailed}
 use Rattle.mh_text.specs.Inputs.{json_in}
+use Rattle.mh_text.specs.Misreads.{here}
 use Rattle.mh_text.specs.Steps.{Told, Takes, Run}
 use Rattle.mh_text.specs.declared.streams.run.RunOptions.{RunOptions}
 use Rattle.mh_text.specs.Output.{first, report_where, with_report, AppendsRun, EndsIn, EndsEarly, FailsReport, IsEnd, RunsTo}
@@ -74,12 +75,12 @@ pub json_found : (bytes : List ℕ) (d : Data) → IsUtf8 bytes → read bytes �
 unfolding json_in
 json_found bytes d text is = rw (is_utf8-from_IsUtf8 bytes text, is) refl
 
-json_absent_at : (bytes : List ℕ) (b : Bool) → is_utf8 bytes ≡ b → (IsUtf8 bytes → read bytes ≡ None) → json_in bytes ≡ Err fault.NotJson
+json_absent_at : (bytes : List ℕ) (b : Bool) → is_utf8 bytes ≡ b → (IsUtf8 bytes → read bytes ≡ None) → json_in bytes ≡ Err (here fault.NotJson)
 unfolding json_in
 json_absent_at bytes true e none = rw (e, none (IsUtf8-from_is_utf8 bytes e)) refl
 json_absent_at bytes false e none = rw e refl
 
-pub json_absent : (bytes : List ℕ) → (IsUtf8 bytes → read bytes ≡ None) → json_in bytes ≡ Err fault.NotJson
+pub json_absent : (bytes : List ℕ) → (IsUtf8 bytes → read bytes ≡ None) → json_in bytes ≡ Err (here fault.NotJson)
 json_absent bytes none = json_absent_at bytes (is_utf8 bytes) refl none
 
 -- lines, and the report behind them, where it is asked for

@@ -13,8 +13,14 @@ use Rattle.mh_text.specs.declared.lines.verdict.Verdict.{Verdict}
 use Rattle.mh_text.specs.declared.lines.verdict.Verdict.TheVariants.{Accepted, Refused}
 use Rattle.mh_text.specs.Bytes.{AppendsFront}
 use Rattle.mh_text.specs.Output.{IsUnread, outside}
-use Rattle.mh_text.specs.Plans.{plan_of_input}
-use Rattle.mh_text.specs.Problems.{rows_of_input, IsMade, IsNotMade}
+use Rattle.mh_text.specs.Gives.{◌>>=◌}
+use Rattle.mh_text.specs.Misreads.{MisreadData}
+use Rattle.mh_text.specs.Plans.{plan_of, plan_of_input}
+use Rattle.mh_text.specs.Problems.{problem_read, rows_of_input, IsMade, IsNotMade}
+use Rattle.mh_text.specs.Shape.{member_of}
+use Rattle.mh_text.specs.declared.key.Field.TheVariants as field
+use Rattle.mh_text.specs.declared.streams.claim.Claim.{Claim}
+use Rattle.serde_json.specs.Data.{Data}
 use Rattle.mh_text.specs.Versions.{version_tests}
 
 -- what is read as a problem's rows makes the problem, and what is read as a plan is the plan
@@ -34,6 +40,13 @@ IsClaim input p plan = Holds (rows_of_input (Some (codes "problem")) input) (pla
 -- the first fault of such an input
 abbrev pub IsClaimFault : List ℕ → Fault → Type 0
 IsClaimFault input e = IsFirstOf (rows_of_input (Some (codes "problem")) input) (plan_of_input (Some (codes "plan")) input) e
+
+-- a problem at one key, which is read and made, and then a plan at another: their fault knows its place
+abbrev pub claim_read : Data → Result Claim MisreadData
+claim_read d = do
+  problem ← member_of field.Problem problem_read d
+  plan ← member_of field.Plan plan_of d
+  Ok (record { problem = problem; plan = plan })
 
 -- A plan is accepted where it matches its problem, and its links are then best; else its first part that is wrong is told.
 abbrev pub IsFound : ProblemData → Plan → Verdict → Type 0

@@ -14,6 +14,7 @@ use Rattle.mh_text.specs.declared.fault.TextFault.{TextFault}
 use Rattle.mh_text.specs.declared.fault.TextFault.TheVariants as text
 use Rattle.mh_text.specs.declared.fault.Fault.{Fault}
 use Rattle.mh_text.specs.Bytes.{HasFailed}
+use Rattle.mh_text.specs.Misreads.{MisreadData, here}
 
 infixl 10 ◌>>=◌
 abbrev pub ◌>>=◌ : {A B E : Type 0} → Result A E → (A → Result B E) → Result B E
@@ -21,14 +22,14 @@ abbrev pub ◌>>=◌ : {A B E : Type 0} → Result A E → (A → Result B E) �
 (Err e) >>= f = Err e
 
 -- the value, or the fault where there is none
-abbrev pub or_fault : {A : Type 0} → InputFault → Option A → Result A InputFault
+abbrev pub or_fault : {A : Type 0} → InputFault → Option A → Result A MisreadData
 or_fault e (Some x) = Ok x
-or_fault e None = Err e
+or_fault e None = Err (here e)
 
 -- What a function returned, seen by view, is what reading gives, unless memory ran out.
-abbrev pub Gives : {X Y : Type 0} → (X → Y) → Result X InputFault → Result Y InputFault → Type 0
+abbrev pub Gives : {X Y : Type 0} → (X → Y) → Result X MisreadData → Result Y MisreadData → Type 0
 Gives view (Ok x) read = read ≡ Ok (view x)
-Gives view (Err e) read = (e ≡ NoMemory) ⊎ (read ≡ Err e)
+Gives view (Err m) read = (m.fault ≡ NoMemory) ⊎ (read ≡ Err m)
 
 -- what a constructor of trees refuses, as a fault of the input
 abbrev pub of_tree : TreeFault → InputFault
@@ -51,9 +52,9 @@ of_problem problem_fault.NoMemory = NoMemory
 of_problem cause = Problem cause
 
 -- what was made, or the cause as a fault of the input
-abbrev pub caused : {A C : Type 0} → (C → InputFault) → Result A C → Result A InputFault
+abbrev pub caused : {A C : Type 0} → (C → InputFault) → Result A C → Result A MisreadData
 caused fault (Ok x) = Ok x
-caused fault (Err cause) = Err (fault cause)
+caused fault (Err cause) = Err (here (fault cause))
 
 -- want of memory, as a fault of the whole run
 abbrev pub no_memory : TextFault
@@ -64,9 +65,9 @@ abbrev pub too_long : TextFault
 too_long = text.Input TooLong
 
 -- a fault at a place: 0 outside the events, and the event's number from 1
-abbrev pub at_place : {A : Type 0} → ℕ → Result A InputFault → Result A Fault
+abbrev pub at_place : {A : Type 0} → ℕ → Result A MisreadData → Result A Fault
 at_place place (Ok x) = Ok x
-at_place place (Err e) = Err (record { kind = text.Input e; at = place })
+at_place place (Err e) = Err (record { kind = text.Input e.fault; at = place })
 
 -- the same as Gives where the fault has its place, and want of memory the place 0
 abbrev pub GivesAt : {X Y : Type 0} → (X → Y) → Result X Fault → Result Y Fault → Type 0
@@ -80,7 +81,7 @@ GivesUpTo IsReached (Err e) read =
     (e ≡ record { kind = no_memory; at = 0 }) ⊎ ((e.kind ≡ no_memory) × IsReached e.at) ⊎ (read ≡ Err e)
 
 -- the same of the item that has this place
-abbrev pub GivesNumbered : {X : Type 0} → ℕ → Result X Fault → Result X InputFault → Type 0
+abbrev pub GivesNumbered : {X : Type 0} → ℕ → Result X Fault → Result X MisreadData → Type 0
 GivesNumbered place (Ok x) read = read ≡ Ok x
 GivesNumbered place (Err e) read = (e ≡ record { kind = no_memory; at = place }) ⊎ (at_place place read ≡ Err e)
 

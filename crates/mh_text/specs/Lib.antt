@@ -1,9 +1,13 @@
 pub mod Bytes
 pub mod Checks
 pub mod Faults
+pub mod Forms
 pub mod Gives
 pub mod Inputs
+pub mod Keys
 pub mod Lines
+pub mod MisreadViews
+pub mod Misreads
 pub mod Output
 pub mod PlanLines
 pub mod Planning

@@ -10,27 +10,23 @@ use Rattle.mh_network.specs.Problems.{problem_tests}
 use Rattle.mh_site.specs.declared.version.Version.{Version}
 use Rattle.mh_site.specs.declared.version.Version.TheVariants.{One, Two}
 use Rattle.mh_site.specs.Limits.{most_points}
-use Rattle.mh_text.specs.declared.fault.InputFault.{InputFault}
 use Rattle.mh_text.specs.declared.fault.InputFault.TheVariants.{BadShape}
 use Rattle.mh_text.specs.Gives.{◌>>=◌}
-use Rattle.mh_text.specs.Shape.{member_of, count_of}
+use Rattle.mh_text.specs.Misreads.{MisreadData, here, under}
+use Rattle.mh_text.specs.declared.key.Field.TheVariants as field
+use Rattle.mh_text.specs.declared.key.Key.TheVariants.{Member, Item}
+use Rattle.mh_text.specs.Shape.{member_or, count_of}
 
 -- the version, which is the number 1 or 2
-abbrev pub version_of : Data → Result Version InputFault
+abbrev pub version_of : Data → Result Version MisreadData
 version_of d = do
-  version ← member_of (codes "version") d
-  version ← count_of 2 version
-  if version == 1 then Ok One else (if version == 2 then Ok Two else Err BadShape)
+  version ← count_of 2 d
+  if version == 1 then Ok One else (if version == 2 then Ok Two else Err (here BadShape))
 
--- a charge, which may be absent; in version 1 the key means nothing
-abbrev pub charge_where : Version → Option Data → Result ℕ InputFault
-charge_where One d = Ok 0
-charge_where Two None = Ok 0
-charge_where Two (Some d) = count_of (2 ^ 63 - 1) d
-
--- the charge of a link
-abbrev pub charge_of : Version → Data → Result ℕ InputFault
-charge_of version link = charge_where version (get (codes "charge") link)
+-- the charge of a link, which may be absent; in version 1 the key means nothing
+abbrev pub charge_of : Version → Data → Result ℕ MisreadData
+charge_of One link = Ok 0
+charge_of Two link = member_or 0 field.Charge (count_of (2 ^ 63 - 1)) link
 
 -- the most links of a problem
 abbrev pub most_links : Version → ℕ

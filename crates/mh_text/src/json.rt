@@ -7,6 +7,7 @@ ghost use Rattle.mh_text.specs.Inputs.{json_in, json_of_input};
 pub(crate) mod certificate;
 pub(crate) mod declarations;
 pub(crate) mod events;
+pub(crate) mod form;
 pub(crate) mod leaves;
 pub(crate) mod limits;
 pub(crate) mod links;
@@ -22,23 +23,31 @@ pub(crate) mod step;
 pub(crate) mod trees;
 pub(crate) mod values;
 pub(crate) mod versions;
+pub(crate) mod wanted;
 
 use crate::fault::{Fault, InputFault};
+use crate::json::wanted::Wanted;
+use crate::misread::Misread;
 use crate::streams::input::LIMIT;
 use serde_json::Value;
 use std::alloc::Global;
 
 /// The JSON value of bytes, however many.
-pub fn parse_json(alloc: Global, input: &[u8]) -> Result<Value, InputFault>
+pub fn parse_json(alloc: Global, input: &[u8]) -> Result<Value, Misread>
     ensures value { Gives view result (json_in input.now) }
 {
     match Value::from_slice(alloc, input) {
         Ok(value) => Ok(value),
         Err(error) => {
             if error.is_memory() {
-                return Err(InputFault::NoMemory);
+                return Err(Misread::of(InputFault::NoMemory));
             }
-            Err(InputFault::NotJson)
+            let wanted = Wanted::Json {
+                line: error.line(),
+                column: error.column(),
+                is_cut: error.is_eof(),
+            };
+            Err(Misread::wanting(InputFault::NotJson, wanted))
         }
     }
 }

@@ -17,21 +17,27 @@
 
 mod fault;
 mod json;
+mod key;
 mod lines;
+mod misread;
 pub mod readers;
 mod streams;
 
 pub use fault::{Fault, InputFault, TextFault};
 pub use json::certificate::plan_json;
+pub use json::form::{InputForm, first_misread};
 pub use json::plan::read_plan;
 pub use json::problem::read_problem;
 pub use json::script::{Script, read_script};
 pub use json::step::Step;
+pub use json::wanted::{Named, Numbered, Wanted, Word};
+pub use key::{Field, Key};
 pub use lines::plans::plan_line;
 pub use lines::render;
 pub use lines::report::{push_tables, report_lines};
 pub use lines::verdict::{Verdict, judge};
 pub use mh_core::{Definition, Event, Limits, Machine, Plan, Problem, Refusal, Reply, SharedPlan};
+pub use misread::Misread;
 pub use streams::check::{check_bytes, write_verdict};
 pub use streams::failing::{Sink, Source};
 pub use streams::input::{read_input, read_up_to};

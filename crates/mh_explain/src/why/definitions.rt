@@ -1,14 +1,14 @@
 //! Definitions that are not lawful.
-use crate::key::Field;
-use crate::reading::{known, version_or_later};
-use crate::spot::{items_at, sites_before};
+use crate::scope::sites_before;
+use crate::values::{items_at, known, named_behind, version_of};
 use crate::why::names::{is_lawful, why_unlawful};
-use crate::words::{meant, quoted};
+use crate::words::{meant, quoted, why_too_many};
 use mh_base::NoMemory;
 use mh_site::{
     DefinitionFault, GREATEST_CHARGE, GREATEST_COST, GREATEST_LEVEL, GREATEST_WEIGHT, Link,
-    MOST_LINKS, MOST_NEEDS, Point, Site,
+    MOST_LINKS, MOST_NEEDS, Point, Site, Version,
 };
+use mh_text::Field;
 use mh_text::readers::read_points;
 use mh_type::same_value;
 use serde_json::Value;
@@ -21,7 +21,10 @@ pub(crate) fn why_definition(
     cause: DefinitionFault,
     definition: &Value,
 ) -> Result<String, NoMemory> {
-    let Some(points) = known(read_points(alloc, definition))? else {
+    let Some(points) = definition.get(Field::Points.name()) else {
+        return Ok(String::new(alloc));
+    };
+    let Some(points) = known(read_points(alloc, points))? else {
         return Ok(String::new(alloc));
     };
     let points = points.as_slice();
@@ -35,8 +38,8 @@ pub(crate) fn why_definition(
 }
 
 fn why_many_points(alloc: Global, points: usize, definition: &Value) -> Result<String, NoMemory> {
-    let most = version_or_later(definition)?.most_points();
-    Ok(format!(in alloc; "there are {points} points, and this version allows {most}")?)
+    let most = version_of(Some(definition))?.most_points();
+    why_too_many(alloc, "points", points, most, Version::Two.most_points())
 }
 
 fn why_costly(alloc: Global, points: &[Point]) -> Result<String, NoMemory> {
@@ -132,8 +135,8 @@ fn why_unlawful_site(
 }
 
 fn why_many_sites(alloc: Global, sites: usize, definition: &Value) -> Result<String, NoMemory> {
-    let most = version_or_later(definition)?.most_sites();
-    Ok(format!(in alloc; "there are {sites} sites, and this version allows {most}")?)
+    let most = version_of(Some(definition))?.most_sites();
+    why_too_many(alloc, "sites", sites, most, Version::Two.most_sites())
 }
 
 /// Why the first of these sites that has a cause is not lawful: each beside its value.
@@ -197,7 +200,7 @@ fn why_bad_place(alloc: Global, site: &Site) -> Result<Option<String>, NoMemory>
         )?)),
         None if site.links.len() > 0 => Ok(Some(String::from_str(
             alloc,
-            "has links, and no key place",
+            "has links, and no \"key\", the place of the parameter that tells them apart",
         )?)),
         _ => Ok(None),
     }
@@ -318,31 +321,12 @@ fn is_needed(needs: &[u32], point: u32) -> bool {
     false
 }
 
-/// Adds the names that stand behind a word in a tree.
-fn push_named<'a>(names: &mut Vec<&'a str>, word: &str, tree: &'a Value) -> Result<(), NoMemory> {
-    let Value::Array(items) = tree else {
-        return Ok(());
-    };
-    if let [head, name, ..] = items.as_slice() {
-        if let (Some(head), Some(name)) = (head.as_str(), name.as_str()) {
-            if head == word {
-                names.push(name)?;
-            }
-        }
-    }
-    for item in items.as_slice() {
-        push_named(names, word, item)?;
-    }
-    Ok(())
-}
-
 /// The names that stand behind a word in the target of a site.
 fn named_in<'a>(alloc: Global, word: &str, site: &'a Value) -> Result<Vec<&'a str>, NoMemory> {
-    let mut names = Vec::new(alloc);
-    if let Some(target) = site.get(Field::Target.name()) {
-        push_named(&mut names, word, target)?;
+    match site.get(Field::Target.name()) {
+        Some(target) => named_behind(alloc, word, target),
+        None => Ok(Vec::new(alloc)),
     }
-    Ok(names)
 }
 
 /// The first name of no point that a link of a site needs.
@@ -385,9 +369,9 @@ fn why_unknown_point(alloc: Global, points: &[Point], name: &str) -> Result<Stri
     for point in points {
         names.push(point.name.as_str())?;
     }
-    let question = meant(alloc, name, &names)?;
+    let others = meant(alloc, name, &names, "point", "points")?;
     let shown = quoted(alloc, name)?;
-    Ok(format!(in alloc; "names the point {shown}, which is not there{question}")?)
+    Ok(format!(in alloc; "names the point {shown}, which is not there; {others}")?)
 }
 
 fn why_not_lower(

@@ -1,13 +1,13 @@
 //! Names that stand nowhere, or where they may not.
-use crate::key::Field;
-use crate::spot::items_at;
+use crate::values::items_at;
 use crate::words::{meant, quoted, wanted};
 use mh_base::NoMemory;
+use mh_text::{Field, Named};
 use serde_json::Value;
 use std::alloc::Global;
 
 /// The names of the shared trees of a script.
-fn shared_names(alloc: Global, script: &Value) -> Result<Vec<&str>, NoMemory> {
+pub(crate) fn shared_names(alloc: Global, script: &Value) -> Result<Vec<&str>, NoMemory> {
     let mut names = Vec::new(alloc);
     let Some(definition) = script.get(Field::Definition.name()) else {
         return Ok(names);
@@ -34,6 +34,45 @@ fn site_names(alloc: Global, script: &Value) -> Result<Vec<&str>, NoMemory> {
     Ok(names)
 }
 
+/// The names of the points of a script.
+fn point_names(alloc: Global, script: &Value) -> Result<Vec<&str>, NoMemory> {
+    let mut names = Vec::new(alloc);
+    let Some(definition) = script.get(Field::Definition.name()) else {
+        return Ok(names);
+    };
+    for point in items_at(definition, Field::Points) {
+        if let Some(name) = point.get(Field::Name.name()).and_then(Value::as_str) {
+            names.push(name)?;
+        }
+    }
+    Ok(names)
+}
+
+/// That a name is wanted, and the name of the thing that a number is.
+pub(crate) fn why_no_name(
+    alloc: Global,
+    named: Named,
+    script: &Value,
+    value: &Value,
+) -> Result<String, NoMemory> {
+    let (what, names) = match named {
+        Named::Point => ("the name of a point", point_names(alloc, script)?),
+        Named::Site => ("the name of a site", site_names(alloc, script)?),
+        Named::Shared => ("the name of a shared tree", shared_names(alloc, script)?),
+    };
+    let why = wanted(alloc, what, value)?;
+    let number = value
+        .as_u64()
+        .and_then(|number| usize::try_from(number).ok());
+    match number.and_then(|number| names.get(number)) {
+        Some(name) => {
+            let name = quoted(alloc, name)?;
+            Ok(format!(in alloc; "{why}; is {name} meant?")?)
+        }
+        None => Ok(why),
+    }
+}
+
 /// Whether a name is among some.
 fn is_among(name: &str, names: &[&str]) -> bool {
     for other in names {
@@ -56,8 +95,8 @@ pub(crate) fn why_unknown_shared(
     if is_among(name, &names) {
         return Ok(format!(in alloc; "the shared tree {shown} stands no earlier than this tree")?);
     }
-    let question = meant(alloc, name, &names)?;
-    Ok(format!(in alloc; "no shared tree has the name {shown}{question}")?)
+    let others = meant(alloc, name, &names, "shared tree", "shared trees")?;
+    Ok(format!(in alloc; "no shared tree has the name {shown}; {others}")?)
 }
 
 /// Why a name is that of no site that a tree may invoke.
@@ -72,8 +111,8 @@ pub(crate) fn why_unknown_site(
     if is_among(name, &names) {
         return Ok(format!(in alloc; "the site {shown} stands no earlier than this tree")?);
     }
-    let question = meant(alloc, name, &names)?;
-    Ok(format!(in alloc; "no site has the name {shown}{question}")?)
+    let others = meant(alloc, name, &names, "site", "sites")?;
+    Ok(format!(in alloc; "no site has the name {shown}; {others}")?)
 }
 
 /// Why a name is none that a shared tree may have.

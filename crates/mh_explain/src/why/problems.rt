@@ -1,8 +1,9 @@
 //! Links and costs that make no problem.
-use crate::reading::known;
-use crate::words::numbered;
+use crate::values::known;
+use crate::words::{numbered, why_too_many};
 use mh_base::NoMemory;
 use mh_network::{GREATEST_SUM, LinkRow, MOST_NEEDS, ProblemFault};
+use mh_site::Version;
 use mh_text::readers::{most_links, read_rows};
 use serde_json::Value;
 use std::alloc::Global;
@@ -24,12 +25,18 @@ pub(crate) fn why_none(
         ProblemFault::NeedOutOfRange => why_out_of_range(alloc, links, costs.len()),
         ProblemFault::NeedsNotAscending => why_not_ascending(alloc, links),
         ProblemFault::TooManyLinks => {
-            let (found, most) = (links.len(), most_links(rows.version));
-            Ok(format!(in alloc; "there are {found} links, and this version allows {most}")?)
+            let most = most_links(rows.version);
+            why_too_many(alloc, "links", links.len(), most, most_links(Version::Two))
         }
         ProblemFault::TooManyPoints => {
-            let (found, most) = (costs.len(), rows.version.most_points());
-            Ok(format!(in alloc; "there are {found} points, and this version allows {most}")?)
+            let most = rows.version.most_points();
+            why_too_many(
+                alloc,
+                "points",
+                costs.len(),
+                most,
+                Version::Two.most_points(),
+            )
         }
         ProblemFault::TooManyNeeds => why_many_needs(alloc, links),
     }

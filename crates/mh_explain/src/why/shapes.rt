@@ -1,180 +1,255 @@
 //! Parts of another form than is read there.
-use crate::form::{Form, Shape};
-use crate::found::missing_key;
-use crate::key::Field;
-use crate::near::nearest;
-use crate::spot::{Reading, Spot};
-use crate::tables::known_keys;
-use crate::unread::is_read;
-use crate::why::names::why_not_new;
-use crate::words::{counted, meant, quoted, wanted, words_of};
+use crate::objects::{Object, object_at};
+use crate::spot::Spot;
+use crate::values::items;
+use crate::why::forms::{EVENT_WORDS, TREE_WORDS, form_of};
+use crate::why::missing::why_missing;
+use crate::why::names::{shared_names, why_no_name, why_not_new};
+use crate::why::numbers::{why_no_number, why_not_numbered};
+use crate::words::{counted, meant_of, quoted, wanted, why_no_kind, words_of};
 use mh_base::NoMemory;
 use mh_core::{LARGEST_LEDGER, LARGEST_TOTAL, LONGEST_HISTORY};
-use serde_json::{Map, Value};
+use mh_text::{Field, Key, Wanted, Word};
+use mh_type::{Kind, Op};
+use serde_json::Value;
 use std::alloc::Global;
-
-/// The names of kinds.
-pub(crate) const KIND_NAMES: &str = "int long boolean String";
 
 /// The names of operations.
 const OPERATION_NAMES: &str =
     "iadd isub imul idiv irem ineg ieq ilt ladd lsub lmul ldiv lrem lneg leq llt i2l l2i not beq concat seq len";
 
-/// What a word heads.
-#[derive(Clone, Copy)]
-enum Headed {
-    Tree,
-    Event,
-}
-
-impl Headed {
-    /// Its name with an article.
-    fn noun(self) -> &'static str {
-        match self {
-            Headed::Tree => "a tree",
-            Headed::Event => "an event",
-        }
-    }
-
-    /// The words that head one.
-    fn words(self) -> &'static str {
-        match self {
-            Headed::Tree => {
-                "const id op insert drop permute filter return fold guard point ref invoke"
-            }
-            Headed::Event => "call flush target invalidate snapshot offer plan install",
-        }
-    }
-
-    /// How many parts stand behind a word.
-    fn arity(self, word: &str) -> Option<usize> {
-        match self {
-            Headed::Tree => tree_arity(word),
-            Headed::Event => event_arity(word),
-        }
-    }
-}
-
-fn tree_arity(word: &str) -> Option<usize> {
-    match word {
-        "id" => Some(1),
-        "op" => Some(1),
-        "ref" => Some(1),
-        "invoke" => Some(1),
-        "const" => Some(2),
-        "return" => Some(2),
-        "fold" => Some(2),
-        "insert" => Some(3),
-        "drop" => Some(3),
-        "permute" => Some(3),
-        "filter" => Some(3),
-        "guard" => Some(3),
-        "point" => Some(3),
-        _ => None,
-    }
-}
-
-fn event_arity(word: &str) -> Option<usize> {
-    match word {
-        "snapshot" => Some(0),
-        "flush" => Some(1),
-        "invalidate" => Some(1),
-        "install" => Some(1),
-        "plan" => Some(1),
-        "target" => Some(2),
-        "offer" => Some(2),
-        "call" => Some(3),
-        _ => None,
-    }
-}
-
 /// Why a part is of another form than is read there.
-pub(crate) fn why_bad(alloc: Global, input: &Value, spot: &Spot<'_>) -> Result<String, NoMemory> {
-    if let (Some(field), Value::Object(members)) = (missing_key(spot), spot.value) {
-        return why_missing(alloc, field, &spot.reading, members);
-    }
-    match &spot.reading {
-        Reading::Script => wanted(alloc, "a script, which is an object,", spot.value),
-        Reading::Definition => wanted(alloc, "a definition, which is an object,", spot.value),
-        Reading::Events => wanted(alloc, "a list of events", spot.value),
-        Reading::Step => why_headed(alloc, Headed::Event, spot.value),
-        Reading::Part(Shape::One(form)) => why_other(alloc, input, *form, spot.value),
-        Reading::Part(_) => wanted(alloc, "a list", spot.value),
+pub(crate) fn why_other(alloc: Global, spot: &Spot<'_>) -> Result<String, NoMemory> {
+    let value = spot.value;
+    match spot.wanted {
+        Wanted::Nothing | Wanted::Json { .. } => Ok(String::new(alloc)),
+        Wanted::Missing(field) => why_missing(alloc, field, spot),
+        Wanted::List => wanted(alloc, list_at(spot), value),
+        Wanted::Tree => why_no_tree(alloc, spot.input, value),
+        Wanted::TreeWord => why_no_tree_word(alloc, value),
+        Wanted::Event => why_no_event(alloc, value),
+        Wanted::EventWord => why_no_head(alloc, "an event", EVENT_WORDS, value),
+        Wanted::PartsOf(word) => why_other_parts(alloc, word, value),
+        Wanted::Number { least, most } => why_no_number(alloc, least, most, value),
+        Wanted::NumberOf(numbered) => why_not_numbered(alloc, numbered, spot),
+        Wanted::NameOf(named) => why_no_name(alloc, named, spot.input, value),
+        Wanted::NewName => why_not_new(alloc, spot.input, value),
+        Wanted::Kind => why_not_kind(alloc, value),
+        Wanted::Operation => why_no_operation(alloc, value),
+        Wanted::Limits => why_no_limits(alloc, value),
+        Wanted::SharedPair => why_other_length(alloc, "a shared tree", "a name and a tree", value),
+        Wanted::FlowRow => {
+            let parts = "a link, a point and an amount";
+            why_other_length(alloc, "a row of a flow", parts, value)
+        }
+        Wanted::ChargeRow => {
+            why_other_length(alloc, "a row of charges", "a link and an amount", value)
+        }
+        other => wanted(alloc, plain_form(other), value),
     }
 }
 
-/// That an object lacks a key, or the key that stands in its place.
-fn why_missing(
-    alloc: Global,
-    field: Field,
-    reading: &Reading,
-    members: &Map<String, Value>,
-) -> Result<String, NoMemory> {
-    let name = field.name();
-    let others = other_keys(alloc, reading, members)?;
-    let Some(other) = nearest(alloc, name, &others)? else {
-        return Ok(format!(in alloc; "the key \"{name}\" is missing")?);
+/// The list that is read at a place.
+fn list_at(spot: &Spot<'_>) -> &'static str {
+    let [parent @ .., Key::Member(field)] = spot.path else {
+        return "a list";
     };
-    let other = quoted(alloc, other)?;
-    Ok(format!(in alloc; "{other} stands here; is \"{name}\" meant?")?)
+    match (object_at(spot.form, parent), field) {
+        (Some(Object::Script), Field::Events) => r#"a list of events, as [["flush",0]],"#,
+        (Some(Object::Definition), Field::Points) => {
+            r#"a list of points, as [{"name":"p","cost":1}],"#
+        }
+        (Some(Object::Definition), Field::Sites) => {
+            r#"a list of sites, as [{"name":"f","type":"(int)int","target":["op","ineg"]}],"#
+        }
+        (Some(Object::Definition), Field::Shared) => {
+            r#"a list of pairs of a name and a tree, as [["neg",["op","ineg"]]],"#
+        }
+        (Some(Object::Site), Field::Links) => {
+            r#"a list of links, as [{"when":1,"weight":1,"needs":["p"]}],"#
+        }
+        (Some(Object::Link), Field::Needs) => r#"a list of the names of points, as ["p"],"#,
+        (Some(Object::Problem), Field::Links) => r#"a list of links, as [{"gain":1,"needs":[0]}],"#,
+        (Some(Object::Problem), Field::Costs) => "a list of costs, one for each point, as [5],",
+        (Some(Object::Row), Field::Needs) | (Some(Object::Plan), Field::Points) => {
+            "a list of the numbers of points, as [0],"
+        }
+        (Some(Object::Plan), Field::Links) => "a list of the numbers of links, as [0],",
+        (Some(Object::Plan), Field::Flow) => {
+            "a list of rows, each a link, a point and an amount, as [[0,0,5]],"
+        }
+        (Some(Object::Plan), Field::Charges) => {
+            "a list of rows, each a link and an amount, as [[0,5]],"
+        }
+        _ => "a list",
+    }
 }
 
-/// The keys of an object that nothing reads.
-fn other_keys<'a>(
-    alloc: Global,
-    reading: &Reading,
-    members: &'a Map<String, Value>,
-) -> Result<Vec<&'a str>, NoMemory> {
-    let mut others = Vec::new(alloc);
-    for (key, _member) in members.iter() {
-        if !is_read(known_keys(reading), key.as_str()) {
-            others.push(key.as_str())?;
+/// What is called by a word alone.
+fn plain_form(form: Wanted) -> &'static str {
+    match form {
+        Wanted::Text => "a string",
+        Wanted::Truth => "true or false",
+        Wanted::Signed => "a whole number of 64 bits",
+        Wanted::MethodType => "the string of a method type, as \"(int,String)boolean\",",
+        Wanted::Version => "a version, 1 or 2,",
+        Wanted::Workers => "a number of workers, 1 to 64,",
+        Wanted::KeyPlace => "the place of a parameter, from 0, or null,",
+        Wanted::Constant(kind) => constant_of(kind),
+        _ => {
+            "a value (a whole number of 64 bits, true, false, or a string of at most 65536 bytes of printable ASCII)"
         }
     }
-    Ok(others)
 }
 
-/// Why a list is no tree, or no event.
-fn why_headed(alloc: Global, headed: Headed, value: &Value) -> Result<String, NoMemory> {
-    let noun = headed.noun();
-    let Value::Array(items) = value else {
-        return wanted(alloc, noun, value);
-    };
-    let [head, parts @ ..] = items.as_slice() else {
-        return Ok(format!(in alloc; "{noun} is a list that a word heads, and this one is empty")?);
-    };
-    let Some(word) = head.as_str() else {
-        return wanted(alloc, "a word", head);
-    };
-    why_not_headed(alloc, headed, word, parts.len())
+/// The values of a kind.
+fn constant_of(kind: Kind) -> &'static str {
+    match kind {
+        Kind::Int => "an int, -2147483648 to 2147483647,",
+        Kind::Long => "a long, a whole number of 64 bits,",
+        Kind::Boolean => "a boolean, true or false,",
+        Kind::Text => "a String of at most 65536 bytes of printable ASCII",
+    }
 }
 
-/// Why a word heads nothing, or not so many parts.
-fn why_not_headed(
-    alloc: Global,
-    headed: Headed,
-    word: &str,
-    parts: usize,
-) -> Result<String, NoMemory> {
-    let noun = headed.noun();
-    let shown = quoted(alloc, word)?;
-    let Some(arity) = headed.arity(word) else {
-        let known = words_of(alloc, headed.words())?;
-        let question = meant(alloc, word, &known)?;
-        return Ok(format!(in alloc; "{shown} heads no form of {noun}{question}")?);
-    };
-    let wanted = counted(alloc, arity, "part", "parts")?;
-    Ok(format!(in alloc; "{shown} heads {wanted} in {noun}, and {parts} here")?)
+/// Why a value is no tree, and the tree that it may be meant for.
+fn why_no_tree(alloc: Global, input: &Value, value: &Value) -> Result<String, NoMemory> {
+    let meant = tree_meant(alloc, input, value)?;
+    let why = why_no_list(alloc, "a tree", value)?;
+    Ok(format!(in alloc; "{why}{meant}")?)
 }
 
-/// That a word is none of those that may stand there.
-fn why_no_word(alloc: Global, what: &str, words: &str, value: &Value) -> Result<String, NoMemory> {
+/// The question whether the leaf is meant that a value names.
+fn tree_meant(alloc: Global, input: &Value, value: &Value) -> Result<String, NoMemory> {
+    let form = match value {
+        Value::Number(number) => match number.as_i64() {
+            Some(_) => format!(in alloc; "[\"const\",\"int\",{value}]")?,
+            None => return Ok(String::new(alloc)),
+        },
+        Value::Bool(_) => format!(in alloc; "[\"const\",\"boolean\",{value}]")?,
+        Value::String(name) if Op::from_name(name.as_str()).is_some() => {
+            format!(in alloc; "[\"op\",{value}]")?
+        }
+        Value::String(name) if shared_names(alloc, input)?.contains(&name.as_str()) => {
+            format!(in alloc; "[\"ref\",{value}]")?
+        }
+        _ => return Ok(String::new(alloc)),
+    };
+    Ok(format!(in alloc; "; is {form} meant?")?)
+}
+
+/// Why a value is no event, and an event that it may be meant for.
+fn why_no_event(alloc: Global, value: &Value) -> Result<String, NoMemory> {
+    let why = why_no_list(alloc, "an event", value)?;
+    match value.as_str() {
+        Some("snapshot") => Ok(format!(in alloc; "{why}; is [\"snapshot\"] meant?")?),
+        _ => Ok(format!(in alloc; "{why}; one is [\"flush\",0]")?),
+    }
+}
+
+/// Why a value is no list that a word heads.
+fn why_no_list(alloc: Global, noun: &str, value: &Value) -> Result<String, NoMemory> {
+    match value {
+        Value::Array(_) => Ok(format!(in alloc;
+            "{noun} is a list that a word heads, and this one is empty"
+        )?),
+        _ => wanted(alloc, noun, value),
+    }
+}
+
+/// The word that heads a list.
+fn head_of(value: &Value) -> Option<&str> {
+    value.get(0)?.as_str()
+}
+
+/// The operation of a name, or of a sign that other languages have for it.
+fn operation_meant(word: &str) -> Option<&str> {
+    match word {
+        "+" => Some("iadd"),
+        "-" => Some("isub"),
+        "*" => Some("imul"),
+        "/" => Some("idiv"),
+        "%" => Some("irem"),
+        "<" => Some("ilt"),
+        "==" => Some("ieq"),
+        "!" => Some("not"),
+        _ if Op::from_name(word).is_some() => Some(word),
+        _ => None,
+    }
+}
+
+/// Why what heads a list heads no tree.
+fn why_no_tree_word(alloc: Global, value: &Value) -> Result<String, NoMemory> {
+    let Some(word) = head_of(value) else {
+        return why_no_head(alloc, "a tree", TREE_WORDS, value);
+    };
+    match operation_meant(word) {
+        Some(name) => {
+            let arguments = if items(value).len() > 1 {
+                format!(in alloc;
+                    " [\"insert\",[\"op\",\"{name}\"],pos,[VALUE..]] gives it arguments"
+                )?
+            } else {
+                String::new(alloc)
+            };
+            Ok(format!(in alloc;
+                "\"{word}\" heads no form of a tree; is [\"op\",\"{name}\"] meant?{arguments}"
+            )?)
+        }
+        None => why_no_head(alloc, "a tree", TREE_WORDS, value),
+    }
+}
+
+/// Why what heads a list heads nothing. It is told of the list where a word heads it, and else of
+/// what stands in the place of a word.
+fn why_no_head(alloc: Global, noun: &str, words: &str, value: &Value) -> Result<String, NoMemory> {
+    let known = words_of(alloc, words)?;
+    match head_of(value) {
+        Some(word) if !known.contains(&word) => {
+            let shown = quoted(alloc, word)?;
+            let others = meant_of(alloc, word, words, "do")?;
+            Ok(format!(in alloc; "{shown} heads no form of {noun}; {others}")?)
+        }
+        _ => {
+            let what = format!(in alloc; "a word that heads {noun}")?;
+            wanted(alloc, what.as_str(), value)
+        }
+    }
+}
+
+/// Why a word does not head so many parts.
+fn why_other_parts(alloc: Global, word: Word, value: &Value) -> Result<String, NoMemory> {
+    let form = form_of(word);
+    let (Some(head), Value::Array(items)) = (head_of(value), value) else {
+        return Ok(String::new(alloc));
+    };
+    let parts = counted(alloc, items.len().saturating_sub(1), "part", "parts")?;
+    Ok(format!(in alloc; "\"{head}\" heads {parts} here, and its form is {form}")?)
+}
+
+/// Why a value is no name of a kind.
+fn why_not_kind(alloc: Global, value: &Value) -> Result<String, NoMemory> {
+    match value.as_str() {
+        Some(word) => why_no_kind(alloc, word),
+        None => wanted(
+            alloc,
+            "a kind, which is int, long, boolean or String,",
+            value,
+        ),
+    }
+}
+
+/// Why a value is no name of an operation.
+fn why_no_operation(alloc: Global, value: &Value) -> Result<String, NoMemory> {
     let Some(word) = value.as_str() else {
-        return wanted(alloc, what, value);
+        return wanted(alloc, "the name of an operation, as \"iadd\",", value);
     };
     let shown = quoted(alloc, word)?;
-    let question = meant(alloc, word, &words_of(alloc, words)?)?;
-    Ok(format!(in alloc; "{shown} is not {what}{question}")?)
+    let others = match operation_meant(word) {
+        Some(name) => format!(in alloc; "is \"{name}\" meant?")?,
+        None => meant_of(alloc, word, OPERATION_NAMES, "are")?,
+    };
+    Ok(format!(in alloc; "{shown} is not an operation; {others}")?)
 }
 
 /// Why a list of so many items has another number of them.
@@ -191,60 +266,10 @@ fn why_other_length(
     Ok(format!(in alloc; "{what} is {parts}, and this list has {found}")?)
 }
 
-/// Why a part is not of this form.
-fn why_other(alloc: Global, input: &Value, form: Form, value: &Value) -> Result<String, NoMemory> {
-    match form {
-        Form::Tree | Form::Declared | Form::Filter => why_headed(alloc, Headed::Tree, value),
-        Form::KindName => why_no_word(alloc, "a kind", KIND_NAMES, value),
-        Form::OperationName => why_no_word(alloc, "an operation", OPERATION_NAMES, value),
-        Form::NewName => why_not_new(alloc, input, value),
-        Form::SharedPair => why_other_length(alloc, "a shared tree", "a name and a tree", value),
-        Form::FlowRow => {
-            why_other_length(
-                alloc,
-                "a row of a flow",
-                "a link, a point and an amount",
-                value,
-            )
-        }
-        Form::ChargeRow => why_other_length(
-            alloc,
-            "a row of charges",
-            "a link and an amount",
-            value,
-        ),
-        Form::Limits => why_no_limits(alloc, value),
-        _ => wanted(alloc, plain_form(form), value),
-    }
-}
-
-/// What a form is that has no parts, or whose parts have keys.
-fn plain_form(form: Form) -> &'static str {
-    match form {
-        Form::Text | Form::SharedName | Form::SiteName => "a string",
-        Form::TypeText => "the string of a method type",
-        Form::Count => "a whole number from 0 to 9223372036854775807",
-        Form::Number => "a whole number from 0 to 4294967295",
-        Form::Amount => "a whole number from 0 to 18446744073709551615",
-        Form::Signed => "a whole number of 64 bits",
-        Form::Truth => "true or false",
-        Form::VersionNumber => "a version, 1 or 2,",
-        Form::Workers => "a number of workers, 1 to 64,",
-        Form::KeyPlace => "the place of a parameter, from 0, or null",
-        Form::Point => "a point, which is an object,",
-        Form::Link(..) | Form::Row(_) => "a link, which is an object,",
-        Form::Site(_) => "a site, which is an object,",
-        Form::Plan => "a plan, which is an object,",
-        Form::Problem => "a problem, which is an object,",
-        Form::Claim => "an object with a problem and a plan",
-        _ => "another form",
-    }
-}
-
 /// Why an object is no limits of a script.
 fn why_no_limits(alloc: Global, value: &Value) -> Result<String, NoMemory> {
     if !value.is_object() {
-        return wanted(alloc, "an object of limits", value);
+        return wanted(alloc, "an object of limits, as {\"history\":100},", value);
     }
     Ok(format!(in alloc;
         "history is 0 to {LONGEST_HISTORY}, ledger 1 to {LARGEST_LEDGER}, total 0 to {LARGEST_TOTAL}"

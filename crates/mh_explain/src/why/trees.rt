@@ -1,8 +1,10 @@
 //! Trees that their constructors refuse.
-use crate::reading::{items, known};
+use crate::scope::scope_at;
 use crate::spot::Spot;
+use crate::values::{items, known};
 use crate::words::{counted, numbered};
 use mh_base::NoMemory;
+use mh_text::Wanted;
 use mh_text::readers::{Scope, place, read_filter_or_none, read_tree, read_type, read_value};
 use mh_tree::{DEEPEST, DEEPEST_DECLARED, Handle, LARGEST, LARGEST_DECLARED, TreeFault};
 use mh_type::{Kind, MOST_PARAMETERS, MethodType};
@@ -15,13 +17,16 @@ pub(crate) fn why_refused(
     cause: TreeFault,
     spot: &Spot<'_>,
 ) -> Result<String, NoMemory> {
+    let Some(scope) = scope_at(alloc, spot.input, spot.path, spot.value)? else {
+        return Ok(String::new(alloc));
+    };
     match cause {
         TreeFault::TooManyParameters => Ok(format!(in alloc;
             "a tree has at most {MOST_PARAMETERS} parameters"
         )?),
-        TreeFault::TooDeep => why_too_deep(alloc, spot),
-        TreeFault::TooLarge => why_too_large(alloc, spot),
-        _ => why_misfit(alloc, cause, &spot.scope, items(spot.value)),
+        TreeFault::TooDeep => why_too_deep(alloc, &scope, spot.value),
+        TreeFault::TooLarge => why_too_large(alloc, &scope, spot.value),
+        _ => why_misfit(alloc, cause, &scope, items(spot.value)),
     }
 }
 
@@ -30,8 +35,8 @@ fn tree(alloc: Global, scope: &Scope, value: &Value) -> Result<Option<Handle>, N
     known(read_tree(alloc, scope, value))
 }
 
-fn why_too_deep(alloc: Global, spot: &Spot<'_>) -> Result<String, NoMemory> {
-    match tree(alloc, &spot.scope, spot.value)? {
+fn why_too_deep(alloc: Global, scope: &Scope, value: &Value) -> Result<String, NoMemory> {
+    match tree(alloc, scope, value)? {
         Some(tree) => {
             let depth = tree.depth();
             Ok(format!(in alloc; "the tree is {depth} deep, and here at most {DEEPEST_DECLARED}")?)
@@ -40,8 +45,8 @@ fn why_too_deep(alloc: Global, spot: &Spot<'_>) -> Result<String, NoMemory> {
     }
 }
 
-fn why_too_large(alloc: Global, spot: &Spot<'_>) -> Result<String, NoMemory> {
-    match tree(alloc, &spot.scope, spot.value)? {
+fn why_too_large(alloc: Global, scope: &Scope, value: &Value) -> Result<String, NoMemory> {
+    match tree(alloc, scope, value)? {
         Some(tree) => {
             let size = tree.size();
             Ok(format!(in alloc; "the tree has {size} nodes, and here at most {LARGEST_DECLARED}")?)
@@ -190,7 +195,7 @@ fn why_past(
 
 /// The place that a position is.
 fn place_or_last(value: &Value) -> Result<usize, NoMemory> {
-    Ok(known(place(value))?.unwrap_or(usize::MAX))
+    Ok(known(place(value, Wanted::Nothing))?.unwrap_or(usize::MAX))
 }
 
 /// The kinds of parameters from a position on, at most so many: none where there are fewer.

@@ -1,6 +1,5 @@
 //! Texts that are no method type.
-use crate::why::shapes::KIND_NAMES;
-use crate::words::{meant, quoted, words_of};
+use crate::words::why_no_kind;
 use mh_base::NoMemory;
 use mh_type::{Kind, MOST_PARAMETERS};
 use serde_json::Value;
@@ -37,12 +36,6 @@ fn unknown_kind<'a>(parameters: &'a str, returned: &'a str) -> Option<&'a str> {
         Some(_) => None,
         None => Some(returned),
     }
-}
-
-fn why_no_kind(alloc: Global, word: &str) -> Result<String, NoMemory> {
-    let shown = quoted(alloc, word)?;
-    let question = meant(alloc, word, &words_of(alloc, KIND_NAMES)?)?;
-    Ok(format!(in alloc; "{shown} is not a kind{question}")?)
 }
 
 fn why_too_many(alloc: Global, parameters: &str) -> Result<String, NoMemory> {

@@ -2,12 +2,14 @@
 ghost use Rattle.std.specs.Prelude.{◌≡◌, map};
 ghost use Rattle.serde_json.specs.View.{view};
 ghost use Rattle.mh_text.specs.Gives.{Gives};
-ghost use Rattle.mh_text.specs.Trees.{part, constant_from, identity_from, op_from, ref_from, invoke_from};
+ghost use Rattle.mh_text.specs.Trees.{part, constant_from, identity_from, op_from, ref_from, invoke_from, shared_name_of, site_name_of};
 
-use crate::fault::InputFault;
 use crate::json::scope::Scope;
 use crate::json::shape::text;
 use crate::json::values::{read_constant, read_kind, read_op};
+use crate::json::wanted::{Named, Wanted, Word};
+use crate::key::Key;
+use crate::misread::{Misread, at};
 use mh_tree::Handle;
 use serde_json::Value;
 use std::alloc::Global;
@@ -17,29 +19,26 @@ pub(crate) fn read_leaf_constant(
     alloc: Global,
     scope: &Scope,
     args: &[Value],
-) -> Result<Handle, InputFault>
+) -> Result<Handle, Misread>
     ensures value { Gives (λ x. x) result (constant_from (map (part scope.now) args.now)) }
 {
     let [kind, value] = args else {
-        return Err(InputFault::BadShape);
+        return Err(Misread::bad_shape(Wanted::PartsOf(Word::Const)));
     };
-    let kind = read_kind(kind)?;
-    let value = read_constant(alloc, kind, value)?;
+    let kind = at(alloc, Key::Item(1), read_kind(kind))?;
+    let value = at(alloc, Key::Item(2), read_constant(alloc, kind, value))?;
     Ok(Handle::constant(alloc, &value)?)
 }
 
 /// The identity of a kind.
-pub(crate) fn read_identity(
-    alloc: Global,
-    scope: &Scope,
-    args: &[Value],
-) -> Result<Handle, InputFault>
+pub(crate) fn read_identity(alloc: Global, scope: &Scope, args: &[Value]) -> Result<Handle, Misread>
     ensures value { Gives (λ x. x) result (identity_from (map (part scope.now) args.now)) }
 {
     let [kind] = args else {
-        return Err(InputFault::BadShape);
+        return Err(Misread::bad_shape(Wanted::PartsOf(Word::Id)));
     };
-    Ok(Handle::identity(alloc, read_kind(kind)?)?)
+    let kind = at(alloc, Key::Item(1), read_kind(kind))?;
+    Ok(Handle::identity(alloc, kind)?)
 }
 
 /// A leaf operation.
@@ -47,23 +46,38 @@ pub(crate) fn read_operation(
     alloc: Global,
     scope: &Scope,
     args: &[Value],
-) -> Result<Handle, InputFault>
+) -> Result<Handle, Misread>
     ensures value { Gives (λ x. x) result (op_from (map (part scope.now) args.now)) }
 {
     let [name] = args else {
-        return Err(InputFault::BadShape);
+        return Err(Misread::bad_shape(Wanted::PartsOf(Word::Op)));
     };
-    Ok(Handle::op(alloc, read_op(name)?)?)
+    let op = at(alloc, Key::Item(1), read_op(name))?;
+    Ok(Handle::op(alloc, op)?)
+}
+
+/// The shared tree of a name, which stands earlier.
+fn read_shared_name(scope: &Scope, value: &Value) -> Result<Handle, Misread>
+    ensures value { Gives (λ x. x) result (shared_name_of scope.now (view value.now)) }
+{
+    scope.tree_named(text(value, Wanted::NameOf(Named::Shared))?)
+}
+
+/// The invocation of the site of a name, which stands earlier.
+fn read_site_name(alloc: Global, scope: &Scope, value: &Value) -> Result<Handle, Misread>
+    ensures value { Gives (λ x. x) result (site_name_of scope.now (view value.now)) }
+{
+    scope.invocation_named(alloc, text(value, Wanted::NameOf(Named::Site))?)
 }
 
 /// A shared tree that stands earlier.
-pub(crate) fn read_ref(scope: &Scope, args: &[Value]) -> Result<Handle, InputFault>
+pub(crate) fn read_ref(alloc: Global, scope: &Scope, args: &[Value]) -> Result<Handle, Misread>
     ensures value { Gives (λ x. x) result (ref_from scope.now (map (part scope.now) args.now)) }
 {
     let [name] = args else {
-        return Err(InputFault::BadShape);
+        return Err(Misread::bad_shape(Wanted::PartsOf(Word::Ref)));
     };
-    scope.tree_named(text(name)?)
+    at(alloc, Key::Item(1), read_shared_name(scope, name))
 }
 
 /// The invocation of a site that stands earlier.
@@ -71,11 +85,11 @@ pub(crate) fn read_invocation(
     alloc: Global,
     scope: &Scope,
     args: &[Value],
-) -> Result<Handle, InputFault>
+) -> Result<Handle, Misread>
     ensures value { Gives (λ x. x) result (invoke_from scope.now (map (part scope.now) args.now)) }
 {
     let [name] = args else {
-        return Err(InputFault::BadShape);
+        return Err(Misread::bad_shape(Wanted::PartsOf(Word::Invoke)));
     };
-    scope.invocation_named(alloc, text(name)?)
+    at(alloc, Key::Item(1), read_site_name(alloc, scope, name))
 }

@@ -4,13 +4,14 @@ ghost use Rattle.serde_json.specs.View.{view};
 ghost use Rattle.mh_text.specs.Gives.{Gives};
 ghost use Rattle.mh_text.specs.Script.{link_of, links_of};
 
-use crate::fault::InputFault;
 use crate::json::points::read_named_points;
 use crate::json::scope::Scope;
-use crate::json::shape::{MOST, count, each, list, member};
+use crate::json::shape::{amount, each, member};
 use crate::json::values::read_value;
-use crate::json::versions::charge;
-use mh_site::{Link, Listing, Version};
+use crate::json::versions::read_charge;
+use crate::key::Field;
+use crate::misread::Misread;
+use mh_site::{GREATEST_CHARGE, GREATEST_WEIGHT, Link, Listing, Version};
 use mh_type::Kind;
 use serde_json::Value;
 use std::alloc::Global;
@@ -22,14 +23,29 @@ pub fn read_link(
     scope: &Scope,
     kind: Option<Kind>,
     value: &Value,
-) -> Result<Link, InputFault>
+) -> Result<Link, Misread>
     ensures value { Gives (λ x. x) result (link_of version scope.now.points kind
         (view value.now)) }
 {
-    let when = read_value(alloc, kind, member(value, "when")?)?;
-    let weight = count(member(value, "weight")?, MOST)?;
-    let charge = charge(version, value)?;
-    let needs = read_named_points(alloc, scope, member(value, "needs")?)?;
+    let when = member(
+        alloc,
+        value,
+        Field::When,
+        |when| read_value(alloc, kind, when),
+    )?;
+    let weight = member(
+        alloc,
+        value,
+        Field::Weight,
+        |weight| amount(weight, GREATEST_WEIGHT),
+    )?;
+    let charge = read_charge(alloc, version, value, GREATEST_CHARGE)?;
+    let needs = member(
+        alloc,
+        value,
+        Field::Needs,
+        |needs| read_named_points(alloc, scope, needs),
+    )?;
     Ok(Link {
         when,
         weight,
@@ -38,23 +54,20 @@ pub fn read_link(
     })
 }
 
-/// The links of a site, whose keys are of this kind: `links` may be absent.
+/// The links of a site, whose keys are of this kind.
 pub fn read_links(
     alloc: Global,
     version: Version,
     scope: &Scope,
     kind: Option<Kind>,
-    site: &Value,
-) -> Result<Listing<Link>, InputFault>
+    value: &Value,
+) -> Result<Listing<Link>, Misread>
     ensures value { Gives (λ x. x) result (links_of version scope.now.points kind
-        (view site.now)) }
+        (view value.now)) }
 {
-    let Some(links) = site.get("links") else {
-        return Ok(Listing::from_vec(Vec::new(alloc)));
-    };
     each(
         alloc,
-        list(links)?,
+        value,
         |link| read_link(alloc, version, scope, kind, link),
     )
 }

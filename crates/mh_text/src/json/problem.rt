@@ -1,19 +1,21 @@
 //! Problems of selection.
-ghost use Rattle.std.specs.Prelude.{◌≡◌, ◌⊎◌, ◌^◌, ◌-◌, option_map, codes, Ok, IfOk, IfErr};
-ghost use Rattle.serde_json.specs.Find.{get};
+ghost use Rattle.std.specs.Prelude.{◌≡◌, ◌⊎◌, ◌^◌, ◌-◌, option_map, Ok, IfOk, IfErr};
 ghost use Rattle.serde_json.specs.View.{view};
 ghost use Rattle.mh_text.specs.Gives.{Gives, IsOfInput, at_place};
 ghost use Rattle.mh_base.specs.Tests.{Passes, Refuses};
-ghost use Rattle.mh_text.specs.Problems.{eligible_where, row_of, rows_of, rows_at, rows_of_input, IsMade, MakesProblem};
-ghost use Rattle.mh_text.specs.Shape.{counts_of};
+ghost use Rattle.mh_text.specs.Problems.{problem_made, problem_read, row_list_of, row_of, rows_of, rows_at, rows_of_input, truth_of, IsMade, MakesProblem};
+ghost use Rattle.mh_text.specs.Shape.{count_of, counts_of};
 ghost use Rattle.mh_text.specs.Versions.{version_tests};
 
 use crate::fault::{Fault, InputFault};
 use crate::json::read_json;
-use crate::json::shape::{MOST, count, each, list, member, number, part};
-use crate::json::versions::{charge, most_links, version};
+use crate::json::shape::{amount, each, member, member_or, number, part_at};
+use crate::json::versions::{most_links, read_charge, read_version};
+use crate::json::wanted::{Numbered, Wanted};
+use crate::key::Field;
+use crate::misread::Misread;
 use mh_base::demand;
-use mh_network::{LinkRow, Listing, Problem, ProblemFault};
+use mh_network::{GREATEST_SUM, LinkRow, Listing, Problem, ProblemFault};
 use mh_site::Version;
 use serde_json::Value;
 use std::alloc::Global;
@@ -27,38 +29,51 @@ pub struct ProblemRows {
 }
 
 /// The numbers of links or points in a list.
-pub fn read_numbers(alloc: Global, value: &Value) -> Result<Listing<u32>, InputFault>
+pub(crate) fn read_numbers(
+    alloc: Global,
+    numbered: Numbered,
+    value: &Value,
+) -> Result<Listing<u32>, Misread>
     ensures value { Gives (λ x. x) result (counts_of (2 ^ 32 - 1) (view value.now)) }
 {
-    each(alloc, list(value)?, |item| number(item))
+    each(alloc, value, |item| number(item, numbered))
+}
+
+/// A gain or a cost, of which no more than the greatest sum is lawful.
+fn sum(value: &Value) -> Result<u64, Misread>
+    ensures value { Gives (λ x. x) result (count_of (2 ^ 63 - 1) (view value.now)) }
+{
+    amount(value, GREATEST_SUM)
 }
 
 /// The costs of points.
-pub fn read_costs(alloc: Global, value: &Value) -> Result<Listing<u64>, InputFault>
+fn read_costs(alloc: Global, value: &Value) -> Result<Listing<u64>, Misread>
     ensures value { Gives (λ x. x) result (counts_of (2 ^ 63 - 1) (view value.now)) }
 {
-    each(alloc, list(value)?, |item| count(item, MOST))
+    each(alloc, value, sum)
 }
 
-/// Whether a link may be chosen, which it may where nothing is said.
-fn read_eligible(link: &Value) -> Result<bool, InputFault>
-    ensures value { Gives (λ x. x) result
-        (eligible_where (get (codes "eligible") (view link.now))) }
+/// Whether something is so.
+fn read_truth(value: &Value) -> Result<bool, Misread>
+    ensures value { Gives (λ x. x) result (truth_of (view value.now)) }
 {
-    match link.get("eligible") {
-        Some(eligible) => eligible.as_bool().ok_or(InputFault::BadShape),
-        None => Ok(true),
-    }
+    value.as_bool().ok_or(Misread::bad_shape(Wanted::Truth))
 }
 
-/// A link of a problem: its gain, whether it may be chosen, its needs and its charge.
-pub fn read_row(alloc: Global, version: Version, link: &Value) -> Result<LinkRow, InputFault>
+/// A link of a problem: its gain, whether it may be chosen, which it may where nothing is said, its
+/// needs and its charge.
+fn read_row(alloc: Global, version: Version, link: &Value) -> Result<LinkRow, Misread>
     ensures value { Gives (λ x. x) result (row_of version (view link.now)) }
 {
-    let gain = count(member(link, "gain")?, MOST)?;
-    let eligible = read_eligible(link)?;
-    let needs = read_numbers(alloc, member(link, "needs")?)?;
-    let charge = charge(version, link)?;
+    let gain = member(alloc, link, Field::Gain, sum)?;
+    let eligible = member_or(alloc, link, Field::Eligible, true, read_truth)?;
+    let needs = member(
+        alloc,
+        link,
+        Field::Needs,
+        |needs| read_numbers(alloc, Numbered::Point, needs),
+    )?;
+    let charge = read_charge(alloc, version, link, GREATEST_SUM)?;
     Ok(LinkRow {
         gain,
         eligible,
@@ -67,14 +82,34 @@ pub fn read_row(alloc: Global, version: Version, link: &Value) -> Result<LinkRow
     })
 }
 
+/// The links of a problem.
+fn read_row_list(
+    alloc: Global,
+    version: Version,
+    value: &Value,
+) -> Result<Listing<LinkRow>, Misread>
+    ensures value { Gives (λ x. x) result (row_list_of version (view value.now)) }
+{
+    each(alloc, value, |link| read_row(alloc, version, link))
+}
+
 /// The version, the costs and the links of a problem.
-pub fn read_rows(alloc: Global, problem: &Value) -> Result<ProblemRows, InputFault>
+pub fn read_rows(alloc: Global, problem: &Value) -> Result<ProblemRows, Misread>
     ensures value { Gives (λ x. x) result (rows_of (view problem.now)) }
 {
-    let version = version(problem)?;
-    let costs = read_costs(alloc, member(problem, "costs")?)?;
-    let links = list(member(problem, "links")?)?;
-    let links = each(alloc, links, |link| read_row(alloc, version, link))?;
+    let version = member(alloc, problem, Field::Version, read_version)?;
+    let costs = member(
+        alloc,
+        problem,
+        Field::Costs,
+        |costs| read_costs(alloc, costs),
+    )?;
+    let links = member(
+        alloc,
+        problem,
+        Field::Links,
+        |links| read_row_list(alloc, version, links),
+    )?;
     Ok(ProblemRows {
         version,
         links,
@@ -83,11 +118,11 @@ pub fn read_rows(alloc: Global, problem: &Value) -> Result<ProblemRows, InputFau
 }
 
 /// The rows that a value, or what it has at a key, says.
-fn read_rows_at(alloc: Global, value: &Value, key: Option<&str>) -> Result<ProblemRows, InputFault>
+fn read_rows_at(alloc: Global, value: &Value, key: Option<&str>) -> Result<ProblemRows, Misread>
     ensures value { Gives (λ x. x) result
         (rows_at (option_map (λ k. k.now) key.entry) (view value.now)) }
 {
-    read_rows(alloc, part(value, key)?)
+    read_rows(alloc, part_at(value, key)?)
 }
 
 /// The problem of rows that were read: the first fault is too many links or points for their
@@ -108,6 +143,14 @@ pub fn make_problem(alloc: Global, rows: &ProblemRows) -> Result<Problem, Proble
         ProblemFault::TooManyPoints,
     )?;
     Problem::new(alloc, links, costs)
+}
+
+/// A problem: its rows, and then the fault of what they make.
+pub(crate) fn read_problem_value(alloc: Global, value: &Value) -> Result<Problem, Misread>
+    ensures value { Gives (λ x. x) result (problem_read (view value.now)) }
+{
+    let rows = read_rows(alloc, value)?;
+    Ok(make_problem(alloc, &rows)?)
 }
 
 /// The problem of rows that were read, its fault at 0.

@@ -1,11 +1,13 @@
 //! The names that a tree may use.
 ghost use Rattle.std.specs.Prelude.{◌≡◌, OnOk, OnErr, IfErr};
+ghost use Rattle.mh_text.specs.declared.fault.InputFault.TheVariants.{NoMemory};
 ghost use Rattle.mh_text.specs.Gives.{Gives};
 ghost use Rattle.mh_text.specs.Shared.{without_shared, with_shared};
 ghost use Rattle.mh_text.specs.Script.{with_site};
 ghost use Rattle.mh_text.specs.Trees.{invocation_named, point_place, shared_named};
 
 use crate::fault::InputFault;
+use crate::misread::Misread;
 use mh_site::{Listing, Name, Names, Site};
 use mh_tree::Handle;
 use mh_type::MethodType;
@@ -48,25 +50,25 @@ impl Scope {
     }
 
     /// Puts a shared tree last. Where memory is refused, all is as it was.
-    pub fn add(&mut self, shared: Shared) -> Result<(), InputFault>
+    pub fn add(&mut self, shared: Shared) -> Result<(), Misread>
         ensures value { OnOk result (self.new ≡ with_shared self.old shared) }
-        ensures refused { IfErr result (λ e. e ≡ InputFault.NoMemory) }
+        ensures refused { IfErr result (λ e. e.fault ≡ NoMemory) }
         ensures kept { OnErr result (self.new ≡ self.old) }
     {
         let Shared { name, tree } = shared;
         self.trees.push(tree)?;
         if self.names.add(name.as_str()).is_err() {
             self.trees.items.pop();
-            return Err(InputFault::NoMemory);
+            return Err(Misread::of(InputFault::NoMemory));
         }
         Ok(())
     }
 
     /// Puts a site last, so that later trees may invoke it. Of one name, the first site stays. Where
     /// memory is refused, all is as it was.
-    pub fn add_site(&mut self, site: &Site) -> Result<(), InputFault>
+    pub fn add_site(&mut self, site: &Site) -> Result<(), Misread>
         ensures value { OnOk result (self.new ≡ with_site self.old site.now) }
-        ensures refused { IfErr result (λ e. e ≡ InputFault.NoMemory) }
+        ensures refused { IfErr result (λ e. e.fault ≡ NoMemory) }
         ensures kept { OnErr result (self.new ≡ self.old) }
     {
         if self.sites.contains(site.name.as_str()) {
@@ -75,19 +77,19 @@ impl Scope {
         self.types.push(site.method_type.copy())?;
         if self.sites.add(site.name.as_str()).is_err() {
             self.types.items.pop();
-            return Err(InputFault::NoMemory);
+            return Err(Misread::of(InputFault::NoMemory));
         }
         Ok(())
     }
 
     /// The invocation of a site by its name, with the site's type.
-    pub fn invocation_named(&self, alloc: Global, name: &str) -> Result<Handle, InputFault>
+    pub fn invocation_named(&self, alloc: Global, name: &str) -> Result<Handle, Misread>
         ensures value { Gives (λ x. x) result (invocation_named self.now name.now) }
     {
         let site = self.site_number(name);
         match self.types.as_slice().get(site as usize) {
             Some(method_type) => Ok(Handle::invoke(alloc, site, method_type)?),
-            None => Err(InputFault::UnknownSite),
+            None => Err(Misread::of(InputFault::UnknownSite)),
         }
     }
 
@@ -106,12 +108,12 @@ impl Scope {
     }
 
     /// Another owner of the shared tree of a name.
-    pub fn tree_named(&self, name: &str) -> Result<Handle, InputFault>
+    pub fn tree_named(&self, name: &str) -> Result<Handle, Misread>
         ensures value { Gives (λ x. x) result (shared_named self.now name.now) }
     {
         match self.trees.as_slice().get(self.names.place(name)) {
             Some(tree) => Ok(tree.share()?),
-            None => Err(InputFault::UnknownShared),
+            None => Err(Misread::of(InputFault::UnknownShared)),
         }
     }
 }

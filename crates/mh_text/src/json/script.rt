@@ -1,21 +1,24 @@
 //! Scripts: a definition, a number of workers, and steps.
-ghost use Rattle.std.specs.Prelude.{IfErr};
+ghost use Rattle.std.specs.Prelude.{◌≡◌, IfErr};
 ghost use Rattle.serde_json.specs.View.{view};
 ghost use Rattle.mh_text.specs.Gives.{Gives, GivesUpTo, IsOfInput};
-ghost use Rattle.mh_text.specs.Script.{declarations_of, workers_of, step_list_of, schedule_of, script_of, IsNextOf, IsReachedBy, IsReached};
+ghost use Rattle.mh_text.specs.Script.{definition_of, preamble_of, workers_of, step_list_of, script_of, script_read, script_with, IsNextOf, IsReached};
 ghost use Rattle.mh_text.specs.Output.{script_of_input, IsReachedIn};
 
 use crate::fault::{Fault, InputFault};
 use crate::json::declarations::Declarations;
-use crate::json::events::read_steps;
+use crate::json::events::{read_events, read_steps};
 use crate::json::limits::read_limits;
 use crate::json::points::{point_names, read_points};
 use crate::json::read_json;
-use crate::json::shape::{count, list, member};
-use crate::json::shared::read_scope;
-use crate::json::sites::{Sited, read_sites};
+use crate::json::shape::{count, list, member, part};
+use crate::json::shared::read_shared_trees;
+use crate::json::sites::{Sited, read_site_list};
 use crate::json::step::Step;
-use crate::json::versions::version;
+use crate::json::versions::read_version;
+use crate::json::wanted::Wanted;
+use crate::key::Field;
+use crate::misread::Misread;
 use mh_core::Limits;
 use mh_site::{Definition, Listing};
 use serde_json::Value;
@@ -33,37 +36,83 @@ pub struct Script {
     pub steps: Listing<Step>,
 }
 
-/// How many workers a script has, its limits and its steps.
+/// What a script says before its events.
 #[derive(Drop)]
-pub struct Schedule {
+pub struct Preamble {
+    pub declared: Declarations,
     pub workers: u32,
     pub limits: Limits,
-    pub steps: Listing<Step>,
 }
 
-/// What a script declares.
-pub fn read_declarations(alloc: Global, value: &Value) -> Result<Declarations, InputFault>
-    ensures value { Gives (λ x. x) result (declarations_of (view value.now)) }
+impl Preamble {
+    /// The script that goes on with these steps.
+    fn with_steps(self, steps: Listing<Step>) -> Script
+        ensures value { result ≡ script_with self steps }
+    {
+        let Preamble {
+            declared,
+            workers,
+            limits,
+        } = self;
+        let Declarations { definition, .. } = declared;
+        Script {
+            definition,
+            workers,
+            limits,
+            steps,
+        }
+    }
+}
+
+/// A definition: its version, points, shared trees and sites, and then the faults of what they
+/// make.
+#[tactic(auto, unfolding(crate::specs::Script::definition_of))]
+pub fn read_definition(alloc: Global, value: &Value) -> Result<Declarations, Misread>
+    ensures value { Gives (λ x. x) result (definition_of (view value.now)) }
 {
-    let definition = member(value, "definition")?;
-    let version = version(definition)?;
-    let points = read_points(alloc, definition)?;
+    let version = member(alloc, value, Field::Version, read_version)?;
+    let points = member(
+        alloc,
+        value,
+        Field::Points,
+        |points| read_points(alloc, points),
+    )?;
     let names = point_names(alloc, points.as_slice())?;
-    let scope = read_scope(alloc, names, definition)?;
-    let Sited { scope, sites } = read_sites(alloc, version, scope, definition)?;
+    let scope = read_shared_trees(alloc, names, value)?;
+    let Sited { scope, sites } = read_site_list(alloc, version, scope, value)?;
     let definition = Definition::new(alloc, version, points, sites)?;
     Ok(Declarations { definition, scope })
 }
 
 /// The number of workers: 1 to 64.
-pub fn read_workers(value: &Value) -> Result<u32, InputFault>
+fn read_workers(value: &Value) -> Result<u32, Misread>
     ensures value { Gives (λ x. x) result (workers_of (view value.now)) }
 {
-    let workers = count(member(value, "workers")?, MOST_WORKERS as u64)?;
+    let workers = count(value, MOST_WORKERS as u64, Wanted::Workers)?;
     if workers == 0 {
-        return Err(InputFault::BadShape);
+        return Err(Misread::bad_shape(Wanted::Workers));
     }
     Ok(workers as u32)
+}
+
+/// What a script declares, its workers and its limits.
+#[tactic(auto, unfolding(crate::specs::Script::preamble_of))]
+fn read_preamble(alloc: Global, value: &Value) -> Result<Preamble, Misread>
+    ensures value { Gives (λ x. x) result (preamble_of (view value.now)) }
+{
+    let declared = member(
+        alloc,
+        value,
+        Field::Definition,
+        |definition| read_definition(alloc, definition),
+    )?;
+    let workers = member(alloc, value, Field::Workers, read_workers)?;
+    let limits = read_limits(alloc, value)?;
+    Ok(Preamble {
+        declared,
+        workers,
+        limits,
+    })
 }
 
 fn read_step_list(
@@ -75,24 +124,8 @@ fn read_step_list(
         (step_list_of declared.now (view value.now)) }
     ensures kind { IfErr result (λ e. IsOfInput e.kind) }
 {
-    let events = list(member(value, "events")?)?;
+    let events = list(part(value, Field::Events)?, Wanted::List)?;
     read_steps(alloc, declared, events)
-}
-
-/// What is asked of the sites that are declared.
-fn read_schedule(alloc: Global, declared: &Declarations, value: &Value) -> Result<Schedule, Fault>
-    ensures value { GivesUpTo (IsReachedBy declared.now (view value.now)) result
-        (schedule_of declared.now (view value.now)) }
-    ensures kind { IfErr result (λ e. IsOfInput e.kind) }
-{
-    let workers = read_workers(value)?;
-    let limits = read_limits(value)?;
-    let steps = read_step_list(alloc, declared, value)?;
-    Ok(Schedule {
-        workers,
-        limits,
-        steps,
-    })
 }
 
 /// The script that a JSON value holds, or its first fault in the order of reading.
@@ -100,20 +133,24 @@ fn read_script_value(alloc: Global, value: &Value) -> Result<Script, Fault>
     ensures value { GivesUpTo (IsReached (view value.now)) result (script_of (view value.now)) }
     ensures kind { IfErr result (λ e. IsOfInput e.kind) }
 {
-    let declared = read_declarations(alloc, value)?;
-    let schedule = read_schedule(alloc, &declared, value)?;
-    let Declarations { definition, .. } = declared;
-    let Schedule {
-        workers,
-        limits,
-        steps,
-    } = schedule;
-    Ok(Script {
-        definition,
-        workers,
-        limits,
-        steps,
-    })
+    let preamble = read_preamble(alloc, value)?;
+    let steps = read_step_list(alloc, &preamble.declared, value)?;
+    Ok(preamble.with_steps(steps))
+}
+
+/// The same, whose fault knows its place.
+pub(crate) fn read_placed_script(alloc: Global, value: &Value) -> Result<Script, Misread>
+    ensures value { Gives (λ x. x) result (script_read (view value.now)) }
+{
+    let preamble = read_preamble(alloc, value)?;
+    let declared = &preamble.declared;
+    let steps = member(
+        alloc,
+        value,
+        Field::Events,
+        |events| read_events(alloc, declared, events),
+    )?;
+    Ok(preamble.with_steps(steps))
 }
 
 /// The script of an input, or its first fault in the order of reading: its length, JSON, the

@@ -4,16 +4,19 @@ ghost use Rattle.serde_json.specs.View.{view};
 ghost use Rattle.std.specs.Io.KnownBytes.{IsAtEnd};
 ghost use Rattle.mh_text.specs.Bytes.{HasFailed, LosesAtMost, most_bytes};
 ghost use Rattle.mh_text.specs.declared.fault.TextFault.TheVariants.{ReadFailed};
-ghost use Rattle.mh_text.specs.Checks.{Holds, IsFirstOf, IsClaim, IsClaimFault};
-ghost use Rattle.mh_text.specs.Gives.{at_place, no_memory, IsHonestReading, IsOfInput};
+ghost use Rattle.mh_text.specs.Checks.{Holds, IsFirstOf, IsClaim, IsClaimFault, claim_read};
+ghost use Rattle.mh_text.specs.Gives.{Gives, at_place, no_memory, IsHonestReading, IsOfInput};
 ghost use Rattle.mh_text.specs.Output.{IsUnread, outside};
 ghost use Rattle.mh_text.specs.Plans.{plan_at};
 ghost use Rattle.mh_text.specs.Problems.{rows_at};
 
 use crate::fault::Fault;
-use crate::json::plan::read_plan_at;
-use crate::json::problem::read_problem_at;
+use crate::json::plan::{read_plan_at, read_plan_value};
+use crate::json::problem::{read_problem_at, read_problem_value};
 use crate::json::read_json;
+use crate::json::shape::member;
+use crate::key::Field;
+use crate::misread::Misread;
 use crate::streams::input::read_input;
 use crate::streams::watched::Watched;
 use mh_cert::Plan;
@@ -41,6 +44,25 @@ fn read_parts(alloc: Global, value: &Value) -> Result<Claim, Fault>
 {
     let problem = read_problem_at(alloc, value, Some("problem"))?;
     let plan = read_plan_at(alloc, value, Some("plan"))?;
+    Ok(Claim { problem, plan })
+}
+
+/// A problem, which is read and made, and then a plan.
+pub(crate) fn read_placed_claim(alloc: Global, value: &Value) -> Result<Claim, Misread>
+    ensures value { Gives (λ x. x) result (claim_read (view value.now)) }
+{
+    let problem = member(
+        alloc,
+        value,
+        Field::Problem,
+        |problem| read_problem_value(alloc, problem),
+    )?;
+    let plan = member(
+        alloc,
+        value,
+        Field::Plan,
+        |plan| read_plan_value(alloc, plan),
+    )?;
     Ok(Claim { problem, plan })
 }
 

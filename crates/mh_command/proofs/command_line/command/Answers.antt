@@ -3,14 +3,12 @@ use Rattle.std.proofs.KnownBytes.{Keeps-refl}
 use Rattle.clap.specs.declared.error.kind.ErrorKind.TheVariants.{DisplayHelp, DisplayVersion}
 use Rattle.mh_text.specs.Bytes.{HasFailed}
 use Rattle.mh_text.specs.Output.{outside}
-use Rattle.mh_text.specs.declared.fault.Fault.{Fault}
-use Rattle.mh_command.specs.Answers.{Answers, EndsIn}
+use Rattle.mh_command.specs.Answers.{Answers, IsStopped}
 use Rattle.mh_command.specs.Statuses.{status_answered}
-use Rattle.mh_command.specs.Streams.{IsToldFor}
 use Rattle.mh_text.specs.Gives.{no_memory}
 use Rattle.mh_command.specs.CommandLine.{IsReply}
 use Rattle.mh_command.proofs.CommandLines.{asks_help, asks_version}
-use Rattle.mh_command.proofs.Ends.{four_is_no_two, four_is_not_below_two, nothing_done}
+use Rattle.mh_command.proofs.Ends.{four_is_no_two, four_is_no_zero, four_is_not_below_two, nothing_done, nothing_shown, nothing_told}
 use Rattle.mh_command.proofs.command_line.command.Goals as goal
 
 pub returns-in-Ok-Some-clause-answers : goal.returns-in-Ok-Some-clause-answers
@@ -24,9 +22,9 @@ pub returns-in-Ok-Some-clause-stopped : goal.returns-in-Ok-Some-clause-stopped
 returns-in-Ok-Some-clause-stopped g c = λ asked is large.
     let found = c.in-Ok-Some.ensures.asked asked is in
     let same : c.in-Ok-Some.asked ≡ asked = cc in
-    subst (λ a. (e : Fault) × EndsIn a (g.R.Read.remaining c.args.reader.now.inner) (g.W.Write.contents c.args.out.now.inner) (g.W.Write.contents c.perform.new.out.inner)
-    (HasFailed c.args.reader.now.failures c.perform.new.reader.failures) (HasFailed c.args.out.now.failures c.perform.new.out.failures) e
-    × IsToldFor (g.E.Write.contents c.args.err.now.inner) (g.E.Write.contents c.perform.new.err.inner) c.args.err.now.failures c.perform.new.err.failures a.reading.explain c.perform.result e)
+    subst (λ a. IsStopped a (g.R.Read.remaining c.args.reader.now.inner) (g.W.Write.contents c.args.out.now.inner) (g.W.Write.contents c.perform.new.out.inner)
+    (HasFailed c.args.reader.now.failures c.perform.new.reader.failures) (HasFailed c.args.out.now.failures c.perform.new.out.failures)
+    (g.E.Write.contents c.args.err.now.inner) (g.E.Write.contents c.perform.new.err.inner) c.args.err.now.failures c.perform.new.err.failures c.perform.result)
     same (c.perform.ensures.stopped large)
 
 pub returns-in-Ok-None-clause-asked : goal.returns-in-Ok-None-clause-asked
@@ -56,7 +54,8 @@ returns-in-Ok-None-clause-version g c = λ is. absurd (c.in-Ok-None.ensures.refu
 pub returns-in-Err-clause-stopped : goal.returns-in-Err-clause-stopped
 returns-in-Err-clause-stopped g c = λ asked is large.
     let memory = c.reply.ensures.memory (c.in-Err.ensures.taken asked is) in
-    rw (memory.1, memory.2) (outside no_memory, inl (nothing_done asked _ _ _ _), ([], λ plain. refl, inr (inr (memory.0, (Keeps-refl _, refl)))))
+    let told = nothing_told asked (g.R.Read.remaining c.args.reader.now.inner) (outside no_memory) in
+    rw (memory.1, memory.2) (inl (outside no_memory, inl (nothing_done asked _ _ _ _), ([], told, inr (inr (memory.0, (Keeps-refl _, refl))))))
 
 pub returns-in-Err-clause-replied : goal.returns-in-Err-clause-replied
 returns-in-Err-clause-replied g c = λ kind faulty. (
@@ -76,24 +75,35 @@ returns-in-Ok-None-clause-told g c = λ kind faulty two. absurd (c.in-Ok-None.en
 pub returns-in-Err-clause-told : goal.returns-in-Err-clause-told
 returns-in-Err-clause-told g c = λ kind faulty two.
     elim (c.in-Err.ensures.kinds kind faulty) [
-      | inl memory ↦ let idle = c.reply.ensures.memory memory in rw idle.2 (inr (inr (idle.0, (Keeps-refl _, refl))))
-      | inr same ↦ c.reply.ensures.told (ap status_answered same ∙ two)
+      | inl memory ↦ let idle = c.reply.ensures.memory memory in (rw idle.2 (nothing_shown _ _ c.reply.result 2 idle.0), idle.1)
+      | inr same ↦ (c.reply.ensures.told (ap status_answered same ∙ two), c.reply.ensures.output (ap status_answered same ∙ two))
+    ]
+
+pub returns-in-Ok-Some-clause-shown : goal.returns-in-Ok-Some-clause-shown
+returns-in-Ok-Some-clause-shown g c = λ kind faulty zero. absurd (c.in-Ok-Some.ensures.refused kind faulty)
+
+pub returns-in-Ok-None-clause-shown : goal.returns-in-Ok-None-clause-shown
+returns-in-Ok-None-clause-shown g c = λ kind faulty zero. absurd (c.in-Ok-None.ensures.refused kind faulty)
+
+pub returns-in-Err-clause-shown : goal.returns-in-Err-clause-shown
+returns-in-Err-clause-shown g c = λ kind faulty zero.
+    elim (c.in-Err.ensures.kinds kind faulty) [
+      | inl memory ↦ let idle = c.reply.ensures.memory memory in (rw idle.1 (nothing_shown _ _ c.reply.result 0 idle.0), idle.2)
+      | inr same ↦ (c.reply.ensures.shown (ap status_answered same ∙ zero), c.reply.ensures.errors (ap status_answered same ∙ zero))
     ]
 
 pub returns-in-Err-clause-help : goal.returns-in-Err-clause-help
-returns-in-Err-clause-help g c = λ is. (
-  elim (c.in-Err.ensures.kinds DisplayHelp (asks_help (map g.S.AsStr.text c.args.words.now) is)) [
-    | inl memory ↦ let idle = c.reply.ensures.memory memory in rw idle.1 (inr (inr (idle.0, (Keeps-refl _, refl))))
-    | inr same ↦ c.reply.ensures.shown (ap status_answered same)
-  ],
-  refl,
-)
+returns-in-Err-clause-help g c = λ is.
+    let given = returns-in-Err-clause-shown g c DisplayHelp (asks_help (map g.S.AsStr.text c.args.words.now) is) refl in
+    (given.0, given.1, refl)
 
 pub returns-in-Err-clause-version : goal.returns-in-Err-clause-version
-returns-in-Err-clause-version g c = λ is. (
-  elim (c.in-Err.ensures.kinds DisplayVersion (asks_version (map g.S.AsStr.text c.args.words.now) is)) [
-    | inl memory ↦ let idle = c.reply.ensures.memory memory in rw idle.1 (inr (inr (idle.0, (Keeps-refl _, refl))))
-    | inr same ↦ c.reply.ensures.shown (ap status_answered same)
-  ],
-  refl,
-)
+returns-in-Err-clause-version g c = λ is.
+    let given = returns-in-Err-clause-shown g c DisplayVersion (asks_version (map g.S.AsStr.text c.args.words.now) is) refl in
+    (given.0, given.1, refl)
+
+pub returns-in-Ok-Some-clause-end : goal.returns-in-Ok-Some-clause-end
+returns-in-Ok-Some-clause-end g c = λ asked is zero. c.perform.ensures.end zero
+
+pub returns-in-Err-clause-end : goal.returns-in-Err-clause-end
+returns-in-Err-clause-end g c = λ asked is zero. absurd (four_is_no_zero (c.reply.ensures.memory (c.in-Err.ensures.taken asked is)).0 zero)

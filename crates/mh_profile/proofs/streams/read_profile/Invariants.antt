@@ -1,4 +1,4 @@
-use Rattle.std.proofs.Common.{◌≡◌, ◌-◌, List, ℕ}
+use Rattle.std.proofs.Common.{◌≡◌, ◌-◌, List, ℕ, length}
 use Rattle.std.specs.Io.KnownBytes.{Consumes}
 use Rattle.mh_profile.specs.Readers.{taken_by, IsReading}
 use Rattle.mh_profile.proofs.Streaming.{HasTaken}
@@ -10,6 +10,7 @@ invariant-chunks g l = record {
   kept : l.reader.failures ≡ l.initial.reader.failures;
   reading : IsReading l.lines;
   taken : (front : List ℕ) × Consumes (g.R.Read.remaining l.initial.reader.inner) (g.R.Read.remaining l.reader.inner) front × HasTaken front l.lines;
+  counted : (front : List ℕ) × Consumes (g.R.Read.remaining l.initial.reader.inner) (g.R.Read.remaining l.reader.inner) front × (length front ≡ taken_by l.lines);
 }
 
 abbrev pub decreases-chunks : goal.decreases-chunks

@@ -4,6 +4,6 @@ use Rattle.mh_text.specs.Script.{all_sites_of}
 use Rattle.mh_text.proofs.json.sites.read_sites.Given as goal
 
 -- the sites so far, and then those that are read of the rest, are those that are read of all
-abbrev pub invariant-loop-site : goal.invariant-loop-site
-invariant-loop-site l =
-    all_sites_of l.version l.sited (map view (drop l.site-index l.sites)) ≡ all_sites_of l.version l.initial.sited (map view l.sites)
+abbrev pub invariant-loop-i : goal.invariant-loop-i
+invariant-loop-i l =
+    all_sites_of l.version l.sited l.i (map view (drop l.i l.sites)) ≡ all_sites_of l.version l.initial.sited 0 (map view l.sites)

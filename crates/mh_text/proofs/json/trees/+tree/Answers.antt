@@ -1,39 +1,30 @@
 use Rattle.std.proofs.lemmas.Result.{err_from_is_err_and}
+use Rattle.serde_json.specs.View.{view}
+use Rattle.mh_text.specs.declared.key.Key.TheVariants.{Item}
+use Rattle.mh_text.specs.Misreads.{under}
 use Rattle.mh_text.specs.Trees.{filter_of}
 use Rattle.mh_text.proofs.Forms.{form_at, filters_of_array}
 use Rattle.mh_text.proofs.Loop.{one_more, stops_or}
-use Rattle.mh_text.proofs.Points.{point_of, point_gives, point_refuses}
 use Rattle.mh_text.proofs.json.trees.+tree.Goals as goal
 
-pub read_filters-loop-item-init : goal.read_filters-loop-item-init
-read_filters-loop-item-init t c =
-    rw (c.in-Array.is, c.new-filters.ensures.items) (filters_of_array c.args.scope.now c.in-Array.items c.as_slice-item-items.result.now c.as_slice-item-items.ensures.value)
+pub read_filters-loop-i-init : goal.read_filters-loop-i-init
+read_filters-loop-i-init t c =
+    rw (c.in-Array.is, c.new-filters.ensures.items) (filters_of_array c.args.scope.now c.in-Array.items c.as_slice-items.result.now c.as_slice-items.ensures.value)
 
-pub read_filters-returns-in_err-read_filter_or_none : goal.read_filters-returns-in_err-read_filter_or_none
-read_filters-returns-in_err-read_filter_or_none t c =
+pub read_filters-returns-in_err-at : goal.read_filters-returns-in_err-at
+read_filters-returns-in_err-at t c =
     let p = err_from_is_err_and c.from_residual.result c.from_residual.ensures.1 in
+    let gives = c.in_err-at.ensures.value (filter_of c.args.scope.now (view c.index-items-i.result)) c.read_filter_or_none.ensures.value in
     record {
-      value = rw (p.1, p.2) (stops_or (λ _ d. filter_of c.args.scope.now d) c.loop-item.filters.items c.as_slice-item-items.result.now c.loop-item.item-index c.loop-item.item-index c.item-item.result c.in_err-read_filter_or_none.field-0.0 _ c.loop-item-test.true c.item-item.is c.in_err-read_filter_or_none.ensures.value c.loop-item.invariant);
+      value = rw (p.1, p.2) (stops_or (λ i d. under (Item i) (filter_of c.args.scope.now d)) c.loop-i.filters.items c.as_slice-items.result.now c.loop-i.i c.loop-i.i c.index-items-i.result c.in_err-at.field-0.0 _ c.loop-i-test.true c.index-items-i.is gives c.loop-i.invariant);
     }
 
-pub read_filters-loop-item-preserved : goal.read_filters-loop-item-preserved
-read_filters-loop-item-preserved t c =
-    rw c.in_ok-push.ensures.items (one_more (λ _ d. filter_of c.args.scope.now d) c.loop-item.filters.items c.as_slice-item-items.result.now c.loop-item.item-index c.loop-item.item-index c.item-item.result c.in_ok-read_filter_or_none.field-0 _ c.loop-item-test.true c.item-item.is c.in_ok-read_filter_or_none.ensures.value c.loop-item.invariant)
+pub read_filters-loop-i-preserved : goal.read_filters-loop-i-preserved
+read_filters-loop-i-preserved t c =
+    let gives = c.in_ok-at.ensures.value (filter_of c.args.scope.now (view c.index-items-i.result)) c.read_filter_or_none.ensures.value in
+    rw c.in_ok-push.ensures.items (one_more (λ i d. under (Item i) (filter_of c.args.scope.now d)) c.loop-i.filters.items c.as_slice-items.result.now c.loop-i.i c.loop-i.i c.index-items-i.result c.in_ok-at.field-0 _ c.loop-i-test.true c.index-items-i.is gives c.loop-i.invariant)
 
-pub read_tree-returns : goal.read_tree-returns
-read_tree-returns t c =
-    let e = form_at c.args.scope.now c.in-Array.items c.as_slice.result.now c.head-item.result c.in_ok-text.field-0.now c.as_slice.ensures.value c.in-len1-up.len_at_least c.head-item.is c.in_ok-text.ensures.value in
+pub read_tree-returns-in-Ok : goal.read_tree-returns-in-Ok
+read_tree-returns-in-Ok t c =
+    let e = form_at c.args.scope.now c.in-Array.items c.as_slice.result.now c.head-item.result c.in-Ok.word.now c.as_slice.ensures.value c.in-len1-up.len_at_least c.head-item.is c.in-Ok.ensures.value in
     record { value = rw (c.in-Array.is, e) c.read_form.ensures.value }
-
-pub read_branches-returns-in_err-point : goal.read_branches-returns-in_err-point
-read_branches-returns-in_err-point t c =
-    let p = err_from_is_err_and c.from_residual-in_err-point.result c.from_residual-in_err-point.ensures.1 in
-    let is = point_of c.args.scope.now c.args.args.now c.name-item.result c.target-item.result c.fallback-item.result c.in_ok-text.field-0.now c.point_number-point.result c.in_ok-target.target c.in_ok-fallback.fallback c.in-len3.len_at_least c.in-len3.len_below c.name-item.is c.target-item.is c.fallback-item.is c.in_ok-text.ensures.value c.point_number-point.ensures.value c.in_ok-target.ensures.value c.in_ok-fallback.ensures.value in
-    record {
-      value = rw (p.1, p.2) (point_refuses _ c.point_number-point.result c.in_ok-target.target c.in_ok-fallback.fallback c.in_err-point.field-0.0 is c.in_err-point.ensures.refused);
-    }
-
-pub read_branches-returns : goal.read_branches-returns
-read_branches-returns t c =
-    let is = point_of c.args.scope.now c.args.args.now c.name-item.result c.target-item.result c.fallback-item.result c.in_ok-text.field-0.now c.point_number-point.result c.in_ok-target.target c.in_ok-fallback.fallback c.in-len3.len_at_least c.in-len3.len_below c.name-item.is c.target-item.is c.fallback-item.is c.in_ok-text.ensures.value c.point_number-point.ensures.value c.in_ok-target.ensures.value c.in_ok-fallback.ensures.value in
-    record { value = point_gives _ c.point_number-point.result c.in_ok-target.target c.in_ok-fallback.fallback c.in_ok-point.field-0 is c.in_ok-point.ensures.value }

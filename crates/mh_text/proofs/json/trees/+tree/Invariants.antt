@@ -1,11 +1,11 @@
 use Rattle.std.proofs.Common.{◌≡◌, drop, map}
 use Rattle.serde_json.specs.View.{view}
-use Rattle.mh_text.specs.Shape.{each_from}
+use Rattle.mh_text.specs.Shape.{items_from}
 use Rattle.mh_text.specs.Trees.{filter_of, filters_of}
 use Rattle.mh_text.proofs.Loop.{with_front}
 use Rattle.mh_text.proofs.json.trees.+tree.Given as goal
 
 -- the filters so far, and then those that are read of the rest, are those that are read of all
-abbrev pub invariant-read_filters-loop-item : goal.invariant-read_filters-loop-item
-invariant-read_filters-loop-item l =
-    with_front l.filters.items (each_from (λ _ d. filter_of l.scope d) l.item-index (map view (drop l.item-index l.item-items))) ≡ filters_of l.scope (view l.value)
+abbrev pub invariant-read_filters-loop-i : goal.invariant-read_filters-loop-i
+invariant-read_filters-loop-i l =
+    with_front l.filters.items (items_from (λ _ d. filter_of l.scope d) l.i (map view (drop l.i l.items))) ≡ filters_of l.scope (view l.value)

@@ -1,0 +1,159 @@
+//! Texts that are no JSON.
+mod levels;
+mod stop;
+
+use crate::no_json::levels::{Level, Levels};
+use crate::no_json::stop::{COMMENTS, Stop, is_white};
+use crate::objects::is_profile_line;
+use crate::words::printable;
+use mh_base::NoMemory;
+use mh_text::readers::parse_json;
+use serde_json::Value;
+use std::alloc::Global;
+use std::str;
+
+/// How many bytes before the fault of a text are shown.
+const BYTES_BEFORE: usize = 40;
+
+/// How many bytes from the fault of a text on are shown.
+const BYTES_BEHIND: usize = 20;
+
+/// How deep values stand in one another at most.
+const DEEPEST_VALUE: usize = 127;
+
+/// A text that is no JSON, and where reading it stopped.
+#[derive(Clone, Copy)]
+pub(crate) struct Text<'a> {
+    pub(crate) input: &'a [u8],
+    /// Its line, from 1.
+    pub(crate) line: usize,
+    /// The column of the byte that cannot stand there, from 1, or the length of the line where the
+    /// text ends.
+    pub(crate) column: usize,
+    /// Whether more bytes could make it JSON.
+    pub(crate) is_cut: bool,
+}
+
+impl Text<'_> {
+    /// Where it stopped to be JSON, what stands there, and why it is none: a line each.
+    pub(crate) fn explanation(&self, alloc: Global) -> Result<String, NoMemory> {
+        if str::from_utf8(self.input).is_err() {
+            return self.lines(alloc, "the text is not UTF-8 from here on");
+        }
+        if self.input.starts_with(b"\xef\xbb\xbf") {
+            return self.lines(alloc, "the input begins with a byte order mark");
+        }
+        if self.is_cut {
+            return self.lines(alloc, cut_reason(alloc, self.input)?);
+        }
+        let (before, rest) = self.parts();
+        match parse_json(alloc, before) {
+            Ok(value) => self.lines(alloc, reason_behind(&value, rest)),
+            Err(_) => self.explanation_within(alloc),
+        }
+    }
+
+    /// The same where no value ends before: of the first byte that cannot stand where it does.
+    fn explanation_within(&self, alloc: Global) -> Result<String, NoMemory> {
+        let (levels, read) = Levels::by(alloc, self.parts().0)?;
+        let text = self.moved_to(read);
+        if levels.depth() > DEEPEST_VALUE {
+            return text.lines(alloc, "values stand at most 127 deep in one another");
+        }
+        let (before, rest) = text.parts();
+        let stop = Stop {
+            before,
+            rest,
+            level: levels.innermost(),
+        };
+        text.lines(alloc, stop.reason())
+    }
+
+    /// The three lines, of which the last says this.
+    fn lines(&self, alloc: Global, why: &str) -> Result<String, NoMemory> {
+        let (line, column) = (self.line, self.column);
+        let found = printable(alloc, self.around())?;
+        Ok(format!(in alloc;
+            "  where: line {line} column {column}\n  found: {found}\n  why:   {why}\n"
+        )?)
+    }
+
+    /// The same text, with this byte as the one that cannot stand there.
+    fn moved_to(&self, byte: usize) -> Text<'_> {
+        let (mut line, mut column) = (1usize, 1usize);
+        for earlier in &self.input[..byte.min(self.input.len())] {
+            if *earlier == b'\n' {
+                line = line.saturating_add(1);
+                column = 1;
+            } else {
+                column = column.saturating_add(1);
+            }
+        }
+        Text {
+            input: self.input,
+            line,
+            column,
+            is_cut: self.is_cut,
+        }
+    }
+
+    /// Where its line begins.
+    fn line_start(&self) -> usize {
+        let mut seen: usize = 1;
+        for (i, byte) in self.input.iter().enumerate() {
+            if seen >= self.line {
+                return i;
+            }
+            if *byte == b'\n' {
+                seen = seen.saturating_add(1);
+            }
+        }
+        self.input.len()
+    }
+
+    /// The bytes around its column.
+    fn around(&self) -> &[u8] {
+        let start = self.line_start();
+        let fault = start.saturating_add(self.column).min(self.input.len());
+        let from = start.max(fault.saturating_sub(BYTES_BEFORE)).min(fault);
+        let to = fault.saturating_add(BYTES_BEHIND).min(self.input.len());
+        let shown = &self.input[from..to];
+        match shown.split(|byte| *byte == b'\n').next() {
+            Some(first) => first,
+            None => shown,
+        }
+    }
+
+    /// What stands before its column, and what from there on.
+    fn parts(&self) -> (&[u8], &[u8]) {
+        let behind = self.line_start().saturating_add(self.column);
+        let at = behind.saturating_sub(1).min(self.input.len());
+        (&self.input[..at], &self.input[at..])
+    }
+}
+
+/// Why a text ends too early.
+fn cut_reason(alloc: Global, input: &[u8]) -> Result<&'static str, NoMemory> {
+    if input.iter().all(|byte| is_white(*byte)) {
+        return Ok("the input is empty");
+    }
+    let (levels, _) = Levels::by(alloc, input)?;
+    Ok(match levels.innermost() {
+        _ if levels.is_in_string => "the input ends within a string, which ends with \"",
+        Some(Level { is_list: true, .. }) => "the input ends within a list, which ends with ]",
+        Some(Level { is_list: false, .. }) => "the input ends within an object, which ends with }",
+        None => "the input ends within a value",
+    })
+}
+
+/// Why this may not stand behind a whole value.
+fn reason_behind(value: &Value, rest: &[u8]) -> &'static str {
+    match rest {
+        [b'/' | b'#', ..] => COMMENTS,
+        [b']' | b'}', ..] => "the input is one value of JSON, which ended before this",
+        _ if is_profile_line(value) => {
+            "the input is one value of JSON, and this stands behind it; lines as these are a profile, which mhlink profile reads"
+        }
+        _ => "the input is one value of JSON, and this stands behind it",
+    }
+}

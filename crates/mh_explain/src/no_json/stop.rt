@@ -1,0 +1,238 @@
+//! Why a text is no JSON, by what stands before and behind the place where reading it stopped.
+use crate::no_json::levels::Level;
+
+/// Why `//` and `#` are none.
+pub(crate) const COMMENTS: &str = "JSON has no comments";
+
+const QUOTES: &str = "a string of JSON stands in \"\"";
+
+const KEY: &str = "a key of an object stands in \"\"";
+
+const NO_KEY: &str = "a key is missing before this";
+
+const NO_VALUE: &str = "a value is missing before this";
+
+const NO_COLON: &str = "a colon and a value are missing before this";
+
+const COMMA_BEFORE: &str = "there is a comma too many before this";
+
+const COMMA_HERE: &str = "there is a comma too many here";
+
+const SEMICOLON: &str = "commas stand between the parts of a list or an object, and no ;";
+
+const NOT_FINITE: &str = "JSON has no NaN and no infinity";
+
+const TOO_LARGE: &str = "the number before this is too large";
+
+const NOTHING: &str = "no text of JSON has this here";
+
+/// A place where a text, which is no value of JSON up to there, cannot go on so.
+#[derive(Clone, Copy)]
+pub(crate) struct Stop<'a> {
+    pub(crate) before: &'a [u8],
+    pub(crate) rest: &'a [u8],
+    /// The innermost list or object that is open there.
+    pub(crate) level: Option<Level>,
+}
+
+impl Stop<'_> {
+    /// Why the text cannot go on so.
+    pub(crate) fn reason(&self) -> &'static str {
+        match self.rest {
+            [b'/' | b'#', ..] => return COMMENTS,
+            [b'\'' | b'`', ..] | [0xe2, 0x80, 0x98..=0x9f, ..] => return QUOTES,
+            [0xc2, 0xa0, ..] => return "JSON has plain spaces alone, and this is a no-break space",
+            _ => {}
+        }
+        let is_object = matches!(self.level, Some(Level { is_list: false, .. }));
+        match last_of(self.before) {
+            None => self.reason_at_start(),
+            Some(last @ (b'{' | b',')) if is_object => self.reason_at_key(last),
+            Some(last @ (b'[' | b',' | b':')) => self.reason_at_value(last),
+            Some(last) => self.reason_behind(last),
+        }
+    }
+
+    /// Why no text begins so.
+    fn reason_at_start(&self) -> &'static str {
+        match self.rest {
+            [b'"', ..] => reason_in_string(self.rest),
+            _ => "an input is an object of JSON, which begins with {",
+        }
+    }
+
+    /// Why no key begins so, behind a bracket or a comma.
+    fn reason_at_key(&self, last: u8) -> &'static str {
+        match self.rest {
+            [b',', ..] => COMMA_HERE,
+            [b':', ..] => NO_KEY,
+            [b'}', ..] if last == b',' => COMMA_BEFORE,
+            [b']' | b'}', ..] => self.reason_crossed(),
+            [b'"', ..] => reason_in_string(self.rest),
+            _ => KEY,
+        }
+    }
+
+    /// Why no value begins so, behind a bracket, a comma or a colon.
+    fn reason_at_value(&self, last: u8) -> &'static str {
+        match self.rest {
+            [b',' | b']' | b'}', ..] if last == b':' => NO_VALUE,
+            [b',', ..] => COMMA_HERE,
+            [b':', ..] if last == b':' => "there is a colon too many here",
+            [b':', ..] => NO_KEY,
+            [b']', ..] if last == b',' => COMMA_BEFORE,
+            [b']' | b'}', ..] => self.reason_crossed(),
+            [b'(', ..] => "a list of JSON stands in []",
+            _ => reason_in_value(self.rest),
+        }
+    }
+
+    /// Why the text does not go on so behind a value, or behind a key.
+    fn reason_behind(&self, last: u8) -> &'static str {
+        let Some(level) = self.level else {
+            return NOTHING;
+        };
+        match self.rest {
+            [b'}', ..] if level.is_list => self.reason_crossed(),
+            [b']', ..] if !level.is_list => self.reason_crossed(),
+            [b':', ..] if level.is_list =>
+                "a list has no keys; an object, which has them, stands in {}",
+            [b';', ..] => SEMICOLON,
+            [byte, ..] if level.is_list || level.has_colon => self.reason_behind_value(last, *byte),
+            [_, ..] if last != b'"' => KEY,
+            [b'=', ..] => "a colon stands between a key and its value, and no =",
+            [byte, ..] if begins(*byte) => "a colon is missing before this",
+            _ => NO_COLON,
+        }
+    }
+
+    /// Why a byte does not stand behind a value.
+    fn reason_behind_value(&self, last: u8, byte: u8) -> &'static str {
+        if has_exponent(self.before) && !begins(byte) {
+            return TOO_LARGE;
+        }
+        if self.before.ends_with(b"\"") && byte.is_ascii_alphanumeric() {
+            return "a string ends before this; is a \" missing, or the \\ before a \" inside of one?";
+        }
+        match byte {
+            b':' => "there is a colon too many here",
+            _ if begins(byte) && ends_a_value(last) => "a comma is missing before this",
+            _ => NOTHING,
+        }
+    }
+
+    /// What a bracket of the other kind does not close.
+    fn reason_crossed(&self) -> &'static str {
+        match self.level {
+            Some(Level { is_list: true, .. }) => "a list is open here, which ends with ]",
+            Some(Level { is_list: false, .. }) => "an object is open here, which ends with }",
+            None => NOTHING,
+        }
+    }
+}
+
+/// Whether JSON has a byte between its words.
+pub(crate) fn is_white(byte: u8) -> bool {
+    byte == b' ' || byte == b'\t' || byte == b'\n' || byte == b'\r'
+}
+
+/// The last byte that is not white.
+fn last_of(before: &[u8]) -> Option<u8> {
+    let mut last = None;
+    for byte in before {
+        if !is_white(*byte) {
+            last = Some(*byte);
+        }
+    }
+    last
+}
+
+/// Whether a value or a key may begin with a byte, or is meant to.
+fn begins(byte: u8) -> bool {
+    let is_word = byte.is_ascii_alphanumeric() || byte == b'-' || byte == b'_';
+    is_word || byte == b'"' || byte == b'[' || byte == b'{'
+}
+
+/// Whether a value of JSON may end with a byte.
+fn ends_a_value(byte: u8) -> bool {
+    byte.is_ascii_alphanumeric() || byte == b'"' || byte == b']' || byte == b'}'
+}
+
+/// Whether a text ends with a number that has an exponent.
+fn has_exponent(before: &[u8]) -> bool {
+    for byte in before.iter().rev() {
+        match *byte {
+            b'e' | b'E' => return true,
+            b'0'..=b'9' | b'+' | b'-' | b'.' => {}
+            _ => return false,
+        }
+    }
+    false
+}
+
+/// Why no value is written so.
+fn reason_in_value(rest: &[u8]) -> &'static str {
+    if rest.starts_with(b"NaN") || rest.starts_with(b"Inf") || rest.starts_with(b"-Inf") {
+        return NOT_FINITE;
+    }
+    match rest {
+        [b'"', ..] => reason_in_string(rest),
+        [b'N' | b'T' | b'F', ..] => "JSON has null, true and false, in small letters",
+        [b'0'..=b'9' | b'-' | b'+' | b'.', ..] => reason_in_number(rest),
+        [byte, ..] if byte.is_ascii_alphabetic() || *byte == b'_' => {
+            "of words JSON has null, true and false alone, and a string stands in \"\""
+        }
+        _ => "no value of JSON begins so",
+    }
+}
+
+/// Why no number is written so.
+fn reason_in_number(rest: &[u8]) -> &'static str {
+    if let [b'0', b'0'..=b'9', ..] | [b'-', b'0', b'0'..=b'9', ..] = rest {
+        return "a number of JSON does not begin with 0";
+    }
+    match behind_number(rest) {
+        Some(b';') => SEMICOLON,
+        Some(byte) if byte.is_ascii_alphabetic() || byte == b'_' => {
+            "a number of JSON has decimal digits alone, and no letters"
+        }
+        _ if is_whole(rest) => TOO_LARGE,
+        _ => "a number of JSON has digits, before and behind its dot, and no + before them",
+    }
+}
+
+/// Whether a text begins with a whole number, which is a value of JSON: then reading stopped at it
+/// for the number before it.
+fn is_whole(rest: &[u8]) -> bool {
+    for byte in rest {
+        match *byte {
+            b'0'..=b'9' => {}
+            b'.' | b'-' | b'+' | b'e' | b'E' => return false,
+            _ => return true,
+        }
+    }
+    false
+}
+
+/// The first byte that no number has.
+fn behind_number(rest: &[u8]) -> Option<u8> {
+    for byte in rest {
+        match *byte {
+            b'0'..=b'9' | b'+' | b'-' | b'.' | b'e' | b'E' => {}
+            other => return Some(other),
+        }
+    }
+    None
+}
+
+/// Why no string is written so.
+fn reason_in_string(rest: &[u8]) -> &'static str {
+    for byte in rest {
+        match *byte {
+            0..=0x1f => return "a string has no line break and no tab, but \\n and \\t",
+            b'\\' => return "an escape of this string is none of JSON",
+            _ => {}
+        }
+    }
+    "no string of JSON begins so"
+}

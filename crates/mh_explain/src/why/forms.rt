@@ -1,0 +1,36 @@
+//! The words that head trees and events, and how the list of each is written.
+use mh_text::Word;
+
+/// The words that head trees.
+pub(crate) const TREE_WORDS: &str =
+    "const id op insert drop permute filter return fold guard point ref invoke";
+
+/// The words that head events.
+pub(crate) const EVENT_WORDS: &str = "call flush target invalidate snapshot offer plan install";
+
+/// How a list that this word heads is written.
+pub(crate) fn form_of(word: Word) -> &'static str {
+    match word {
+        Word::Const => r#"["const",KIND,VALUE]"#,
+        Word::Id => r#"["id",KIND]"#,
+        Word::Op => { r#"["op",NAME]; ["insert",["op",NAME],pos,[VALUE..]] gives it arguments"# }
+        Word::Insert => r#"["insert",TREE,pos,[VALUE..]]"#,
+        Word::Drop => r#"["drop",TREE,pos,[KIND..]]"#,
+        Word::Permute => r#"["permute",TREE,TYPE,[number..]]"#,
+        Word::Filter => r#"["filter",TREE,pos,[TREE or null..]]"#,
+        Word::Return => r#"["return",TARGET,FILTER]"#,
+        Word::Fold => r#"["fold",TARGET,COMBINER]"#,
+        Word::Guard => r#"["guard",TEST,TARGET,FALLBACK]"#,
+        Word::Point => r#"["point",NAME,TARGET,FALLBACK]"#,
+        Word::Ref => r#"["ref",NAME]"#,
+        Word::Invoke => r#"["invoke",SITE]"#,
+        Word::Call => r#"["call",worker,SITE,[VALUE..]]"#,
+        Word::Flush => r#"["flush",worker]"#,
+        Word::Target => r#"["target",SITE,TREE]"#,
+        Word::Invalidate => r#"["invalidate",[POINT..]]"#,
+        Word::Snapshot => r#"["snapshot"]"#,
+        Word::Offer => r#"["offer",n,PLAN]"#,
+        Word::Plan => r#"["plan",n]"#,
+        Word::Install => r#"["install",m]"#,
+    }
+}

@@ -1,0 +1,70 @@
+//! Parts that are no number, or none in range.
+use crate::spot::Spot;
+use crate::values::items_at;
+use crate::words::{numbered, wanted};
+use mh_base::NoMemory;
+use mh_text::{Field, InputForm, Numbered};
+use serde_json::Value;
+use std::alloc::Global;
+
+/// That a whole number of a range is wanted.
+pub(crate) fn why_no_number(
+    alloc: Global,
+    least: u64,
+    most: u64,
+    value: &Value,
+) -> Result<String, NoMemory> {
+    let what = format!(in alloc; "a whole number from {least} to {most}")?;
+    wanted(alloc, what.as_str(), value)
+}
+
+/// What is numbered, with its article and without it in the plural.
+fn nouns(numbered: Numbered) -> (&'static str, &'static str, &'static str) {
+    match numbered {
+        Numbered::Worker => ("a worker", "worker", "workers"),
+        Numbered::Link => ("a link", "link", "links"),
+        Numbered::Point => ("a point", "point", "points"),
+        Numbered::Snapshot => ("a snapshot", "snapshot", "snapshots"),
+        Numbered::Plan => ("a plan", "plan", "plans"),
+    }
+}
+
+/// The problem that an input has, if it is no script.
+fn problem_in<'a>(form: InputForm, input: &'a Value) -> Option<&'a Value> {
+    match form {
+        InputForm::Script => None,
+        InputForm::Problem => Some(input),
+        InputForm::Claim => input.get(Field::Problem.name()),
+    }
+}
+
+/// How many of these an input has, where it says so itself.
+fn count_in(kind: Numbered, spot: &Spot<'_>) -> Option<usize> {
+    match kind {
+        Numbered::Worker => {
+            let workers = spot.input.get(Field::Workers.name())?.as_u64()?;
+            usize::try_from(workers).ok()
+        }
+        Numbered::Link => Some(items_at(problem_in(spot.form, spot.input)?, Field::Links).len()),
+        Numbered::Point => Some(items_at(problem_in(spot.form, spot.input)?, Field::Costs).len()),
+        Numbered::Snapshot | Numbered::Plan => None,
+    }
+}
+
+/// That the number of such a thing is wanted.
+pub(crate) fn why_not_numbered(
+    alloc: Global,
+    kind: Numbered,
+    spot: &Spot<'_>,
+) -> Result<String, NoMemory> {
+    let (noun, one, many) = nouns(kind);
+    let what = format!(in alloc; "the number of {noun}")?;
+    let why = wanted(alloc, what.as_str(), spot.value)?;
+    match count_in(kind, spot) {
+        Some(count) => {
+            let known = numbered(alloc, count, one, many)?;
+            Ok(format!(in alloc; "{why}; {known}")?)
+        }
+        None => Ok(format!(in alloc; "{why}; {many} are numbered from 1")?),
+    }
+}

@@ -1,0 +1,27 @@
+-- Why a part of an input could not be read, and where it stands.
+use Rattle.std.specs.Prelude.{List, [], ◌∷◌, reverse, Option, Some, None, Result, Ok, Err}
+use Rattle.mh_text.specs.declared.fault.InputFault.{InputFault}
+use Rattle.mh_text.specs.declared.key.Key.{Key}
+
+-- a fault, and the keys that lead to the part that has it
+pub record MisreadData : Type 0 where
+  pub fault : InputFault
+  pub path : List Key
+
+-- the fault of a part as a whole
+abbrev pub here : InputFault → MisreadData
+here e = record { fault = e; path = [] }
+
+-- the same where the part stands at a key of another
+abbrev pub behind : Key → MisreadData → MisreadData
+behind key m = record { fault = m.fault; path = key ∷ m.path }
+
+-- the fault of a reading, where it has one
+abbrev pub err_of : {A : Type 0} → Result A MisreadData → Option MisreadData
+err_of (Ok x) = None
+err_of (Err m) = Some m
+
+-- what is read at a key
+abbrev pub under : {A : Type 0} → Key → Result A MisreadData → Result A MisreadData
+under key (Ok x) = Ok x
+under key (Err m) = Err (behind key m)
