@@ -1,5 +1,5 @@
-//! Tests of ledgers, definitions, books and machines: what no clause says, and each public call
-//! once with ample memory.
+//! Tests of ledgers, definitions, trees as JSON, books and machines: what no clause says, and each
+//! public call once with ample memory.
 //!
 //! A test asserts in one line what a scenario without assertions gave: each assertion beside values
 //! that are owned is a way out on which they are dropped, and makes the proof of the test long.
@@ -27,3 +27,5 @@ mod renewals;
 mod resuming;
 #[cfg(test)]
 mod steps;
+#[cfg(test)]
+mod texts;

@@ -1,0 +1,3 @@
+mod Depths
+mod FilterItems
+mod NoFloats
