@@ -35,7 +35,8 @@ static uint32_t open_machine(size_t length, int sites, mhlink_machine *machine) 
     mhlink_limits limits = MHLINK_WIDEST_LIMITS;
     uint64_t part;
     uint32_t status = mhlink_open(bytes(definition), length, 1, &limits, machine, &part);
-    for (size_t site = 0; !status && site < (size_t)sites; site += 10) status = mhlink_target(machine, site, bytes(tree), strlen(tree));
+    for (size_t site = 0; !status && site < (size_t)sites; site += 10)
+        status = mhlink_target(machine, site, bytes(tree), strlen(tree), &part);
     return status;
 }
 

@@ -95,7 +95,8 @@ static uint32_t send(size_t site, const object *receiver, int64_t *result) {
     if (reply.number == ASK) {
         asked++;
         known[site][receiver->class] = 1;
-        status = mhlink_target(&machine, site, bytes(text), put_tree(text, (int)site));
+        uint64_t part = 0;
+        status = mhlink_target(&machine, site, bytes(text), put_tree(text, (int)site), &part);
     } else if (reply.kind != MHLINK_INT || reply.number != number) {
         differ++;
     }
@@ -140,11 +141,11 @@ static uint32_t load_ring(void) {
 
 /* The links whose gain is more than the points that they need are the site's inline cache. */
 static uint32_t link_sites(uint64_t *linked) {
-    uint64_t snapshot, plan;
+    uint64_t snapshot, plan, part;
     uint32_t status = mhlink_flush(&machine, 0);
     if (!status) status = mhlink_snapshot(&machine, &snapshot);
     if (!status) status = mhlink_plan(&machine, snapshot, &plan);
-    return status ? status : mhlink_install(&machine, plan, linked);
+    return status ? status : mhlink_install(&machine, plan, linked, &part);
 }
 
 static uint32_t run(void) {

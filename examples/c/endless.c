@@ -115,7 +115,8 @@ static uint32_t redefine(uint32_t site, uint32_t class) {
     }
     methods[site][class] += 100;
     rest_on_next(site);
-    uint32_t status = mhlink_target(&machine, site, bytes(text), (size_t)(put_tree(text, site) - text));
+    uint64_t part = 0;
+    uint32_t status = mhlink_target(&machine, site, bytes(text), (size_t)(put_tree(text, site) - text), &part);
     if (!status) changes++;
     return status;
 }
@@ -146,11 +147,11 @@ static uint32_t flush(void) {
 /* The best plan for a snapshot of now is installed. Snapshots and plans have the next number of their history. */
 static uint32_t plan_and_install(void) {
     mhlink_usage used = {0, 0, 0};
-    uint64_t snapshot = 0, plan = 0, linked;
+    uint64_t snapshot = 0, plan = 0, linked, part;
     uint32_t status = mhlink_used(&machine, &used);
     if (!status) status = mhlink_snapshot(&machine, &snapshot);
     if (!status) status = mhlink_plan(&machine, snapshot, &plan);
-    if (!status) status = mhlink_install(&machine, plan, &linked);
+    if (!status) status = mhlink_install(&machine, plan, &linked, &part);
     if (status) return status;
     same(snapshot, used.snapshots + 1);
     same(plan, used.plans + 1);

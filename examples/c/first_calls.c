@@ -32,7 +32,7 @@ static int call(mhlink_machine *machine, const char *name, size_t site, int32_t 
 }
 
 static int run(mhlink_machine *machine) {
-    uint64_t f, g, a, snapshot, plan, linked;
+    uint64_t f, g, a, snapshot, plan, linked, part;
     uint32_t status;
     if ((status = mhlink_site(machine, bytes("f"), 1, &f)) || (status = mhlink_site(machine, bytes("g"), 1, &g))
         || (status = mhlink_point(machine, bytes("a"), 1, &a)))
@@ -44,14 +44,14 @@ static int run(mhlink_machine *machine) {
     printf("snapshot: %" PRIu64 "\n", snapshot);
     if ((status = mhlink_plan(machine, snapshot, &plan))) return failed("publish", status);
     printf("publish: plan %" PRIu64 "\n", plan);
-    if ((status = mhlink_install(machine, plan, &linked))) return failed("install", status);
+    if ((status = mhlink_install(machine, plan, &linked, &part))) return failed("install", status);
     printf("install: linked %" PRIu64 "\n", linked);
     if (call(machine, "f", f, 1) || call(machine, "f", f, 2)) return 1;
     uint32_t points[] = {(uint32_t)a};
     if ((status = mhlink_invalidate(machine, points, 1))) return failed("invalidate a", status);
     puts("invalidate a: ok");
     if (call(machine, "f", f, 1)) return 1;
-    if ((status = mhlink_target(machine, f, bytes(one_less), strlen(one_less)))) return failed("target f", status);
+    if ((status = mhlink_target(machine, f, bytes(one_less), strlen(one_less), &part))) return failed("target f", status);
     puts("target f: ok");
     return call(machine, "f", f, 1) || call(machine, "g", g, 3);
 }

@@ -55,20 +55,20 @@ static uint32_t call(uint32_t worker, size_t site, const mhlink_value *values, s
 
 static void wrong_numbers(void) {
     const mhlink_value one = {MHLINK_INT, 1};
-    uint64_t out;
+    uint64_t out, part;
     uint32_t point = 1;
     for (int i = 0; i < NUMBERS; i++) {
         size_t n = numbers[i];
         expect("site", call(0, n, &one, 1, "", 0), MHLINK_NO_SITE);
         expect("worker", call(UINT32_MAX >> i, 0, &one, 1, "", 0), MHLINK_NO_WORKER);
-        expect("target", mhlink_target(&machine, n, bytes(tree), strlen(tree)), MHLINK_UNKNOWN);
+        expect("target", mhlink_target(&machine, n, bytes(tree), strlen(tree), &part), MHLINK_NO_SITE);
         expect("link", mhlink_link(&machine, n, &one, bytes(""), 0, &out), MHLINK_UNKNOWN);
         expect("hits of a link", mhlink_hits(&machine, 0, n, &out), MHLINK_UNKNOWN);
         expect("hits of a worker", mhlink_hits(&machine, 1 + i, 0, &out), MHLINK_UNKNOWN);
         expect("total", mhlink_total(&machine, n, &out), MHLINK_UNKNOWN);
         expect("linked", mhlink_linked(&machine, n, &out), MHLINK_UNKNOWN);
         expect("plan", mhlink_plan(&machine, n, &out), MHLINK_NO_SNAPSHOT);
-        expect("install", mhlink_install(&machine, n, &out), MHLINK_NO_PLAN);
+        expect("install", mhlink_install(&machine, n, &out, &part), MHLINK_NO_PLAN);
         expect("flush", mhlink_flush(&machine, 1 + i), MHLINK_NO_WORKER);
         expect("invalidate", mhlink_invalidate(&machine, &point, 1), MHLINK_NO_POINT);
         expect("renew", mhlink_renew(&machine, NULL, 0, i ? UINT32_MAX >> i : 3), MHLINK_UNKNOWN);
@@ -141,15 +141,20 @@ static void cut_json(void) {
     mhlink_machine other = {NULL};
     for (size_t length = 0; length < strlen(definition); length++)
         expect("definition", mhlink_open(bytes(definition), length, 1, &widest, &other, &part), MHLINK_NOT_JSON);
-    for (size_t length = 0; length < strlen(tree); length++) expect("tree", mhlink_target(&machine, 0, bytes(tree), length), MHLINK_NOT_JSON);
+    for (size_t length = 0; length < strlen(tree); length++)
+        expect("tree", mhlink_target(&machine, 0, bytes(tree), length, &part), MHLINK_NOT_JSON);
     static const char plan[] = "{\"links\": [0], \"points\": [0], \"value\": 1, \"flow\": [[0, 0, 5]]}";
     for (size_t length = 0; length < strlen(plan); length++)
-        expect("plan", mhlink_offer(&machine, 1, bytes(plan), length, &out), MHLINK_NOT_JSON);
-    expect("plan", mhlink_offer(&machine, 1, bytes(plan), strlen(plan), &out), MHLINK_NO_SNAPSHOT);
+        expect("plan", mhlink_offer(&machine, 1, bytes(plan), length, &out, &part), MHLINK_NOT_JSON);
+    expect("plan", mhlink_offer(&machine, 1, bytes(plan), strlen(plan), &out, &part), MHLINK_NO_SNAPSHOT);
     static const char *trees[] = {"1", "null", "{}", "[\"op\"]", "[\"op\", \"iadd\"], 1", "[\"ref\", \"x\"]"};
     static const uint32_t faults[] = {104, 104, 104, 104, 103, 106};
-    for (int i = 0; i < 6; i++) expect(trees[i], mhlink_target(&machine, 0, bytes(trees[i]), strlen(trees[i])), faults[i]);
-    expect("type", mhlink_target(&machine, 0, bytes("[\"op\", \"iadd\"]"), 14), MHLINK_WRONG_TYPE);
+    for (int i = 0; i < 6; i++) expect(trees[i], mhlink_target(&machine, 0, bytes(trees[i]), strlen(trees[i]), &part), faults[i]);
+    if (part) wrong++;
+    expect("type", mhlink_target(&machine, 0, bytes("[\"op\", \"iadd\"]"), 14, &part), MHLINK_WRONG_TYPE);
+    static const char past[] = "[\"insert\", [\"op\", \"ineg\"], 1, [5]]";
+    expect("place", mhlink_target(&machine, 0, bytes(past), strlen(past), &part), MHLINK_BAD_TREE);
+    if (part != 2) wrong++;
     if (other.at) wrong++;
 }
 

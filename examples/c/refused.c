@@ -59,7 +59,7 @@ int main(void) {
     const uint32_t point = 0;
     mhlink_machine machine = {NULL};
     mhlink_reply reply = {0, 0, 0};
-    uint64_t number = 0, part;
+    uint64_t number = 0, linked = 0, part;
     uint8_t buffer[128];
     size_t length = 0;
     ASK(mhlink_open(bytes(definition), strlen(definition), 1, &widest, &machine, &part));
@@ -75,12 +75,12 @@ int main(void) {
     ASK(mhlink_certificate(&machine, number, buffer, sizeof buffer, &length));
     printf("%.*s\n", (int)length, (const char *)buffer);
     ASK(mhlink_plan(&machine, 1, &number));
-    ASK(mhlink_offer(&machine, 1, bytes(plan_json), strlen(plan_json), &number));
-    ASK(mhlink_install(&machine, number, &part));
-    printf("plan %" PRIu64 " links %" PRIu64 "\n", number, part);
+    ASK(mhlink_offer(&machine, 1, bytes(plan_json), strlen(plan_json), &number, &part));
+    ASK(mhlink_install(&machine, number, &linked, &part));
+    printf("plan %" PRIu64 " links %" PRIu64 "\n", number, linked);
     ASK(mhlink_call(&machine, 0, 0, &one, 1, bytes(""), 0, &reply));
     printf("f(1): %" PRId64 "\n", reply.number);
-    ASK(mhlink_target(&machine, 0, bytes(one_less), strlen(one_less)));
+    ASK(mhlink_target(&machine, 0, bytes(one_less), strlen(one_less), &part));
     ASK(mhlink_invalidate(&machine, &point, 1));
     ASK(mhlink_call(&machine, 0, 0, &one, 1, bytes(""), 0, &reply));
     ASK(mhlink_hits(&machine, 0, 0, &number));

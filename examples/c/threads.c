@@ -1,7 +1,9 @@
 /* Threads over one desk: four call without a lock, one redefines methods and invalidates the points on which they rested, and one
    plans and installs. Each caller looks at what the desk shows at safepoints of its own, and each answer has to be that of the
-   methods that stood at its last look, whatever is installed. At the end the totals are what the callers counted. `threads ROUNDS`
-   makes so many rounds in each thread, and else 200. */
+   methods that stood at its last look, whatever is installed. Once in a while all callers wait at a safepoint, with hits that they
+   have not flushed, until a new history has begun, in which the points that fell may be used again, with half of the flushed hits,
+   none, or all. At the end the totals are what the callers counted. `threads ROUNDS` makes so many rounds in each thread, and else
+   200. */
 #include "mhlink.h"
 #include <inttypes.h>
 #include <pthread.h>
@@ -10,6 +12,8 @@
 #include <string.h>
 
 enum { CALLERS = 4, SITES = 4, CLASSES = 5, LINKED = 4, POINTS = 64, CALLS = 400, NAMES = SITES, MOST_ROUNDS = 1000 };
+/* The rounds from one renewal to the next, in which no more points fall than there are, and the first that ends with one. */
+enum { RENEWED_EACH = 40, FIRST_RENEWED = 5 };
 
 /* The method of each class at each site, and whether it stands: if not, the site answers -1. */
 typedef struct methods {
@@ -17,12 +21,15 @@ typedef struct methods {
     int stand[SITES];
 } methods;
 
-/* What the lock guards: the desk, the methods by its records, and those of the world that it shows; and the free points. */
+/* What the lock guards: the desk, the methods by its records, and those of the world that it shows; the free points; how many callers
+   are not at a safepoint, and whether they are to wait there. */
 static pthread_mutex_t lock = PTHREAD_MUTEX_INITIALIZER;
+static pthread_cond_t stopped = PTHREAD_COND_INITIALIZER, renewed = PTHREAD_COND_INITIALIZER;
 static mhlink_desk desk;
 static methods recorded, shown;
-static uint32_t next_point = SITES;
 static uint32_t rests_on[SITES] = {0, 1, 2, 3};
+static uint32_t free_points[POINTS], free_count;
+static int running = CALLERS, stop_asked;
 
 /* What one thread calls through, with what it knows of the world of its last look, and what it counts. */
 typedef struct worker {
@@ -35,7 +42,7 @@ typedef struct worker {
 
 static worker workers[CALLERS];
 static uint32_t rounds = 200;
-static uint64_t changes, plans, shows;
+static uint64_t changes, plans, plans_of_history, shows, renewals;
 
 static const char no_links[] = "{\"links\": [], \"points\": [], \"value\": 0, \"flow\": []}";
 
@@ -52,6 +59,16 @@ static size_t put_tree(char *text, uint32_t site) {
     for (int class = 1; class < CLASSES; class++) *to++ = ']';
     if (rests_on[site] < POINTS) to += sprintf(to, ",[\"drop\",[\"const\",\"int\",-1],0,[\"int\"]]]");
     return (size_t)(to - text);
+}
+
+/* Each point is free on which no site rests. */
+static void free_others(void) {
+    free_count = 0;
+    for (uint32_t point = POINTS; point-- > 0;) {
+        int taken = 0;
+        for (int site = 0; site < SITES; site++) taken |= rests_on[site] == point;
+        if (!taken) free_points[free_count++] = point;
+    }
 }
 
 /* The desk with its callers: a point for each version of a site's methods, and a site that answers a text. */
@@ -76,6 +93,7 @@ static uint32_t open_desk(void) {
     to += sprintf(to, "{\"name\":\"names\",\"type\":\"()String\",\"target\":[\"const\",\"String\",\"a name that takes more than 32 bytes\"]}]}");
     uint32_t status = mhlink_desk_open(bytes(text), (size_t)(to - text), &widest, callers, CALLERS, &desk, &part);
     shown = recorded;
+    free_others();
     for (uint32_t each = 0; each < CALLERS && !status; each++) {
         workers[each].caller = callers[each];
         workers[each].seen = shown;
@@ -127,20 +145,35 @@ static uint32_t call_all(worker *own) {
     return name(own);
 }
 
-/* A safepoint: the caller's hits go to the totals, and it looks. */
-static uint32_t stop(worker *own) {
-    pthread_mutex_lock(&lock);
+/* By the lock: the caller waits where a new history is to begin. */
+static void wait_for_renewal(void) {
+    running--;
+    pthread_cond_signal(&stopped);
+    while (stop_asked) pthread_cond_wait(&renewed, &lock);
+    running++;
+}
+
+/* By the lock: the caller's hits go to the totals, and it looks. */
+static uint32_t flush_and_look(worker *own) {
     uint32_t status = mhlink_desk_flush(&desk, &own->caller);
     if (!status) status = mhlink_caller_look(&own->caller, &desk);
-    if (!status) own->seen = shown;
-    pthread_mutex_unlock(&lock);
     if (status) return status;
+    own->seen = shown;
     own->looks++;
     for (int link = 0; link < SITES * LINKED; link++) {
         own->hits[link] += own->unflushed[link];
         own->unflushed[link] = 0;
     }
     return MHLINK_OK;
+}
+
+/* A safepoint. */
+static uint32_t stop(worker *own) {
+    pthread_mutex_lock(&lock);
+    if (stop_asked) wait_for_renewal();
+    uint32_t status = flush_and_look(own);
+    pthread_mutex_unlock(&lock);
+    return status;
 }
 
 /* The hits that the caller has not flushed are those that its thread counts. */
@@ -161,6 +194,10 @@ static void *work(void *given) {
         if (!own->status) own->status = compare_hits(own);
         if (!own->status) own->status = stop(own);
     }
+    pthread_mutex_lock(&lock);
+    running--;
+    pthread_cond_signal(&stopped);
+    pthread_mutex_unlock(&lock);
     return NULL;
 }
 
@@ -168,6 +205,7 @@ static void *work(void *given) {
    ask the host; then the site gets a tree with the new method, behind another point, as long as there is one. */
 static uint32_t redefine(uint32_t site, uint32_t class) {
     uint32_t status = MHLINK_OK;
+    uint64_t part = 0;
     char text[4096];
     if (rests_on[site] < POINTS) {
         status = mhlink_desk_invalidate(&desk, &rests_on[site], 1);
@@ -178,9 +216,41 @@ static uint32_t redefine(uint32_t site, uint32_t class) {
     }
     recorded.of[site][class] += 100;
     recorded.stand[site] = 1;
-    rests_on[site] = next_point < POINTS ? next_point++ : POINTS;
-    if (!status) status = mhlink_desk_target(&desk, site, bytes(text), put_tree(text, site));
+    rests_on[site] = free_count ? free_points[--free_count] : POINTS;
+    if (!status) status = mhlink_desk_target(&desk, site, bytes(text), put_tree(text, site), &part);
     if (!status) changes++;
+    return status;
+}
+
+/* By the lock, while all callers wait: a new history, in which each point is valid on which no site rests. What it leaves of the hits
+   that each caller has flushed is counted here too. */
+static uint32_t begin_anew(void) {
+    static const uint32_t kinds[] = {MHLINK_HALVE_HITS, MHLINK_DROP_HITS, MHLINK_KEEP_HITS};
+    mhlink_caller callers[CALLERS];
+    uint32_t hits = kinds[renewals % 3];
+    for (int each = 0; each < CALLERS; each++) callers[each] = workers[each].caller;
+    free_others();
+    uint32_t status = mhlink_desk_renew(&desk, callers, CALLERS, free_points, free_count, hits);
+    for (int each = 0; each < CALLERS; each++) {
+        workers[each].caller = callers[each];
+        for (int link = 0; link < SITES * LINKED && !status; link++) {
+            if (hits == MHLINK_HALVE_HITS) workers[each].hits[link] /= 2;
+            if (hits == MHLINK_DROP_HITS) workers[each].hits[link] = 0;
+        }
+    }
+    if (status) return status;
+    renewals++;
+    plans_of_history = 0;
+    return show();
+}
+
+/* By the lock: all callers are asked to wait at their next safepoints, until a new history has begun. */
+static uint32_t renew(void) {
+    stop_asked = 1;
+    while (running) pthread_cond_wait(&stopped, &lock);
+    uint32_t status = begin_anew();
+    stop_asked = 0;
+    pthread_cond_broadcast(&renewed);
     return status;
 }
 
@@ -192,6 +262,7 @@ static void *redefine_all(void *given) {
         pthread_mutex_unlock(&lock);
         pthread_mutex_lock(&lock);
         if (!*status) *status = show();
+        if (!*status && round % RENEWED_EACH == FIRST_RENEWED) *status = renew();
         pthread_mutex_unlock(&lock);
     }
     return NULL;
@@ -199,11 +270,12 @@ static void *redefine_all(void *given) {
 
 /* By the lock: the best plan for a snapshot of now is installed, and what it links is shown. */
 static uint32_t plan_and_install(void) {
-    uint64_t snapshot = 0, plan = 0, linked;
+    uint64_t snapshot = 0, plan = 0, linked, part;
     uint32_t status = mhlink_desk_snapshot(&desk, &snapshot);
     if (!status) status = mhlink_desk_plan(&desk, snapshot, &plan);
-    if (!status) status = mhlink_desk_install(&desk, plan, &linked);
+    if (!status) status = mhlink_desk_install(&desk, plan, &linked, &part);
     if (!status) plans++;
+    if (!status) plans_of_history++;
     return status ? status : show();
 }
 
@@ -241,7 +313,7 @@ static uint32_t run(void) {
 static uint32_t compare_totals(uint64_t *differ) {
     const mhlink_value key = {MHLINK_INT, LINKED};
     mhlink_usage used = {0, 0, 0};
-    uint64_t number = 0, links = 0;
+    uint64_t number = 0, links = 0, part = 0;
     uint32_t status = MHLINK_OK;
     for (size_t link = 0; link < SITES * LINKED && !status; link++) {
         uint64_t wanted = 0, total = 0;
@@ -258,8 +330,8 @@ static uint32_t compare_totals(uint64_t *differ) {
     if (!status) status = mhlink_desk_linked(&desk, 0, &links);
     if (links > LINKED) ++*differ;
     if (!status) status = mhlink_desk_used(&desk, &used);
-    if (used.plans != plans || used.snapshots != plans) ++*differ;
-    if (!status && mhlink_desk_offer(&desk, 1, bytes(no_links), strlen(no_links) - 1, &number) != MHLINK_NOT_JSON) ++*differ;
+    if (used.plans != plans_of_history || used.snapshots != plans_of_history) ++*differ;
+    if (!status && mhlink_desk_offer(&desk, 1, bytes(no_links), strlen(no_links) - 1, &number, &part) != MHLINK_NOT_JSON) ++*differ;
     return status;
 }
 
@@ -273,9 +345,13 @@ static uint32_t try_stranger(uint64_t *differ) {
     uint32_t status = mhlink_desk_open(bytes(text), sizeof text - 1, &widest, stranger, 2, &other, &part);
     if (status) return status;
     if (mhlink_desk_snapshot(&other, &snapshot) || snapshot != 1) ++*differ;
-    if (mhlink_desk_offer(&other, snapshot, bytes(no_links), strlen(no_links), &plan) || plan != 1) ++*differ;
+    if (mhlink_desk_offer(&other, snapshot, bytes(no_links), strlen(no_links), &plan, &part) || plan != 1) ++*differ;
     if (mhlink_caller_look(&stranger[1], &desk) != MHLINK_NO_WORKER) ++*differ;
     if (mhlink_desk_flush(&desk, &stranger[1]) != MHLINK_NO_WORKER) ++*differ;
+    if (mhlink_desk_renew(&desk, stranger, 2, free_points, 0, MHLINK_KEEP_HITS) != MHLINK_NO_WORKER) ++*differ;
+    if (mhlink_desk_renew(&other, stranger, 2, free_points, 0, MHLINK_DROP_HITS + 1) != MHLINK_UNKNOWN) ++*differ;
+    if (mhlink_desk_renew(&other, stranger, 2, free_points, 1, MHLINK_DROP_HITS) != MHLINK_NO_POINT) ++*differ;
+    if (mhlink_desk_renew(&other, stranger, 2, free_points, 0, MHLINK_DROP_HITS) != MHLINK_OK) ++*differ;
     mhlink_desk_close(other);
     mhlink_caller_close(stranger[0]);
     mhlink_caller_close(stranger[1]);
@@ -301,8 +377,8 @@ int main(int count, char **words) {
         if (each == 1) mhlink_desk_close(desk);
         mhlink_caller_close(workers[each].caller);
     }
-    printf("%" PRIu64 " calls, %" PRIu64 " looks, %" PRIu64 " changes, %" PRIu64 " plans, %" PRIu64 " shows\n", calls, looks, changes,
-           plans, shows);
+    printf("%" PRIu64 " calls, %" PRIu64 " looks, %" PRIu64 " changes, %" PRIu64 " plans, %" PRIu64 " shows, %" PRIu64 " renewals\n", calls,
+           looks, changes, plans, shows, renewals);
     printf("status %" PRIu32 ", %" PRIu64 " differ\n", status, differ);
     return status != 0 || differ != 0;
 }

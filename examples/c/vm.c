@@ -65,11 +65,11 @@ static int64_t interpret(struct vm *vm) {
 
 /* The hits so far go to the totals, and the best plan for them is installed. */
 static uint32_t link_sites(struct vm *vm, uint64_t *linked) {
-    uint64_t snapshot, plan;
+    uint64_t snapshot, plan, part;
     uint32_t status = mhlink_flush(&vm->machine, 0);
     if (!status) status = mhlink_snapshot(&vm->machine, &snapshot);
     if (!status) status = mhlink_plan(&vm->machine, snapshot, &plan);
-    if (!status) status = mhlink_install(&vm->machine, plan, linked);
+    if (!status) status = mhlink_install(&vm->machine, plan, linked, &part);
     return status;
 }
 

@@ -116,8 +116,10 @@ static int call(lua_State *lua) {
 static int target(lua_State *lua) {
     machine *it = self(lua);
     size_t length;
+    uint64_t part = 0;
     const char *tree = luaL_checklstring(lua, 3, &length);
-    must(lua, mhlink_target(&it->handle, (size_t)luaL_checkinteger(lua, 2), bytes(tree), length), 0);
+    uint32_t status = mhlink_target(&it->handle, (size_t)luaL_checkinteger(lua, 2), bytes(tree), length, &part);
+    must(lua, status, part);
     return 0;
 }
 
@@ -154,9 +156,16 @@ static int number_by_number(lua_State *lua, by_number *find) {
 }
 
 static int plan(lua_State *lua) { return number_by_number(lua, mhlink_plan); }
-static int install(lua_State *lua) { return number_by_number(lua, mhlink_install); }
 static int total(lua_State *lua) { return number_by_number(lua, mhlink_total); }
 static int linked(lua_State *lua) { return number_by_number(lua, mhlink_linked); }
+
+static int install(lua_State *lua) {
+    uint64_t number = 0, part = 0;
+    uint32_t status = mhlink_install(&self(lua)->handle, (size_t)luaL_checkinteger(lua, 2), &number, &part);
+    must(lua, status, part);
+    lua_pushinteger(lua, (lua_Integer)number);
+    return 1;
+}
 
 /* A number that is found by a name. */
 typedef uint32_t by_name(mhlink_machine *machine, const uint8_t *name, size_t length, uint64_t *found);

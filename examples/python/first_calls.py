@@ -44,9 +44,9 @@ TAKES = {
     "mhlink_flush": [POINTER(Machine), c_uint32],
     "mhlink_snapshot": [POINTER(Machine), POINTER(c_uint64)],
     "mhlink_plan": [POINTER(Machine), c_size_t, POINTER(c_uint64)],
-    "mhlink_install": [POINTER(Machine), c_size_t, POINTER(c_uint64)],
+    "mhlink_install": [POINTER(Machine), c_size_t, POINTER(c_uint64), POINTER(c_uint64)],
     "mhlink_invalidate": [POINTER(Machine), POINTER(c_uint32), c_size_t],
-    "mhlink_target": [POINTER(Machine), c_size_t, c_char_p, c_size_t],
+    "mhlink_target": [POINTER(Machine), c_size_t, c_char_p, c_size_t, POINTER(c_uint64)],
 }
 
 
@@ -97,14 +97,16 @@ def main():
     print(f"snapshot: {snapshot}")
     plan = runtime.number("plan", snapshot)
     print(f"publish: plan {plan}")
-    print(f"install: linked {runtime.number('install', plan)}")
+    linked = ctypes.c_uint64()
+    runtime.ask("install", plan, byref(linked), byref(c_uint64()))
+    print(f"install: linked {linked.value}")
     for argument in (1, 2):
         runtime.call("f", f, argument)
     runtime.ask("invalidate", (c_uint32 * 1)(a), 1)
     print("invalidate a: ok")
     runtime.call("f", f, 1)
     tree = json.dumps(ONE_LESS).encode()
-    runtime.ask("target", f, tree, len(tree))
+    runtime.ask("target", f, tree, len(tree), byref(c_uint64()))
     print("target f: ok")
     runtime.call("f", f, 1)
     runtime.call("g", g, 3)

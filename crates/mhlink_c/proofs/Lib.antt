@@ -2,6 +2,7 @@ mod Adding
 mod Ascii
 mod FaultWords
 mod HandedOut
+mod NoHandle
 mod Planned
 mod Renewed
 mod Sending

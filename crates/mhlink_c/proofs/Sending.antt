@@ -27,6 +27,8 @@ use Rattle.mhlink_c.specs.contracts.desk.HeldDesk as Desk
 use Rattle.mhlink_c.specs.contracts.desk_handle.MhlinkDesk as DeskHandle
 use Rattle.mhlink_c.specs.contracts.handle.MhlinkMachine as MachineHandle
 use Rattle.mhlink_c.specs.contracts.host.Host as Host
+use Rattle.mhlink_c.specs.contracts.tree.HeldTree as Tree
+use Rattle.mhlink_c.specs.contracts.tree_handle.MhlinkTree as TreeHandle
 
 ruleset parts = (heap.the_field_send, heap.the_field_sync, vec.the_send, vec.the_sync, crossing.crosses, sendable)
 
@@ -45,6 +47,15 @@ module _ (values : ValuesCross) (trees : TreesCross) where
       let a = trees.handle_send in
       let b = values.method_type_send in
       search parts depth 60 fits 20000
+
+  tree_send : IsSend Tree.the_row
+  tree_send = let a = trees.handle_send in search parts depth 60 fits 20000
+
+  pub tree_handle_send : IsSend TreeHandle.the_row
+  tree_handle_send =
+      let O = TreeHandle.the_type in
+      owning_send O (pointer_send, (heap.the_field_send, tt)) (λ d. held_keyless Tree.the_row tree_send d.full d.alloc d.at d.value)
+      (λ k. quiet (to O) (exits_of k (fields O)) ((struct_send (shape O) (pointer_send, (heap.the_field_send, tt))).leaving k))
 
   module _ (runtimes : RuntimesCross) where
     host_send : IsSend Host.the_row

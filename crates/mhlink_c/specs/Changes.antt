@@ -11,13 +11,13 @@ use Rattle.mh_core.specs.Selection.{IsLeast, member}
 use Rattle.mh_core.specs.declared.record.Record.{Record}
 use Rattle.mh_core.specs.declared.record.Record.TheVariants.{Targeted, Invalidated, Snapped, Published, Installed}
 use Rattle.mh_core.specs.declared.refusal.Refusal.{Refusal}
-use Rattle.mh_core.specs.declared.refusal.Refusal.TheVariants.{NoSnapshot}
+use Rattle.mh_core.specs.declared.refusal.Refusal.TheVariants.{NoSite, NoSnapshot}
 use Rattle.mh_text.specs.Plans.{plan_of_input}
 use Rattle.mh_text.specs.declared.json.scope.Scope.{Scope}
 use Rattle.mhlink_c.specs.Inputs.{IsFaultOf, tree_in}
 use Rattle.mhlink_c.specs.Statuses.{no_memory}
 use Rattle.mhlink_c.specs.declared.fault.Fault.{Fault}
-use Rattle.mhlink_c.specs.declared.fault.Fault.TheVariants.{Refused, Unknown}
+use Rattle.mhlink_c.specs.declared.fault.Fault.TheVariants.{Refused}
 use Rattle.mhlink_c.specs.declared.request.Change.{Change}
 use Rattle.mhlink_c.specs.declared.request.Change.TheVariants as change
 
@@ -32,9 +32,13 @@ Retargets Made scope s text = (tree : TypedTree) × ((tree_in scope text ≡ Ok 
 -- there is no such site; or else the text has a fault, or the book refuses the tree
 abbrev pub RefusesTarget : BookState → Scope → ℕ → List ℕ → Fault → Type 0
 RefusesTarget b scope s text e =
-    ((s < length b.definition.sites → ⊥) × (e ≡ Unknown))
+    ((s < length b.definition.sites → ⊥) × (e ≡ Refused NoSite))
     ⊎ ((s < length b.definition.sites)
     × (IsFaultOf (tree_in scope text) e ⊎ ((tree : TypedTree) × ((tree_in scope text ≡ Ok tree) × RefusesRecord b (Targeted s tree) e))))
+
+-- no more owners of the tree can be counted, or the book refuses it
+abbrev pub RefusesTargetTree : BookState → ℕ → TypedTree → Fault → Type 0
+RefusesTargetTree b s tree e = (e ≡ no_memory) ⊎ RefusesRecord b (Targeted s tree) e
 
 -- out of memory, or the first failing test of an invalidation
 abbrev pub RefusesInvalidation : BookState → List ℕ → Fault → Type 0

@@ -4,7 +4,7 @@ use Rattle.std.specs.Coded.{Coded, code_by, coded×}
 use Rattle.mh_core.specs.Books.{Takes}
 use Rattle.mh_core.specs.declared.record.Record.{Record}
 use Rattle.mh_core.specs.declared.refusal.Refusal.{Refusal}
-use Rattle.mh_ledger.specs.Ledgers.{AreHeld, LedgerState, settled}
+use Rattle.mh_ledger.specs.Ledgers.{AreHeld, Holds as HoldsLedger, LedgerState, settled}
 use Rattle.mh_share.specs.Desks.{DeskState, RefusesFlush, coded_desk, flush_of, opened_desk}
 use Rattle.mh_text.specs.contracts.json.scope.Scope as scope
 use Rattle.mh_text.specs.declared.json.declarations.Declarations.{Declarations}
@@ -36,6 +36,10 @@ pub record DeskRecords (h new : HeldDeskState) (e : Record) : Type 0 where
 -- what is shown is the book of now, and nothing else changes
 abbrev pub shows : HeldDeskState → HeldDeskState
 shows h = record { desk = record { book = h.desk.book; shown = h.desk.book }; scope = h.scope }
+
+-- the desk counts of the ledger's worker just the hits that the ledger has flushed
+abbrev pub Holds : HeldDeskState → LedgerState → Type 0
+Holds h ledger = HoldsLedger h.desk.book.totals ledger
 
 -- the hits of a ledger go to the totals, which hold it and all others then; what is shown, and the names stay
 pub record DeskFlushes (h : HeldDeskState) (ledger : LedgerState) (new : HeldDeskState) : Type 0 where

@@ -7,10 +7,12 @@ use Rattle.mh_site.specs.declared.point.Point.{Point}
 use Rattle.mh_site.specs.declared.version.Version.TheVariants.{Two}
 use Rattle.mh_text.specs.Gives.{◌>>=◌, at_place}
 use Rattle.mh_text.specs.Inputs.{json_of_input}
-use Rattle.mh_text.specs.Script.{point_names_of, points_of, sites_of, with_site}
-use Rattle.mh_text.specs.Shared.{scope_of}
+use Rattle.mh_text.specs.Misreads.{MisreadData}
+use Rattle.mh_text.specs.Script.{point_names_of, points_of, sites_in, with_site}
+use Rattle.mh_text.specs.Shape.{member_of}
+use Rattle.mh_text.specs.Shared.{shared_in}
 use Rattle.mh_text.specs.declared.fault.Fault.{Fault as TextualFault}
-use Rattle.mh_text.specs.declared.fault.InputFault.{InputFault}
+use Rattle.mh_text.specs.declared.key.Field.TheVariants as field
 use Rattle.mh_text.specs.declared.json.scope.Scope.{Scope}
 use Rattle.mhlink_c.specs.declared.further.Further.{Further}
 
@@ -19,17 +21,17 @@ abbrev pub names_of_all : List Point → List Point → List (List ℕ)
 names_of_all own more = fold (λ names p. with_name names p.name) (point_names_of own) more
 
 -- the names that the first site of the text may use: of all points, of the shared trees of the text, and of the sites of the definition
-abbrev pub scope_over : DefinitionData → List Point → Data → Result Scope InputFault
+abbrev pub scope_over : DefinitionData → List Point → Data → Result Scope MisreadData
 scope_over d points value = do
-  scope ← scope_of (names_of_all d.points points) value
+  scope ← shared_in (names_of_all d.points points) value
   Ok (fold with_site scope d.sites)
 
 -- the points, the shared trees and the sites, as those of a definition of version 2
-abbrev pub further_of : DefinitionData → Data → Result Further InputFault
+abbrev pub further_of : DefinitionData → Data → Result Further MisreadData
 further_of d value = do
-  points ← points_of value
+  points ← member_of field.Points points_of value
   scope ← scope_over d points value
-  sited ← sites_of Two scope value
+  sited ← sites_in Two scope value
   Ok (record { points = points; sites = sited.sites; scope = sited.scope })
 
 abbrev pub further_in : DefinitionData → List ℕ → Result Further TextualFault

@@ -1,10 +1,9 @@
 -- What a text in JSON reads as.
-use Rattle.std.specs.Prelude.{◌≡◌, ◌⊎◌, ℕ, List, Result, Ok, Err, codes}
-use Rattle.serde_json.specs.Data.{Data, object, member, no_members}
+use Rattle.std.specs.Prelude.{◌≡◌, ◌⊎◌, ℕ, List, Result, Ok, Err}
 use Rattle.mh_tree.specs.Handle.{TypedTree}
 use Rattle.mh_text.specs.Gives.{◌>>=◌, at_place}
 use Rattle.mh_text.specs.Inputs.{json_of_input}
-use Rattle.mh_text.specs.Script.{declarations_of}
+use Rattle.mh_text.specs.Script.{definition_of}
 use Rattle.mh_text.specs.Trees.{declared_of}
 use Rattle.mh_text.specs.declared.fault.Fault.{Fault as TextualFault}
 use Rattle.mh_text.specs.declared.json.declarations.Declarations.{Declarations}
@@ -18,15 +17,11 @@ tree_in scope text = do
   value ← json_of_input text
   at_place 0 (declared_of scope value)
 
--- a script with this definition, and nothing else
-abbrev pub data_with : Data → Data
-data_with definition = object (member (codes "definition") definition no_members)
-
--- what a definition declares, as that of a script
+-- what a definition declares
 abbrev pub declarations_in : List ℕ → Result Declarations TextualFault
 declarations_in text = do
   value ← json_of_input text
-  at_place 0 (declarations_of (data_with value))
+  at_place 0 (definition_of value)
 
 -- out of memory, or the fault that the text has
 abbrev pub IsFaultOf : {X : Type 0} → Result X TextualFault → Fault → Type 0

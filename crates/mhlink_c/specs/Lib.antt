@@ -6,6 +6,9 @@ pub mod Further
 pub mod Buffers
 pub mod Crossing
 pub mod Calls
+pub mod Keys
+pub mod SiteTrees
+pub mod Details
 pub mod Questions
 pub mod Renewals
 pub mod Extensions
@@ -15,7 +18,9 @@ pub mod Resumptions
 pub mod Texts
 pub mod Problems
 pub mod Flows
+pub mod DeskRenewals
 pub mod Desks
 pub mod Callers
 pub mod Handles
 pub mod Wording
+pub mod Explaining

@@ -1,5 +1,5 @@
 -- What a question is answered.
-use Rattle.std.specs.Prelude.{◌≡◌, ◌⊎◌, ◌<◌, ℕ, List, length}
+use Rattle.std.specs.Prelude.{◌≡◌, ◌⊎◌, ◌<◌, ℕ, Some, None, List, length}
 use Rattle.mh_core.specs.Books.{BookState}
 use Rattle.mh_core.specs.Installations.{kept}
 use Rattle.mh_core.specs.Defined.{DefinitionData, point_at, site_at, link_of}
@@ -7,6 +7,7 @@ use Rattle.mh_core.specs.Ledgers.{at}
 use Rattle.mh_core.specs.Links.{links, link_at}
 use Rattle.mh_core.specs.Value.{Value}
 use Rattle.mhlink_c.specs.Crossing.{IsValue}
+use Rattle.mhlink_c.specs.Details.{detail_at}
 use Rattle.mhlink_c.specs.Statuses.{no_memory}
 use Rattle.mhlink_c.specs.declared.fault.Fault.{Fault}
 use Rattle.mhlink_c.specs.declared.fault.Fault.TheVariants.{BadValue, Unknown}
@@ -35,6 +36,7 @@ Tells b (question.Point name) n = IsPoint b.definition name.now n
 Tells b (question.Link s key text) n = (x : Value) × (IsValue key text.now x × IsLink b.definition s x n)
 Tells b (question.Total j) n = n ≡ at b.totals.total j
 Tells b (question.Linked s) n = n ≡ length (kept b.definition b.records s)
+Tells b (question.Detail which i k) n = detail_at b which i k ≡ Some n
 
 -- no link of the site has this key
 abbrev pub HasNoLink : DefinitionData → ℕ → Value → Type 0
@@ -54,3 +56,4 @@ IsUnknown b (question.Point name) e = (e ≡ Unknown) × ((p : ℕ) → IsPoint 
 IsUnknown b (question.Link s key text) e = IsUnknownLink b.definition s key text.now e
 IsUnknown b (question.Total j) e = (e ≡ Unknown) × (j < length b.totals.total → ⊥)
 IsUnknown b (question.Linked s) e = (e ≡ Unknown) × (s < length b.definition.sites → ⊥)
+IsUnknown b (question.Detail which i k) e = (e ≡ Unknown) × (detail_at b which i k ≡ None)

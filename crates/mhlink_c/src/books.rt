@@ -1,20 +1,24 @@
 //! What a machine and a desk read of their books, and of what C passes for a record.
 
-ghost use Rattle.std.specs.Prelude.{◌≡◌, ◌⊎◌, ◌<◌, length, Ok, IfErr, IfOk, OnOk};
+ghost use Rattle.std.specs.Prelude.{◌≡◌, ◌⊎◌, ◌<◌, Some, None, length, Ok, IfErr, IfOk, OnOk};
 ghost use Rattle.mh_core.specs.Installations.{kept};
 ghost use Rattle.mh_core.specs.Ledgers.{at};
 ghost use Rattle.mhlink_c.specs.Changes.{HasNoBest, IsBest};
+ghost use Rattle.mhlink_c.specs.Details.{detail_at as detail_of_book};
 ghost use Rattle.mhlink_c.specs.Inputs.{IsFaultOf, tree_in};
 ghost use Rattle.mhlink_c.specs.Questions.{IsUnknown, Tells};
 ghost use Rattle.mhlink_c.specs.Statuses.{no_memory};
-ghost use Rattle.mhlink_c.specs.declared.fault.Fault.TheVariants.{Unknown};
+ghost use Rattle.mh_core.specs.declared.refusal.Refusal.TheVariants.{NoSite};
+ghost use Rattle.mhlink_c.specs.declared.fault.Fault.TheVariants.{Refused, Unknown};
 
+use crate::detail::detail_of;
+use crate::details::told;
 use crate::fault::Fault;
 use crate::finding::{link_number, point_number, site_number};
 use crate::request::Question;
 use crate::texts::read_target;
 use crate::value::value;
-use mh_core::{Book, Declared, Listing, Plan};
+use mh_core::{Book, Declared, Listing, Plan, Refusal};
 use mh_plan::plan_alone;
 use mh_text::readers::Scope;
 use std::alloc::Global;
@@ -32,6 +36,25 @@ pub(crate) fn answer(alloc: Global, book: &Book, question: Question<'_>) -> Resu
         }
         Question::Total(link) => total(book, link),
         Question::Linked(site) => linked(book, site),
+        Question::Detail {
+            detail,
+            number,
+            place,
+        } => detail_at(book, detail, number, place),
+    }
+}
+
+fn detail_at(book: &Book, detail: u32, number: usize, place: usize) -> Result<u64, Fault>
+    ensures value { IfOk result (λ n. detail_of_book book.now detail number place ≡ Some n) }
+    ensures unknown { IfErr result (λ e. (e ≡ Unknown)
+        × (detail_of_book book.now detail number place ≡ None)) }
+{
+    let Some(detail) = detail_of(detail) else {
+        return Err(Fault::Unknown);
+    };
+    match told(book, detail, number, place) {
+        Some(told) => Ok(told),
+        None => Err(Fault::Unknown),
     }
 }
 
@@ -69,12 +92,12 @@ pub(crate) fn read_tree(
     ensures value { IfOk result (λ t. tree_in scope.now tree.now ≡ Ok t) }
     ensures inside { OnOk result (site < length book.now.definition.sites) }
     ensures refused { IfErr result (λ e.
-        ((site < length book.now.definition.sites → ⊥) × (e ≡ Unknown))
+        ((site < length book.now.definition.sites → ⊥) × (e ≡ Refused NoSite))
         ⊎ ((site < length book.now.definition.sites)
         × IsFaultOf (tree_in scope.now tree.now) e)) }
 {
     if site >= book.definition().sites().len() {
-        return Err(Fault::Unknown);
+        return Err(Fault::Refused(Refusal::NoSite));
     }
     read_target(alloc, scope, tree)
 }

@@ -6,6 +6,7 @@ ghost use Rattle.mh_share.specs.Callers.{call_tests};
 ghost use Rattle.mh_type.specs.Limits.{most_parameters};
 ghost use Rattle.mhlink_c.specs.Callers.{CallerAnswers, RefusesToLook, looks, opened_held_caller};
 ghost use Rattle.mhlink_c.specs.Calls.{AsksForNone, RefusesCall, WithValues};
+ghost use Rattle.mhlink_c.specs.Desks.{Holds};
 ghost use Rattle.mhlink_c.specs.Statuses.{no_memory};
 ghost use Rattle.mhlink_c.specs.Texts.{HasNoText};
 ghost use Rattle.mhlink_c.specs.declared.fault.Fault.TheVariants.{Unknown};
@@ -102,6 +103,7 @@ impl HeldCaller {
 
     /// Looks at what a desk shows.
     pub(crate) fn look(&mut self, desk: &HeldDesk) -> Result<(), Fault>
+        ensures held { OnOk result (Holds desk.now self.old.caller.ledger) }
         ensures looks { OnOk result (self.new ≡ looks desk.now self.old) }
         ensures refused { IfErr result (RefusesToLook desk.now self.old.caller.ledger) }
         ensures kept { OnErr result (self.new ≡ self.old) }

@@ -6,6 +6,7 @@ ghost use Rattle.mh_share.specs.Callers.{call_tests};
 ghost use Rattle.mhlink_c.specs.Buffers.{IsCopied};
 ghost use Rattle.mhlink_c.specs.Callers.{CallerAnswers, RefusesToLook, looks};
 ghost use Rattle.mhlink_c.specs.Calls.{AsksForNone, RefusesCall, WithValues};
+ghost use Rattle.mhlink_c.specs.Desks.{Holds};
 ghost use Rattle.mhlink_c.specs.Statuses.{no_memory, status_of};
 ghost use Rattle.mhlink_c.specs.Texts.{HasNoText, IsUncopied};
 ghost use Rattle.mhlink_c.specs.declared.fault.Fault.{Fault as FaultOf};
@@ -159,6 +160,7 @@ fn look_held(
     requires full { (desk.full ≡ true) × (caller.full ≡ true) }
     ensures full { (result.0.full ≡ true) × (result.1.0.full ≡ true) }
     ensures same { result.0.value ≡ desk.value }
+    ensures held { OnOk result.1.1 (Holds desk.value caller.value.caller.ledger) }
     ensures looks { OnOk result.1.1 (result.1.0.value ≡ looks desk.value caller.value) }
     ensures refused { IfErr result.1.1 (RefusesToLook desk.value caller.value.caller.ledger) }
     ensures kept { OnErr result.1.1 (result.1.0.value ≡ caller.value) }
@@ -182,6 +184,7 @@ pub extern "C" fn mhlink_caller_look(
     requires full { (caller.old.full ≡ true) × (desk.old.full ≡ true) }
     ensures full { (caller.new.full ≡ true) × (desk.new.full ≡ true) }
     ensures same { desk.new.value ≡ desk.old.value }
+    ensures held { result ≡ 0 → Holds desk.old.value caller.old.value.caller.ledger }
     ensures looks { result ≡ 0 → caller.new.value ≡ looks desk.old.value caller.old.value }
     ensures refused { result ≢ 0 → (e : FaultOf) × ((result ≡ status_of e)
         × RefusesToLook desk.old.value caller.old.value.caller.ledger e) }

@@ -4,7 +4,7 @@ ghost use Rattle.std.specs.Prelude.{◌≡◌, ◌≢◌, true, IfErr, OnErr, On
 ghost use Rattle.mh_core.specs.declared.record.Record.TheVariants.{Invalidated, Snapped, Installed};
 ghost use Rattle.mhlink_c.specs.Changes.{Installs, PublishesBest, PublishesOffer, RefusesBest, RefusesInvalidation, RefusesOffer, RefusesRecord, RefusesTarget, Retargets, TakesSnapshot};
 ghost use Rattle.mhlink_c.specs.Hosts.{Flushes, Records, RefusesToFlush};
-ghost use Rattle.mhlink_c.specs.Statuses.{status_of};
+ghost use Rattle.mhlink_c.specs.Statuses.{part_of, status_of};
 ghost use Rattle.mhlink_c.specs.declared.fault.Fault.{Fault as FaultOf};
 
 use crate::fault::{Fault, status};
@@ -42,25 +42,34 @@ pub extern "C" fn mhlink_flush(machine: &mut MhlinkMachine, worker: u32) -> u32
 /// Gives a site another tree, as JSON over the points, the shared trees and the sites of the
 /// definition.
 ///
-/// Refused as unknown where there is no such site, then with the fault of the text, and then as the
-/// runtime refuses the tree.
+/// Refused with `NoSite` where there is no such site, then with the fault of the text, and then as
+/// the runtime refuses the tree. `part` gets the number of the fault's cause, or 0.
 #[unsafe(no_mangle)]
 pub extern "C" fn mhlink_target(
     alloc: Global,
     machine: &mut MhlinkMachine,
     site: usize,
     tree: &[u8],
+    part: &mut u64,
 ) -> u32
     requires full { machine.old.full ≡ true }
     ensures full { machine.new.full ≡ true }
     ensures taken { result ≡ 0 → Retargets (Records machine.old.value machine.new.value)
         machine.old.value.scope site tree.now }
+    ensures no_part { result ≡ 0 → part.new ≡ 0 }
     ensures refused { result ≢ 0 → (e : FaultOf) × ((result ≡ status_of e)
-        × RefusesTarget machine.old.value.runtime.book machine.old.value.scope site tree.now e) }
+        × ((part.new ≡ part_of e)
+        × RefusesTarget machine.old.value.runtime.book machine.old.value.scope site tree.now e)) }
     ensures kept { result ≢ 0 → machine.new.value ≡ machine.old.value }
 {
     let mut nothing = 0;
-    make_change(alloc, machine, Change::Target { site, tree }, &mut nothing)
+    make_change(
+        alloc,
+        machine,
+        Change::Target { site, tree },
+        &mut nothing,
+        part,
+    )
 }
 
 /// Invalidates points together and for good.
@@ -78,8 +87,14 @@ pub extern "C" fn mhlink_invalidate(
         × RefusesInvalidation machine.old.value.runtime.book points.now e) }
     ensures kept { result ≢ 0 → machine.new.value ≡ machine.old.value }
 {
-    let mut nothing = 0;
-    make_change(alloc, machine, Change::Invalidate(points), &mut nothing)
+    let (mut nothing, mut part) = (0, 0);
+    make_change(
+        alloc,
+        machine,
+        Change::Invalidate(points),
+        &mut nothing,
+        &mut part,
+    )
 }
 
 /// Takes a snapshot of the totals, with its number, from 1.
@@ -98,7 +113,8 @@ pub extern "C" fn mhlink_snapshot(
     ensures kept { result ≢ 0 → machine.new.value ≡ machine.old.value }
     ensures untouched { result ≢ 0 → number.new ≡ number.old }
 {
-    make_change(alloc, machine, Change::Snapshot, number)
+    let mut part = 0;
+    make_change(alloc, machine, Change::Snapshot, number, &mut part)
 }
 
 /// Makes the best plan for a snapshot, of such the one with the fewest links, and publishes it, with
@@ -119,10 +135,12 @@ pub extern "C" fn mhlink_plan(
     ensures kept { result ≢ 0 → machine.new.value ≡ machine.old.value }
     ensures untouched { result ≢ 0 → number.new ≡ number.old }
 {
-    make_change(alloc, machine, Change::Plan(snapshot), number)
+    let mut part = 0;
+    make_change(alloc, machine, Change::Plan(snapshot), number, &mut part)
 }
 
 /// Publishes the caller's plan for a snapshot, as JSON, if the checker accepts it, with its number.
+/// `part` gets the number of the fault's cause, as the checker's test that failed, or 0.
 #[unsafe(no_mangle)]
 pub extern "C" fn mhlink_offer(
     alloc: Global,
@@ -130,35 +148,48 @@ pub extern "C" fn mhlink_offer(
     snapshot: usize,
     plan: &[u8],
     number: &mut u64,
+    part: &mut u64,
 ) -> u32
     requires full { machine.old.full ≡ true }
     ensures full { machine.new.full ≡ true }
     ensures taken { result ≡ 0 → PublishesOffer (Records machine.old.value machine.new.value)
         machine.old.value.runtime.book snapshot plan.now number.new }
+    ensures no_part { result ≡ 0 → part.new ≡ 0 }
     ensures refused { result ≢ 0 → (e : FaultOf) × ((result ≡ status_of e)
-        × RefusesOffer machine.old.value.runtime.book snapshot plan.now e) }
+        × ((part.new ≡ part_of e)
+        × RefusesOffer machine.old.value.runtime.book snapshot plan.now e)) }
     ensures kept { result ≢ 0 → machine.new.value ≡ machine.old.value }
     ensures untouched { result ≢ 0 → number.new ≡ number.old }
 {
-    make_change(alloc, machine, Change::Offer { snapshot, plan }, number)
+    make_change(
+        alloc,
+        machine,
+        Change::Offer { snapshot, plan },
+        number,
+        part,
+    )
 }
 
-/// Installs the newest plan, with the number of sites that it links.
+/// Installs the newest plan, with the number of sites that it links. `part` gets the number of the
+/// newest plan where another is named, or 0.
 #[unsafe(no_mangle)]
 pub extern "C" fn mhlink_install(
     alloc: Global,
     machine: &mut MhlinkMachine,
     plan: usize,
     linked: &mut u64,
+    part: &mut u64,
 ) -> u32
     requires full { machine.old.full ≡ true }
     ensures full { machine.new.full ≡ true }
     ensures taken { result ≡ 0 → Installs (Records machine.old.value machine.new.value)
         machine.old.value.runtime.book plan linked.new }
+    ensures no_part { result ≡ 0 → part.new ≡ 0 }
     ensures refused { result ≢ 0 → (e : FaultOf) × ((result ≡ status_of e)
-        × RefusesRecord machine.old.value.runtime.book (Installed plan) e) }
+        × ((part.new ≡ part_of e)
+        × RefusesRecord machine.old.value.runtime.book (Installed plan) e)) }
     ensures kept { result ≢ 0 → machine.new.value ≡ machine.old.value }
     ensures untouched { result ≢ 0 → linked.new ≡ linked.old }
 {
-    make_change(alloc, machine, Change::Install(plan), linked)
+    make_change(alloc, machine, Change::Install(plan), linked, part)
 }

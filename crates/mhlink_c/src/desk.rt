@@ -6,7 +6,7 @@ ghost use Rattle.mh_ledger.specs.Ledgers.{settled};
 ghost use Rattle.mh_share.specs.Desks.{opened_callers};
 ghost use Rattle.mhlink_c.specs.Callers.{opened_held_caller, with_ledger};
 ghost use Rattle.mhlink_c.specs.Changes.{Installs, MakesChange, Publishes, PublishesBest, PublishesOffer, RefusesBest, RefusesChange, RefusesInvalidation, RefusesOffer, RefusesPublished, RefusesRecord, RefusesTarget, Retargets, TakesSnapshot};
-ghost use Rattle.mhlink_c.specs.Desks.{DeskFlushes, DeskRecords, RefusesDeskFlush, opened_held_desk, shows};
+ghost use Rattle.mhlink_c.specs.Desks.{DeskFlushes, DeskRecords, Holds, RefusesDeskFlush, opened_held_desk, shows};
 ghost use Rattle.mhlink_c.specs.Opening.{Opens, RefusesOpening, limits_of};
 ghost use Rattle.mhlink_c.specs.Statuses.{no_memory};
 
@@ -27,7 +27,7 @@ use std::marker::Model;
 #[derive(Drop)]
 pub(crate) struct HeldDesk {
     pub(crate) desk: Desk,
-    scope: Scope,
+    pub(crate) scope: Scope,
 }
 
 impl Model for HeldDesk {
@@ -71,6 +71,7 @@ impl HeldDesk {
 
     /// A caller's hits go to the totals.
     pub(crate) fn flush(&mut self, caller: &mut HeldCaller) -> Result<(), Fault>
+        ensures held { OnOk result (Holds self.old caller.old.caller.ledger) }
         ensures flushed { OnOk result (DeskFlushes self.old caller.old.caller.ledger self.new) }
         ensures settled { OnOk result (caller.new
             ≡ with_ledger caller.old (settled caller.old.caller.ledger)) }

@@ -1,6 +1,6 @@
 //! What C asks of a desk. The host orders these calls by a lock of its own.
 
-ghost use Rattle.std.specs.Prelude.{◌≡◌, ◌≢◌, ◌<◌, ℕ, length, true, IfErr, IfOk, OnErr, OnOk};
+ghost use Rattle.std.specs.Prelude.{◌≡◌, ◌≢◌, ◌<◌, ℕ, Some, None, length, true, IfErr, IfOk, OnErr, OnOk};
 ghost use Rattle.mh_core.specs.Installations.{kept};
 ghost use Rattle.mh_core.specs.Ledgers.{at};
 ghost use Rattle.mh_core.specs.Records.{plans, snapshots};
@@ -10,17 +10,18 @@ ghost use Rattle.mh_ledger.specs.Ledgers.{settled};
 ghost use Rattle.mhlink_c.specs.Callers.{with_ledger};
 ghost use Rattle.mhlink_c.specs.Changes.{Installs, MakesChange, PublishesBest, PublishesOffer, RefusesBest, RefusesChange, RefusesInvalidation, RefusesOffer, RefusesRecord, RefusesTarget, Retargets, TakesSnapshot};
 ghost use Rattle.mhlink_c.specs.Crossing.{IsValue};
-ghost use Rattle.mhlink_c.specs.Desks.{DeskFlushes, DeskRecords, RefusesDeskFlush, shows};
+ghost use Rattle.mhlink_c.specs.Details.{detail_at};
+ghost use Rattle.mhlink_c.specs.Desks.{DeskFlushes, DeskRecords, Holds, RefusesDeskFlush, shows};
 ghost use Rattle.mhlink_c.specs.Questions.{IsLink, IsPoint, IsSite, IsUnknown, IsUnknownLink, Tells};
 ghost use Rattle.mhlink_c.specs.Renewals.{IsUsed};
-ghost use Rattle.mhlink_c.specs.Statuses.{no_memory, status_of};
+ghost use Rattle.mhlink_c.specs.Statuses.{no_memory, part_of, status_of};
 ghost use Rattle.mhlink_c.specs.declared.fault.Fault.{Fault as FaultOf};
 ghost use Rattle.mhlink_c.specs.declared.fault.Fault.TheVariants.{Unknown};
 
 use crate::books::answer;
 use crate::caller_handle::MhlinkCaller;
 use crate::desk_handle::MhlinkDesk;
-use crate::fault::{Fault, status, write_answer};
+use crate::fault::{Fault, status, write_answer, write_change};
 use crate::renewing::{MhlinkUsed, used_of};
 use crate::request::{Change, Question};
 use crate::value::MhlinkValue;
@@ -53,18 +54,27 @@ fn look_held(desk: MhlinkDesk, asked: (Global, Question<'_>)) -> (MhlinkDesk, Re
     (MhlinkDesk::of(held), answer)
 }
 
-// Makes a change, and writes its answer to `out`, where there is one.
-fn make_change(alloc: Global, desk: &mut MhlinkDesk, change: Change<'_>, out: &mut u64) -> u32
+// Makes a change, and writes its answer to `out`, where there is one, and else what its fault
+// leaves open to `part`.
+fn make_change(
+    alloc: Global,
+    desk: &mut MhlinkDesk,
+    change: Change<'_>,
+    out: &mut u64,
+    part: &mut u64,
+) -> u32
     requires full { desk.old.full ≡ true }
     ensures full { desk.new.full ≡ true }
     ensures makes { result ≡ 0 → MakesChange (DeskRecords desk.old.value desk.new.value)
         desk.old.value.desk.book desk.old.value.scope change.entry out.new }
+    ensures no_part { result ≡ 0 → part.new ≡ 0 }
     ensures refused { result ≢ 0 → (e : FaultOf) × ((result ≡ status_of e)
-        × RefusesChange desk.old.value.desk.book desk.old.value.scope change.entry e) }
+        × ((part.new ≡ part_of e)
+        × RefusesChange desk.old.value.desk.book desk.old.value.scope change.entry e)) }
     ensures kept { result ≢ 0 → desk.new.value ≡ desk.old.value }
     ensures untouched { result ≢ 0 → out.new ≡ out.old }
 {
-    write_answer(replace_with(desk, (alloc, change), change_held), out)
+    write_change(replace_with(desk, (alloc, change), change_held), out, part)
 }
 
 fn change_held(desk: MhlinkDesk, made: (Global, Change<'_>)) -> (MhlinkDesk, Result<u64, Fault>)
@@ -90,17 +100,26 @@ pub extern "C" fn mhlink_desk_target(
     desk: &mut MhlinkDesk,
     site: usize,
     tree: &[u8],
+    part: &mut u64,
 ) -> u32
     requires full { desk.old.full ≡ true }
     ensures full { desk.new.full ≡ true }
     ensures taken { result ≡ 0 → Retargets (DeskRecords desk.old.value desk.new.value)
         desk.old.value.scope site tree.now }
+    ensures no_part { result ≡ 0 → part.new ≡ 0 }
     ensures refused { result ≢ 0 → (e : FaultOf) × ((result ≡ status_of e)
-        × RefusesTarget desk.old.value.desk.book desk.old.value.scope site tree.now e) }
+        × ((part.new ≡ part_of e)
+        × RefusesTarget desk.old.value.desk.book desk.old.value.scope site tree.now e)) }
     ensures kept { result ≢ 0 → desk.new.value ≡ desk.old.value }
 {
     let mut nothing = 0;
-    make_change(alloc, desk, Change::Target { site, tree }, &mut nothing)
+    make_change(
+        alloc,
+        desk,
+        Change::Target { site, tree },
+        &mut nothing,
+        part,
+    )
 }
 
 /// Invalidates points together and for good, as `mhlink_invalidate` does: callers know it from
@@ -119,8 +138,14 @@ pub extern "C" fn mhlink_desk_invalidate(
         × RefusesInvalidation desk.old.value.desk.book points.now e) }
     ensures kept { result ≢ 0 → desk.new.value ≡ desk.old.value }
 {
-    let mut nothing = 0;
-    make_change(alloc, desk, Change::Invalidate(points), &mut nothing)
+    let (mut nothing, mut part) = (0, 0);
+    make_change(
+        alloc,
+        desk,
+        Change::Invalidate(points),
+        &mut nothing,
+        &mut part,
+    )
 }
 
 /// Takes a snapshot of the totals, as `mhlink_snapshot` does.
@@ -139,7 +164,8 @@ pub extern "C" fn mhlink_desk_snapshot(
     ensures kept { result ≢ 0 → desk.new.value ≡ desk.old.value }
     ensures untouched { result ≢ 0 → number.new ≡ number.old }
 {
-    make_change(alloc, desk, Change::Snapshot, number)
+    let mut part = 0;
+    make_change(alloc, desk, Change::Snapshot, number, &mut part)
 }
 
 /// Makes the best plan for a snapshot and publishes it, as `mhlink_plan` does.
@@ -159,7 +185,8 @@ pub extern "C" fn mhlink_desk_plan(
     ensures kept { result ≢ 0 → desk.new.value ≡ desk.old.value }
     ensures untouched { result ≢ 0 → number.new ≡ number.old }
 {
-    make_change(alloc, desk, Change::Plan(snapshot), number)
+    let mut part = 0;
+    make_change(alloc, desk, Change::Plan(snapshot), number, &mut part)
 }
 
 /// Publishes the caller's plan for a snapshot, as `mhlink_offer` does.
@@ -170,17 +197,20 @@ pub extern "C" fn mhlink_desk_offer(
     snapshot: usize,
     plan: &[u8],
     number: &mut u64,
+    part: &mut u64,
 ) -> u32
     requires full { desk.old.full ≡ true }
     ensures full { desk.new.full ≡ true }
     ensures taken { result ≡ 0 → PublishesOffer (DeskRecords desk.old.value desk.new.value)
         desk.old.value.desk.book snapshot plan.now number.new }
+    ensures no_part { result ≡ 0 → part.new ≡ 0 }
     ensures refused { result ≢ 0 → (e : FaultOf) × ((result ≡ status_of e)
-        × RefusesOffer desk.old.value.desk.book snapshot plan.now e) }
+        × ((part.new ≡ part_of e)
+        × RefusesOffer desk.old.value.desk.book snapshot plan.now e)) }
     ensures kept { result ≢ 0 → desk.new.value ≡ desk.old.value }
     ensures untouched { result ≢ 0 → number.new ≡ number.old }
 {
-    make_change(alloc, desk, Change::Offer { snapshot, plan }, number)
+    make_change(alloc, desk, Change::Offer { snapshot, plan }, number, part)
 }
 
 /// Installs the newest plan, as `mhlink_install` does: callers call through it from their next look
@@ -191,17 +221,20 @@ pub extern "C" fn mhlink_desk_install(
     desk: &mut MhlinkDesk,
     plan: usize,
     linked: &mut u64,
+    part: &mut u64,
 ) -> u32
     requires full { desk.old.full ≡ true }
     ensures full { desk.new.full ≡ true }
     ensures taken { result ≡ 0 → Installs (DeskRecords desk.old.value desk.new.value)
         desk.old.value.desk.book plan linked.new }
+    ensures no_part { result ≡ 0 → part.new ≡ 0 }
     ensures refused { result ≢ 0 → (e : FaultOf) × ((result ≡ status_of e)
-        × RefusesRecord desk.old.value.desk.book (Installed plan) e) }
+        × ((part.new ≡ part_of e)
+        × RefusesRecord desk.old.value.desk.book (Installed plan) e)) }
     ensures kept { result ≢ 0 → desk.new.value ≡ desk.old.value }
     ensures untouched { result ≢ 0 → linked.new ≡ linked.old }
 {
-    make_change(alloc, desk, Change::Install(plan), linked)
+    make_change(alloc, desk, Change::Install(plan), linked, part)
 }
 
 fn show_held(desk: MhlinkDesk, _: ()) -> (MhlinkDesk, Result<(), Fault>)
@@ -235,6 +268,7 @@ fn flush_held(
 ) -> (MhlinkDesk, (MhlinkCaller, Result<(), Fault>))
     requires full { (desk.full ≡ true) × (caller.full ≡ true) }
     ensures full { (result.0.full ≡ true) × (result.1.0.full ≡ true) }
+    ensures held { OnOk result.1.1 (Holds desk.value caller.value.caller.ledger) }
     ensures flushed { OnOk result.1.1
         (DeskFlushes desk.value caller.value.caller.ledger result.0.value) }
     ensures settled { OnOk result.1.1 (result.1.0.value
@@ -260,6 +294,7 @@ pub extern "C" fn mhlink_desk_flush(
 ) -> u32
     requires full { (desk.old.full ≡ true) × (caller.old.full ≡ true) }
     ensures full { (desk.new.full ≡ true) × (caller.new.full ≡ true) }
+    ensures held { result ≡ 0 → Holds desk.old.value caller.old.value.caller.ledger }
     ensures flushed { result ≡ 0
         → DeskFlushes desk.old.value caller.old.value.caller.ledger desk.new.value }
     ensures settled { result ≡ 0 → caller.new.value
@@ -312,6 +347,35 @@ pub extern "C" fn mhlink_desk_linked(
     ensures untouched { result ≢ 0 → links.new ≡ links.old }
 {
     look_up(alloc, desk, Question::Linked(site), links)
+}
+
+/// A detail of what is declared, stands or was published, which changes nothing: that of the number
+/// `detail`, of the point, site, link or plan `number`, and where it is one of several, of that at
+/// `place`.
+#[unsafe(no_mangle)]
+pub extern "C" fn mhlink_desk_detail(
+    alloc: Global,
+    desk: &mut MhlinkDesk,
+    detail: u32,
+    number: usize,
+    place: usize,
+    told: &mut u64,
+) -> u32
+    requires full { desk.old.full ≡ true }
+    ensures full { desk.new.full ≡ true }
+    ensures same { desk.new.value ≡ desk.old.value }
+    ensures value { result ≡ 0 → detail_at desk.old.value.desk.book detail number place
+        ≡ Some told.new }
+    ensures unknown { result ≢ 0 → (result ≡ status_of Unknown)
+        × (detail_at desk.old.value.desk.book detail number place ≡ None) }
+    ensures untouched { result ≢ 0 → told.new ≡ told.old }
+{
+    let question = Question::Detail {
+        detail,
+        number,
+        place,
+    };
+    look_up(alloc, desk, question, told)
 }
 
 /// The number of the site of a name.

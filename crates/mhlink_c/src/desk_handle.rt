@@ -1,6 +1,6 @@
 //! A boxed desk as its pointer, which C keeps.
 
-ghost use Rattle.std.specs.Prelude.{◌≡◌, Bool, true};
+ghost use Rattle.std.specs.Prelude.{◌≡◌, Bool, true, false};
 ghost use Rattle.mhlink_c.specs.Desks.{HeldDeskState, coded_held_desk};
 ghost use Rattle.mhlink_c.specs.Held.{held};
 ghost use Rattle.mhlink_c.specs.contracts.desk.HeldDesk as desks;
@@ -9,6 +9,7 @@ use crate::desk::HeldDesk;
 use mh_parts::Parts;
 use std::alloc::Global;
 use std::marker::Model;
+use std::ptr;
 
 /// A desk as C keeps it: a pointer. Where it is full it owns the desk, and else nothing, as one that C
 /// made. Dropped, it leaves the desk where it is.
@@ -40,6 +41,16 @@ impl MhlinkDesk {
         ensures value { result.value ≡ self.value }
     {
         self.into_parts().into_box()
+    }
+
+    /// A handle that is not full.
+    pub(crate) fn hollow(alloc: Global) -> MhlinkDesk
+        ensures { result.full ≡ false }
+    {
+        MhlinkDesk {
+            at: ptr::null_mut(),
+            alloc,
+        }
     }
 
     fn of_parts(parts: Parts<HeldDesk, Global>) -> MhlinkDesk

@@ -4,7 +4,7 @@ ghost use Rattle.std.specs.Prelude.{◌≡◌, ◌≢◌, ◌≤◌, IfErr, IfOk
 ghost use Rattle.mhlink_c.specs.Statuses.{input_number as number_of_input, input_part as part_of_input, part_of, status_of};
 
 use mh_core::{NoMemory, ProblemFault, Refusal};
-use mh_text::{Fault as TextualFault, InputFault, TextFault};
+use mh_text::{Fault as TextualFault, InputFault, Misread, TextFault};
 use std::alloc::{AllocError, AllocFailed};
 
 /// Why an export did nothing.
@@ -166,6 +166,17 @@ impl From<InputFault> for Fault {
     }
 }
 
+impl From<Misread> for Fault {
+    ghost use Rattle.std.specs.Prelude.{◌≡◌};
+    ghost use Rattle.mhlink_c.specs.Statuses.{of_input};
+
+    ghost from_gives = { λ misread e. e ≡ of_input misread.fault };
+
+    fn from(misread: Misread) -> Fault {
+        Fault::from(misread.fault())
+    }
+}
+
 impl From<ProblemFault> for Fault {
     ghost use Rattle.std.specs.Prelude.{◌≡◌};
     ghost use Rattle.mhlink_c.specs.Statuses.{of_problem};
@@ -190,6 +201,42 @@ pub(crate) fn status<T: Drop>(answer: Result<T, Fault>) -> u32
         Ok(_) => 0,
         Err(fault) => fault.number(),
     }
+}
+
+/// The status of an answer; what its fault leaves open is written to `part`, and else 0.
+pub(crate) fn write_part<T: Drop>(answer: Result<T, Fault>, part: &mut u64) -> u32
+    ensures ok { OnOk answer (result ≡ 0) }
+    ensures no_part { OnOk answer (part.new ≡ 0) }
+    ensures refused { OnErr answer (result ≢ 0) }
+    ensures status { IfErr answer (λ e. result ≡ status_of e) }
+    ensures part { IfErr answer (λ e. part.new ≡ part_of e) }
+{
+    match answer {
+        Ok(_) => {
+            *part = 0;
+            0
+        }
+        Err(fault) => {
+            *part = fault.part();
+            fault.number()
+        }
+    }
+}
+
+/// The same, where the answer is written to `out`.
+pub(crate) fn write_change(answer: Result<u64, Fault>, out: &mut u64, part: &mut u64) -> u32
+    ensures ok { OnOk answer (result ≡ 0) }
+    ensures answer { IfOk answer (λ n. out.new ≡ n) }
+    ensures no_part { OnOk answer (part.new ≡ 0) }
+    ensures refused { OnErr answer (result ≢ 0) }
+    ensures status { IfErr answer (λ e. result ≡ status_of e) }
+    ensures part { IfErr answer (λ e. part.new ≡ part_of e) }
+    ensures kept { OnErr answer (out.new ≡ out.old) }
+{
+    if let Ok(number) = answer {
+        *out = number;
+    }
+    write_part(answer, part)
 }
 
 /// The status of an answer, which is written to `out` where there is one.

@@ -4,15 +4,17 @@ ghost use Rattle.std.specs.Prelude.{◌≡◌, fold, IfErr, IfOk};
 ghost use Rattle.serde_json.specs.View.{view};
 ghost use Rattle.mh_text.specs.Gives.{Gives};
 ghost use Rattle.mh_text.specs.Script.{with_site};
-ghost use Rattle.mh_text.specs.declared.fault.InputFault.{InputFault as InputFaultOf};
+ghost use Rattle.mh_text.specs.declared.fault.InputFault.TheVariants.{NoMemory};
 ghost use Rattle.mhlink_c.specs.Further.{further_in, further_of, names_of_all as all_names, scope_over as scope_with};
 ghost use Rattle.mhlink_c.specs.Inputs.{Reads};
 
 use crate::fault::Fault;
 use mh_core::{Definition, Listing, Point, Site};
 use mh_site::{Names, Version};
-use mh_text::InputFault;
-use mh_text::readers::{Scope, Sited, point_names, read_json, read_points, read_scope, read_sites};
+use mh_text::readers::{
+    Scope, Sited, member, point_names, read_json, read_points, read_shared_trees, read_site_list,
+};
+use mh_text::{Field, Misread};
 use serde_json::Value;
 use std::alloc::{AllocError, Global};
 
@@ -41,12 +43,17 @@ pub(crate) fn read_further(
 }
 
 // What a JSON value adds to a definition.
-fn read_value(alloc: Global, definition: &Definition, value: &Value) -> Result<Further, InputFault>
+fn read_value(alloc: Global, definition: &Definition, value: &Value) -> Result<Further, Misread>
     ensures value { Gives (λ x. x) result (further_of definition.now (view value.now)) }
 {
-    let points = read_points(alloc, value)?;
+    let points = member(
+        alloc,
+        value,
+        Field::Points,
+        |points| read_points(alloc, points),
+    )?;
     let scope = scope_over(alloc, definition, points.as_slice(), value)?;
-    let Sited { scope, sites } = read_sites(alloc, Version::Two, scope, value)?;
+    let Sited { scope, sites } = read_site_list(alloc, Version::Two, scope, value)?;
     Ok(Further {
         points,
         sites,
@@ -61,12 +68,12 @@ fn scope_over(
     definition: &Definition,
     points: &[Point],
     value: &Value,
-) -> Result<Scope, InputFault>
+) -> Result<Scope, Misread>
     ensures value { Gives (λ x. x) result
         (scope_with definition.now points.now (view value.now)) }
 {
     let names = names_of_all(alloc, definition.points(), points)?;
-    let scope = read_scope(alloc, names, value)?;
+    let scope = read_shared_trees(alloc, names, value)?;
     let scope = with_sites(scope, definition.sites())?;
     Ok(scope)
 }
@@ -83,9 +90,9 @@ fn names_of_all(alloc: Global, own: &[Point], more: &[Point]) -> Result<Names, A
 }
 
 // The names, and then those of these sites.
-fn with_sites(scope: Scope, sites: &[Site]) -> Result<Scope, InputFault>
+fn with_sites(scope: Scope, sites: &[Site]) -> Result<Scope, Misread>
     ensures value { IfOk result (λ all. all ≡ fold with_site scope sites.now) }
-    ensures refused { IfErr result (λ e. e ≡ InputFaultOf.NoMemory) }
+    ensures refused { IfErr result (λ e. e.fault ≡ NoMemory) }
 {
     let mut all = scope;
     for site in sites {

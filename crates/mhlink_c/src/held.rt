@@ -4,11 +4,11 @@ ghost use Rattle.std.specs.Prelude.{◌≡◌, ◌≢◌, true, IfErr, IfOk, OnE
 ghost use Rattle.mhlink_c.specs.Changes.{MakesChange, RefusesChange};
 ghost use Rattle.mhlink_c.specs.Hosts.{Records};
 ghost use Rattle.mhlink_c.specs.Questions.{IsUnknown, Tells};
-ghost use Rattle.mhlink_c.specs.Statuses.{status_of};
+ghost use Rattle.mhlink_c.specs.Statuses.{part_of, status_of};
 ghost use Rattle.mhlink_c.specs.declared.fault.Fault.{Fault as FaultOf};
 
 use crate::books::answer;
-use crate::fault::{Fault, write_answer};
+use crate::fault::{Fault, write_answer, write_change};
 use crate::handle::MhlinkMachine;
 use crate::request::{Change, Question};
 use core::mem::replace_with;
@@ -49,23 +49,31 @@ fn look_held(
     (MhlinkMachine::of(host), answer)
 }
 
-/// Makes a change, and writes its answer to `out`, where there is one.
+/// Makes a change, and writes its answer to `out`, where there is one, and else what its fault
+/// leaves open to `part`.
 pub(crate) fn make_change(
     alloc: Global,
     machine: &mut MhlinkMachine,
     change: Change<'_>,
     out: &mut u64,
+    part: &mut u64,
 ) -> u32
     requires full { machine.old.full ≡ true }
     ensures full { machine.new.full ≡ true }
     ensures makes { result ≡ 0 → MakesChange (Records machine.old.value machine.new.value)
         machine.old.value.runtime.book machine.old.value.scope change.entry out.new }
+    ensures no_part { result ≡ 0 → part.new ≡ 0 }
     ensures refused { result ≢ 0 → (e : FaultOf) × ((result ≡ status_of e)
-        × RefusesChange machine.old.value.runtime.book machine.old.value.scope change.entry e) }
+        × ((part.new ≡ part_of e)
+        × RefusesChange machine.old.value.runtime.book machine.old.value.scope change.entry e)) }
     ensures kept { result ≢ 0 → machine.new.value ≡ machine.old.value }
     ensures untouched { result ≢ 0 → out.new ≡ out.old }
 {
-    write_answer(replace_with(machine, (alloc, change), change_held), out)
+    write_change(
+        replace_with(machine, (alloc, change), change_held),
+        out,
+        part,
+    )
 }
 
 fn change_held(

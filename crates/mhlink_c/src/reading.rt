@@ -7,6 +7,7 @@ ghost use Rattle.mh_core.specs.Value.{Value as AnyValue};
 ghost use Rattle.mhlink_c.specs.Buffers.{IsCopied, IsTooShort};
 ghost use Rattle.mhlink_c.specs.Changes.{HasNoBest};
 ghost use Rattle.mhlink_c.specs.Crossing.{IsValue};
+ghost use Rattle.mhlink_c.specs.Details.{detail_at};
 ghost use Rattle.mhlink_c.specs.Questions.{IsLink, IsPoint, IsSite, IsUnknownLink};
 ghost use Rattle.mhlink_c.specs.Statuses.{no_memory, status_of};
 ghost use Rattle.mhlink_c.specs.Texts.{HasNoText, IsCertificate, IsUncopied, report_of};
@@ -160,6 +161,35 @@ pub extern "C" fn mhlink_linked(
     ensures untouched { result ≢ 0 → links.new ≡ links.old }
 {
     look_up(alloc, machine, Question::Linked(site), links)
+}
+
+/// A detail of what is declared, stands or was published, which changes nothing: that of the number
+/// `detail`, of the point, site, link or plan `number`, and where it is one of several, of that at
+/// `place`.
+#[unsafe(no_mangle)]
+pub extern "C" fn mhlink_detail(
+    alloc: Global,
+    machine: &mut MhlinkMachine,
+    detail: u32,
+    number: usize,
+    place: usize,
+    told: &mut u64,
+) -> u32
+    requires full { machine.old.full ≡ true }
+    ensures full { machine.new.full ≡ true }
+    ensures same { machine.new.value ≡ machine.old.value }
+    ensures value { result ≡ 0 → detail_at machine.old.value.runtime.book detail number place
+        ≡ Some told.new }
+    ensures unknown { result ≢ 0 → (result ≡ status_of Unknown)
+        × (detail_at machine.old.value.runtime.book detail number place ≡ None) }
+    ensures untouched { result ≢ 0 → told.new ≡ told.old }
+{
+    let question = Question::Detail {
+        detail,
+        number,
+        place,
+    };
+    look_up(alloc, machine, question, told)
 }
 
 // Another owner of the text that the last call gave.

@@ -67,7 +67,7 @@ impl Host {
 }
 
 // What becomes of the flushed hits, by the number that C passes.
-fn old_hits(number: u32) -> Result<OldHits, Fault>
+pub(crate) fn old_hits(number: u32) -> Result<OldHits, Fault>
     ensures value { IfOk result (λ hits. number ≡ hits_number hits) }
     ensures unknown { IfErr result (λ e. ((hits : OldHitsOf) → number ≡ hits_number hits → ⊥)
         × (e ≡ Unknown)) }

@@ -19,6 +19,13 @@ pub(crate) enum Question<'a> {
     Total(usize),
     /// The number of links that a site holds.
     Linked(usize),
+    /// The detail of this number, of a point, a site, a link or a plan, and where it is one of
+    /// several, of that at a place.
+    Detail {
+        detail: u32,
+        number: usize,
+        place: usize,
+    },
 }
 
 /// What is recorded.

@@ -2,16 +2,15 @@
 
 ghost use Rattle.std.specs.Prelude.{◌≡◌, IfErr, IfOk};
 ghost use Rattle.mh_core.specs.Limits.{IsLimits};
-ghost use Rattle.serde_json.specs.View.{view};
-ghost use Rattle.mhlink_c.specs.Inputs.{Reads, data_with, declarations_in, tree_in};
+ghost use Rattle.mhlink_c.specs.Inputs.{Reads, declarations_in, tree_in};
 ghost use Rattle.mhlink_c.specs.Opening.{limits_of};
 ghost use Rattle.mhlink_c.specs.declared.fault.Fault.TheVariants.{BadLimits};
 
 use crate::fault::Fault;
 use mh_core::{Declared, Limits};
-use mh_text::readers::{Declarations, Scope, read_declarations, read_declared, read_json};
-use serde_json::{Value, json};
-use std::alloc::{AllocError, Global};
+use mh_text::readers;
+use mh_text::readers::{Declarations, Scope, read_declared, read_json};
+use std::alloc::Global;
 
 /// The limits of a machine: the most records, the most unflushed hits of a link by a worker's calls,
 /// and the most flushed hits of a link.
@@ -43,16 +42,8 @@ impl MhlinkLimits {
 pub(crate) fn read_definition(alloc: Global, definition: &[u8]) -> Result<Declarations, Fault>
     ensures value { Reads result (declarations_in definition.now) }
 {
-    let definition = read_json(alloc, definition)?;
-    let script = script_with(alloc, definition)?;
-    Ok(read_declarations(alloc, &script)?)
-}
-
-// A script with this definition, and nothing else.
-fn script_with(alloc: Global, definition: Value) -> Result<Value, AllocError>
-    ensures value { IfOk result (λ script. view script ≡ data_with (view definition)) }
-{
-    json!(in alloc; {"definition": definition})
+    let value = read_json(alloc, definition)?;
+    Ok(readers::read_definition(alloc, &value)?)
 }
 
 /// A tree in JSON, over the names that a definition declares.

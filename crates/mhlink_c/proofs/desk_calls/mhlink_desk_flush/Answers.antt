@@ -10,5 +10,5 @@ pub returns-clause-refused : goal.returns-clause-refused
 returns-clause-refused c some =
     let answer = c.replace_with-given.result.1 in
     let Tells : MhlinkCaller → Fault → Type 0 = λ k. RefusesDeskFlush c.args.desk.now.value k.value.caller.ledger in
-    let told = subst (λ (k : MhlinkCaller). IfErr answer (Tells k)) c.replace-taken.ensures.value c.replace_with-given.ensures.1.1.1.0 in
+    let told = subst (λ (k : MhlinkCaller). IfErr answer (Tells k)) c.replace-taken.ensures.value c.replace_with-given.ensures.1.1.1.1.0 in
     told_by answer c.status.result (Tells c.args.caller.now) c.status.ensures.ok c.status.ensures.status told some
