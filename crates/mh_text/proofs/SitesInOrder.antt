@@ -5,18 +5,18 @@ use Rattle.serde_json.specs.View.{view}
 use Rattle.serde_json.specs.declared.value.Value.{Value}
 use Rattle.mh_site.specs.declared.version.Version.{Version}
 use Rattle.mh_text.specs.declared.json.sites.Sited.{Sited}
-use Rattle.mh_site.specs.Definitions.{definition_made}
-use Rattle.mh_site.specs.declared.fault.DefinitionFault.{DefinitionFault}
+use Rattle.mh_site.specs.Places.{placed_made}
+use Rattle.mh_site.specs.declared.place.DefinitionMisfit.{DefinitionMisfit}
 use Rattle.mh_site.specs.declared.point.Point.{Point}
 use Rattle.serde_json.specs.Data.{Data}
 use Rattle.mh_text.specs.declared.json.scope.Scope.{Scope}
 use Rattle.mh_text.specs.declared.key.Field.TheVariants as field
 use Rattle.mh_text.specs.declared.key.Key.TheVariants.{Item}
-use Rattle.mh_text.specs.Gives.{of_definition}
+use Rattle.mh_text.specs.Misfits.{of_misfit}
 use Rattle.mh_text.specs.Shape.{member_of}
 use Rattle.mh_text.specs.Shared.{shared_in}
 use Rattle.mh_text.specs.Versions.{version_of}
-use Rattle.mh_text.specs.Misreads.{MisreadData, here, under}
+use Rattle.mh_text.specs.Misreads.{MisreadData, under}
 use Rattle.mh_text.specs.Script.{all_sites_of, definition_of, one_sited, point_names_of, points_of, site_of, sites_in}
 use Rattle.mh_site.specs.declared.site.Site.{Site}
 
@@ -41,8 +41,8 @@ module _ (version : Version) (sited : Sited) (xs : List Value) (i : ℕ) where
       inr (sym (next_site v total lt is so_far) ∙ here)
 
 -- what the parts of a definition make is refused
-pub declared_fails : (d : Data) (version : Version) (points : List Point) (scope : Scope) (sited : Sited) (cause : DefinitionFault) → member_of field.Version version_of d ≡ Ok version
-    → member_of field.Points points_of d ≡ Ok points → shared_in (point_names_of points) d ≡ Ok scope → sites_in version scope d ≡ Ok sited → definition_made version points sited.sites ≡ Err cause
-    → definition_of d ≡ Err (here (of_definition cause))
+pub declared_fails : (d : Data) (version : Version) (points : List Point) (scope : Scope) (sited : Sited) (misfit : DefinitionMisfit) → member_of field.Version version_of d ≡ Ok version
+    → member_of field.Points points_of d ≡ Ok points → shared_in (point_names_of points) d ≡ Ok scope → sites_in version scope d ≡ Ok sited → placed_made version points sited.sites ≡ Err misfit
+    → definition_of d ≡ Err (of_misfit misfit)
 unfolding definition_of
-declared_fails d version points scope sited cause b p s t made = rw (b, p, s, t, made) refl
+declared_fails d version points scope sited misfit b p s t made = rw (b, p, s, t, made) refl

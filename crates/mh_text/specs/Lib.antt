@@ -6,6 +6,7 @@ pub mod Gives
 pub mod Inputs
 pub mod Keys
 pub mod Lines
+pub mod Misfits
 pub mod MisreadViews
 pub mod Misreads
 pub mod Output

@@ -19,6 +19,7 @@ mod fault;
 mod json;
 mod key;
 mod lines;
+mod misfit;
 mod misread;
 pub mod readers;
 mod streams;

@@ -18,6 +18,7 @@ use crate::json::step::Step;
 use crate::json::versions::read_version;
 use crate::json::wanted::Wanted;
 use crate::key::Field;
+use crate::misfit::misread_of_misfit;
 use crate::misread::Misread;
 use mh_core::Limits;
 use mh_site::{Definition, Listing};
@@ -80,7 +81,8 @@ pub fn read_definition(alloc: Global, value: &Value) -> Result<Declarations, Mis
     let names = point_names(alloc, points.as_slice())?;
     let scope = read_shared_trees(alloc, names, value)?;
     let Sited { scope, sites } = read_site_list(alloc, version, scope, value)?;
-    let definition = Definition::new(alloc, version, points, sites)?;
+    let definition = Definition::placed(alloc, version, points, sites)
+        .map_err(|misfit| misread_of_misfit(alloc, misfit))?;
     Ok(Declarations { definition, scope })
 }
 
