@@ -1,5 +1,9 @@
 mod Beginnings
 mod CommandLines
 mod Ends
+mod FirstFaults
+mod Found
 mod Options
+mod Placed
+mod ProblemTests
 mod Works

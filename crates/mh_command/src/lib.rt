@@ -8,6 +8,7 @@
 
 mod answering;
 mod command_line;
+mod findings;
 mod flags;
 mod line_reasons;
 mod reading;

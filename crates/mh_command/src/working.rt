@@ -1,20 +1,21 @@
 //! Work for what is asked, over an input that is read whole first where the options of reading want
 //! it.
-ghost use Rattle.std.specs.Prelude.{◌≡◌, ◌≢◌, ◌<◌, ◌⊎◌, [], None, Some, false, string_bytes, IfOk, IfErr, IfSome, OnOk};
+ghost use Rattle.std.specs.Prelude.{◌≡◌, ◌≢◌, ◌<◌, ◌≤◌, ◌⊎◌, [], None, Some, false, length, string_bytes, true, IfOk, IfErr, IfSome, OnOk};
 ghost use Rattle.std.specs.Io.KnownBytes.{IsAtEnd};
-ghost use Rattle.mh_text.specs.Bytes.{HasFailed};
+ghost use Rattle.mh_text.specs.Bytes.{most_bytes, HasFailed};
 ghost use Rattle.mh_text.specs.Gives.{no_memory, IsHonest, IsHonestReading, NoOtherFailed};
 ghost use Rattle.mh_text.specs.Output.{outside, IsUnread};
 ghost use Rattle.mh_text.specs.declared.fault.TextFault.TheVariants.{ReadFailed, WriteFailed};
 ghost use Rattle.mh_command.specs.Answers.{fault_at, Works, WorksOn, FailsIn, FailsOn, IsFaultOf, IsHelp};
 ghost use Rattle.mh_command.specs.CommandLine.{HasWorkers};
-ghost use Rattle.mh_command.specs.Readings.{fault_told, form_of, refused_at, unread_fault as fault_unread, unread_in, ExplainsFault, IsExplained};
+ghost use Rattle.mh_command.specs.Readings.{fault_told, form_of, refused_at, unread_in, IsExplained};
 
+use crate::findings::{findings_of, unread_fault};
 use crate::line_reasons::line_reasons;
 use crate::request::{Asked, Request};
 use crate::status::{DONE, status_of_verdict};
 use mh_core::NoMemory;
-use mh_explain::{UnreadKeys, explanation, unread_keys};
+use mh_explain::{InputForm, UnreadKeys, unread_keys};
 use mh_profile::{check_profile, keep_claim, keep_profile, plan_profile};
 use mh_stress::stress_bytes;
 use mh_text::{
@@ -158,89 +159,19 @@ fn refused(alloc: Global, asked: Asked, input: &[u8]) -> Result<Option<u64>, NoM
     Ok(unread(alloc, asked.request, input)?.first)
 }
 
-/// The fault of a key that nothing reads, in the event of this number, or outside the events at 0.
-fn unread_fault(at: u64) -> Fault
-    ensures value { result ≡ fault_unread at }
-{
-    Fault {
-        kind: TextFault::Input(InputFault::BadShape),
-        at,
-    }
-}
-
-/// The lines that explain a fault of an input.
-fn reasons(
-    alloc: Global,
-    request: Request,
-    input: &[u8],
-    fault: InputFault,
-) -> Result<String, NoMemory>
-    ensures explained { IfOk result (λ lines. ExplainsFault request input.now (Some fault)
-        (string_bytes lines)) }
-{
-    match request.form() {
-        Some(form) => explanation(alloc, form, input, fault),
-        None => line_reasons(alloc, request, input, fault),
-    }
-}
-
-/// The same where there may be no fault, which nothing explains.
-fn reasons_where(
-    alloc: Global,
-    request: Request,
-    input: &[u8],
-    fault: Option<InputFault>,
-) -> Result<String, NoMemory>
-    ensures explained { IfOk result (λ lines. ExplainsFault request input.now fault
-        (string_bytes lines)) }
-    ensures silent { IfOk result (λ lines. fault ≡ None → string_bytes lines ≡ []) }
-{
-    match fault {
-        Some(fault) => reasons(alloc, request, input, fault),
-        None => Ok(String::new(alloc)),
-    }
-}
-
-/// The lines of the keys of an input that nothing reads.
-fn notes(alloc: Global, request: Request, input: &[u8]) -> Result<String, NoMemory>
-    ensures silent { IfOk result (λ notes. unread_in (form_of request) input.now ≡ None
-        → string_bytes notes ≡ []) }
-{
-    let unread = unread(alloc, request, input)?;
-    match unread.first {
-        Some(_) => Ok(unread.notes),
-        None => Ok(String::new(alloc)),
-    }
-}
-
-/// The lines that explain a fault of the input, and then those of its keys that nothing reads.
-fn explain(
-    alloc: Global,
-    asked: Asked,
-    input: &[u8],
-    fault: Option<InputFault>,
-) -> Result<String, NoMemory>
-    ensures silent { IfOk result (λ help. fault ≡ None
-        → unread_in (form_of asked.request) input.now ≡ None → string_bytes help ≡ []) }
-    ensures explained { IfOk result (λ help. IsExplained asked.request input.now fault
-        (string_bytes help)) }
-{
-    let mut help = reasons_where(alloc, asked.request, input, fault)?;
-    let notes = notes(alloc, asked.request, input)?;
-    help.push_str(notes.as_str())?;
-    Ok(help)
-}
-
-/// The same, where it is asked for and memory does not run out; else nothing.
+/// The lines that explain a fault of the lines of a profile, where it is asked for and memory does
+/// not run out; else nothing.
 fn help_for(alloc: Global, asked: Asked, input: &[u8], fault: Option<InputFault>) -> String
+    requires formless { asked.reading.explain ≡ true → form_of asked.request ≡ None }
     ensures unexplained { asked.reading.explain ≡ false → string_bytes result ≡ [] }
-    ensures silent { fault ≡ None → unread_in (form_of asked.request) input.now ≡ None
-        → string_bytes result ≡ [] }
+    ensures silent { fault ≡ None → string_bytes result ≡ [] }
     ensures explained { IsExplained asked.request input.now fault (string_bytes result) }
 {
     if asked.reading.explain {
-        if let Ok(help) = explain(alloc, asked, input, fault) {
-            return help;
+        if let Some(fault) = fault {
+            if let Ok(lines) = line_reasons(alloc, asked.request, input, fault) {
+                return lines;
+            }
         }
     }
     String::new(alloc)
@@ -262,7 +193,7 @@ fn fault_of(end: Result<u8, Fault>) -> Option<InputFault>
     }
 }
 
-/// Does what is asked over an input that was read.
+/// Does what is asked over an input that was read, with a fault of the lines of a profile explained.
 fn work_on<T: Threads + Wait + Sync, W: Write>(
     rt: &T,
     alloc: Global,
@@ -270,6 +201,7 @@ fn work_on<T: Threads + Wait + Sync, W: Write>(
     input: &[u8],
     out: &mut Watched<W>,
 ) -> Outcome
+    requires formless { asked.reading.explain ≡ true → form_of asked.request ≡ None }
     requires workers { HasWorkers asked.request }
     ensures works { IfOk result.end (Works asked (Some input.now)
         (W.contents out.old.inner) (W.contents out.new.inner)) }
@@ -290,11 +222,73 @@ fn work_on<T: Threads + Wait + Sync, W: Write>(
                 help: help_for(alloc, asked, input, fault_of(end)),
             }
         }
-        Ok(Some(at)) => Outcome {
-            end: Err(unread_fault(at)),
-            help: help_for(alloc, asked, input, Some(InputFault::BadShape)),
-        },
+        Ok(Some(at)) => Outcome::alone(alloc, Err(unread_fault(at))),
         Err(NoMemory) => Outcome::alone(alloc, Err(Fault::from(InputFault::NoMemory))),
+    }
+}
+
+/// Does what is asked over an input that was read as a form before, unless it has a fault, which is
+/// explained then.
+fn work_explained<T: Threads + Wait + Sync, W: Write>(
+    rt: &T,
+    alloc: Global,
+    asked: Asked,
+    form: InputForm,
+    input: &[u8],
+    out: &mut Watched<W>,
+) -> Outcome
+    requires formed { form_of asked.request ≡ Some form }
+    requires explained { asked.reading.explain ≡ true }
+    requires short { length input.now ≤ most_bytes }
+    requires workers { HasWorkers asked.request }
+    ensures works { IfOk result.end (Works asked (Some input.now)
+        (W.contents out.old.inner) (W.contents out.new.inner)) }
+    ensures small { IfOk result.end (λ status. status < 2) }
+    ensures fails { IfErr result.end (FailsIn asked (Some input.now)
+        (W.contents out.old.inner) (W.contents out.new.inner) ⊥
+        (HasFailed out.old.failures out.new.failures)) }
+    ensures honest { IsHonest result.end 0 0 out.old.failures out.new.failures }
+    ensures others { IfErr result.end (λ e. e.kind ≢ WriteFailed
+        → out.new.failures ≡ out.old.failures) }
+    ensures help { IsHelp asked (Some input.now) result.end (string_bytes result.help) }
+{
+    let findings = findings_of(alloc, asked, form, input);
+    match findings.fault {
+        Some(fault) => Outcome {
+            end: Err(fault),
+            help: findings.help,
+        },
+        None => Outcome {
+            end: work_over(rt, alloc, asked.request, input, out),
+            help: findings.help,
+        },
+    }
+}
+
+/// Does what is asked over an input that was read and is read as a form.
+fn work_read<T: Threads + Wait + Sync, W: Write>(
+    rt: &T,
+    alloc: Global,
+    asked: Asked,
+    input: &[u8],
+    out: &mut Watched<W>,
+) -> Outcome
+    requires short { length input.now ≤ most_bytes }
+    requires workers { HasWorkers asked.request }
+    ensures works { IfOk result.end (Works asked (Some input.now)
+        (W.contents out.old.inner) (W.contents out.new.inner)) }
+    ensures small { IfOk result.end (λ status. status < 2) }
+    ensures fails { IfErr result.end (FailsIn asked (Some input.now)
+        (W.contents out.old.inner) (W.contents out.new.inner) ⊥
+        (HasFailed out.old.failures out.new.failures)) }
+    ensures honest { IsHonest result.end 0 0 out.old.failures out.new.failures }
+    ensures others { IfErr result.end (λ e. e.kind ≢ WriteFailed
+        → out.new.failures ≡ out.old.failures) }
+    ensures help { IsHelp asked (Some input.now) result.end (string_bytes result.help) }
+{
+    match asked.explained_form() {
+        Some(form) => work_explained(rt, alloc, asked, form, input, out),
+        None => work_on(rt, alloc, asked, input, out),
     }
 }
 
@@ -324,7 +318,7 @@ fn work_whole<T: Threads + Wait + Sync, R: Read, W: Write>(
         (string_bytes result.help) }
 {
     match read_input(alloc, reader) {
-        Ok(input) => work_on(rt, alloc, asked, &input, out),
+        Ok(input) => work_read(rt, alloc, asked, &input, out),
         Err(kind) => Outcome::alone(alloc, Err(Fault::from(kind))),
     }
 }

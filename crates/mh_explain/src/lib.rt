@@ -12,6 +12,7 @@
 //! ```
 #![tactic(auto)]
 
+mod faulty;
 mod found;
 mod lines;
 mod near;
@@ -25,8 +26,9 @@ mod values;
 mod why;
 mod words;
 
-pub use lines::{definition_explanation, explanation};
+pub use faulty::{FaultyPart, faulty_part};
+pub use lines::{definition_explanation, explanation, explanation_of_part, explanation_of_text};
 pub use mh_text::{InputFault, InputForm};
 pub use near::nearest;
-pub use unread::{UnreadKeys, unread_keys};
+pub use unread::{UnreadKeys, unread_keys, unread_keys_in};
 pub use words::quoted;
