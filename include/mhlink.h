@@ -142,8 +142,8 @@ uint32_t mhlink_version(void);
 /* What a status means, as `mhlink` words it (docs/FAULTS.md), with `part` behind it where that is not 0; no ending byte. */
 uint32_t mhlink_fault_text(uint32_t status, uint64_t part, uint8_t *buffer, size_t capacity, size_t *length);
 /* Why a text cannot be read as one of enum mhlink_forms: lines of where its first fault is, what stands there, and why it is one, as
-   `mhlink --explain` writes them (docs/FORMATS.md); none where it can be read. For a tree or a plan a host asks of a script, or of a
-   problem with a plan, that has it. */
+   `mhlink --explain` writes them (docs/FORMATS.md); none where it can be read, or has no fault but that it is too long. For a tree or a
+   plan a host asks of a script, or of a problem with a plan, that has it. */
 uint32_t mhlink_explain(uint32_t form, const uint8_t *text, size_t text_length, uint8_t *buffer, size_t capacity, size_t *length);
 
 /* A machine of a definition in JSON (docs/FORMATS.md), with 1 to 64 workers. `part` gets the number of the fault's cause. A text has
