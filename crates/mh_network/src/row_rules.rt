@@ -1,14 +1,17 @@
 //! The rules of a problem's rows and costs, in the order in which they are tested.
 
-ghost use Rattle.std.specs.Prelude.{◌≡◌, ◌+◌, ◌↔◌, ◌≤◌, ◌<◌, ◌^◌, IsTrue, MatchResult, All, length, nat_le, true, false, sum};
+ghost use Rattle.std.specs.Prelude.{◌≡◌, ◌+◌, ◌≤◌, ◌<◌, ◌^◌, ℕ, MatchResult, All, Some, None, length, nat_le, true, false, sum};
 ghost use Rattle.std.specs.List.{sum_by};
 ghost use Rattle.std.specs.List.Sorted.{IsStrictlyIncreasing};
 ghost use Rattle.mh_network.specs.Problems.{kept_gain, limited_tests};
 ghost use Rattle.mh_base.specs.Tests.{Passes, Refuses};
 ghost use Rattle.mh_network.specs.Limits.{greatest_sum};
+ghost use Rattle.mh_network.specs.Places.{misfit, placed_limited, IsFirstNot};
+ghost use Rattle.mh_network.specs.declared.place.ProblemPlace.TheVariants.{Needs};
 
 use crate::fault::ProblemFault;
 use crate::link_row::LinkRow;
+use crate::place::{ProblemMisfit, ProblemPlace};
 use mh_base::{are_below, demand, is_ascending};
 
 /// The most links of a problem that `Problem::new` makes.
@@ -36,40 +39,89 @@ pub(crate) struct Limits {
 }
 
 // All tests, in order.
-#[tactic(auto, using(crate::specs::Laws::Kept::kept_gains, crate::specs::Laws::Kept::kept_costs, crate::specs::Laws::Kept::kept_charges))]
-pub(crate) fn test(rows: &[LinkRow], costs: &[u64], limits: &Limits) -> Result<(), ProblemFault>
+pub(crate) fn test(rows: &[LinkRow], costs: &[u64], limits: &Limits) -> Result<(), ProblemMisfit>
     ensures value { MatchResult result
         (λ _. Passes (limited_tests limits.now.links limits.now.points limits.now.needs
         rows.now costs.now))
-        (λ e. Refuses (limited_tests limits.now.links limits.now.points limits.now.needs
+        (λ e. Refuses (placed_limited limits.now.links limits.now.points limits.now.needs
         rows.now costs.now) e) }
 {
-    demand(rows.len() <= limits.links, ProblemFault::TooManyLinks)?;
-    demand(costs.len() <= limits.points, ProblemFault::TooManyPoints)?;
-    demand(need_few(rows, limits.needs), ProblemFault::TooManyNeeds)?;
-    demand(need_known(rows, costs.len()), ProblemFault::NeedOutOfRange)?;
-    demand(need_in_order(rows), ProblemFault::NeedsNotAscending)?;
-    demand(gains_fit(rows), ProblemFault::GainTooLarge)?;
-    demand(costs_fit(rows, costs), ProblemFault::CostTooLarge)
+    let points = costs.len();
+    demand_at(
+        rows.len() <= limits.links,
+        ProblemFault::TooManyLinks,
+        ProblemPlace::Links,
+    )?;
+    demand_at(
+        points <= limits.points,
+        ProblemFault::TooManyPoints,
+        ProblemPlace::Points,
+    )?;
+    demand_none(
+        with_many_needs(rows, limits.needs),
+        ProblemFault::TooManyNeeds,
+    )?;
+    demand_none(
+        with_unknown_need(rows, points),
+        ProblemFault::NeedOutOfRange,
+    )?;
+    demand_none(out_of_order(rows), ProblemFault::NeedsNotAscending)?;
+    demand_at(
+        gains_fit(rows),
+        ProblemFault::GainTooLarge,
+        ProblemPlace::Links,
+    )?;
+    demand_at(
+        costs_fit(rows, costs),
+        ProblemFault::CostTooLarge,
+        ProblemPlace::Whole,
+    )
 }
 
-fn need_few(rows: &[LinkRow], most: usize) -> bool
-    ensures value { IsTrue result ↔ All (λ r. length r.needs ≤ most) rows.now }
+// A test, and the fault that is told where it fails, with its place.
+fn demand_at(passes: bool, fault: ProblemFault, place: ProblemPlace) -> Result<(), ProblemMisfit>
+    ensures value { MatchResult result (λ _. passes ≡ true)
+        (λ e. (passes ≡ false) × (e ≡ misfit fault place)) }
 {
-    rows.iter().all(|row| row.needs.as_slice().len() <= most)
+    demand(passes, ProblemMisfit { fault, place })
 }
 
-fn need_known(rows: &[LinkRow], points: usize) -> bool
-    ensures value { IsTrue result ↔ All (λ r. All (λ p. p < points) r.needs) rows.now }
+// The fault of the first link that fails a test, where there is one: it is told of its needs.
+fn demand_none(failing: Option<usize>, fault: ProblemFault) -> Result<(), ProblemMisfit>
+    ensures value { MatchResult result (λ _. failing ≡ None)
+        (λ e. (j : ℕ) × (failing ≡ Some j) × (e ≡ misfit fault (Needs j))) }
+{
+    match failing {
+        None => Ok(()),
+        Some(link) => Err(ProblemMisfit {
+            fault,
+            place: ProblemPlace::Needs(link),
+        }),
+    }
+}
+
+// The first link with more needs than these.
+fn with_many_needs(rows: &[LinkRow], most: usize) -> Option<usize>
+    ensures value { IsFirstNot (λ r. length r.needs ≤ most) rows.now result }
 {
     rows.iter()
-        .all(|row| are_below(row.needs.as_slice(), points))
+        .position(|row| row.needs.as_slice().len() > most)
 }
 
-fn need_in_order(rows: &[LinkRow]) -> bool
-    ensures value { IsTrue result ↔ All (λ r. IsStrictlyIncreasing r.needs) rows.now }
+// The first link that needs a point past the last of so many.
+fn with_unknown_need(rows: &[LinkRow], points: usize) -> Option<usize>
+    ensures value { IsFirstNot (λ r. All (λ p. p < points) r.needs) rows.now result }
 {
-    rows.iter().all(|row| is_ascending(row.needs.as_slice()))
+    rows.iter()
+        .position(|row| !are_below(row.needs.as_slice(), points))
+}
+
+// The first link whose needs do not ascend.
+fn out_of_order(rows: &[LinkRow]) -> Option<usize>
+    ensures value { IsFirstNot (λ r. IsStrictlyIncreasing r.needs) rows.now result }
+{
+    rows.iter()
+        .position(|row| !is_ascending(row.needs.as_slice()))
 }
 
 // Whether the gains that count fit. The sum stops at 2^64 - 1, so that nothing wraps.

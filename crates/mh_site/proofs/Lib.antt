@@ -1,8 +1,10 @@
 mod Extended
+mod Found
 mod Lawful
 mod Listed
 mod Mapped
 mod NameLemmas
 mod Naming
+mod Places
 mod Rules
 mod Sorting

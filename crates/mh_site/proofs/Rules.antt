@@ -33,14 +33,14 @@ use Rattle.mh_site.specs.Rules.{HasPlace, point_rules, site_rules, rules_at_poin
 use Rattle.mh_site.proofs.Listed.{Agrees, none_agree, one_agrees, two_agree, each_agree}
 
 -- ---- numbers, names and lists
-at_most : (m n : ℕ) → Decides (leb m n) (m ≤ n)
+pub at_most : (m n : ℕ) → Decides (leb m n) (m ≤ n)
 at_most m n = (leb-true m n, le-leb m n)
 
-named : (b : Bool) → Decides b (b ≡ true)
+pub named : (b : Bool) → Decides b (b ≡ true)
 named b = (λ h. h, λ h. h)
 
 module _ {X : Type 0} (test : X → Bool) (Fact : X → Type 0) where
-  each_decides : ((x : X) → Decides (test x) (Fact x)) → (xs : List X) → Decides (list_all test xs) (All Fact xs)
+  pub each_decides : ((x : X) → Decides (test x) (Fact x)) → (xs : List X) → Decides (list_all test xs) (All Fact xs)
   each_decides each xs = Decides-by_and test Fact (list_all test) each refl (λ y ys. refl) xs
 
   not_or : (a b : Bool) → not (a || b) ≡ (not a && not b)
@@ -84,7 +84,7 @@ fitting (Some q) kinds v =
     (λ p. let e : q ≡ p.place = cc (p.is) in (subst (λ k. k < length kinds) (sym e) p.inside, p.kind ∙ ap (kind_at kinds) (sym e)))
     (Decides-and (nat_lt q (length kinds)) (kind_eq (kind_of v) kind) (Decides-ltb q (length kinds)) (kind_eq_decides (kind_of v) kind))
 
-key_decides : (s : Site) (l : Link) → Decides (fits_place s l) (HasKey s l)
+pub key_decides : (s : Site) (l : Link) → Decides (fits_place s l) (HasKey s l)
 key_decides s l =
     Decides-like (fits_place s l)
     (λ p. record { place = p.place; is = p.is; inside = p.inside; kind = p.kind })
@@ -108,7 +108,7 @@ placing (Some q) kinds links =
     (λ lt. record { inside = λ p is. let e : q ≡ p = cc in omega arith; linked = λ none. cc }) (λ p. p.inside q refl)
     (Decides-ltb q (length kinds))
 
-place_decides : (s : Site) → Decides (has_place s) (HasPlace s)
+pub place_decides : (s : Site) → Decides (has_place s) (HasPlace s)
 place_decides s =
     Decides-like (has_place s) (λ p. record { inside = p.inside; linked = p.linked }) (λ p. record { inside = p.inside; linked = p.linked })
     (placing s.key s.method_type.parameters s.links)
@@ -130,10 +130,14 @@ needs_decide l = pairs_decide (λ p q. p == q) (λ p q. p ≢ q) (λ p q. Decide
 pub keys_decide : (ls : List Link) → Decides (all_differ same_key ls) (AllPairs (λ l k. l.when ≢ k.when) ls)
 keys_decide ls = pairs_decide same_key (λ l k. l.when ≢ k.when) (λ l k. Decides-not (same_key l k) (values_decide l.when k.when)) ls
 
-new_decides : {X : Type 0} (name : X → List ℕ) (n : List ℕ) (xs : List X)
+pub new_decides : {X : Type 0} (name : X → List ℕ) (n : List ℕ) (xs : List X)
     → Decides (not (list_any (λ x. bytes_eq n (name x)) xs)) (All (λ x. n ≢ name x) xs)
 new_decides name n xs =
     none_decides (λ x. bytes_eq n (name x)) (λ x. n ≢ name x) (λ x. Decides-not (bytes_eq n (name x)) (bytes_eq-Decides n (name x))) xs
+
+-- no earlier link has this key
+pub new_key_decides : (l : Link) (earlier : List Link) → Decides (not (list_any (same_key l) earlier)) (All (λ k. l.when ≢ k.when) earlier)
+new_key_decides l earlier = none_decides (same_key l) (λ k. l.when ≢ k.when) (λ k. Decides-not (same_key l k) (values_decide l.when k.when)) earlier
 
 -- the tests of one invocation
 of_type_decides : (sites : List Site) (k : ℕ) (n : Signature) → Decides (is_of_type sites k n) (IsOfType sites k n)
@@ -213,6 +217,3 @@ module _ (version : Version) (ps : List Point) (ss : List Site) where
   -- no fault, but memory is wanting
   pub memory_fails : (told : DefinitionFault) → definition_fault version ps ss ≡ None → told ≡ fault.NoMemory → Refuses (definition_rules version ps ss) told
   memory_fails told none e = agrees.go_on told none e
-
--- what a definition tells of its parts
-pub ruleset told = (rules_hold, rule_fails, memory_fails)

@@ -12,6 +12,7 @@ pub mod Links
 pub mod LookBack
 pub mod Names
 pub mod NamesInOrder
+pub mod Places
 pub mod Rules
 pub mod SiteStates
 pub mod Targets

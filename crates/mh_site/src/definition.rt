@@ -6,6 +6,7 @@ ghost use Rattle.mh_site.specs.Defined.{point_at, site_at, link_of};
 ghost use Rattle.mh_base.specs.Tests.{Passes, Refuses};
 ghost use Rattle.mh_site.specs.Definitions.{definition_made, definition_fault};
 ghost use Rattle.mh_site.specs.Rules.{definition_rules, HasNoCharges};
+ghost use Rattle.mh_site.specs.Places.{out_of_memory, placed_fault, placed_made, placed_rules};
 ghost use Rattle.mh_site.specs.Lawful.{IsDefinition};
 ghost use Rattle.mh_site.specs.Links.{links, link_at, first_link as first_link_of, site_of as site_of_link};
 
@@ -13,6 +14,7 @@ use crate::fault::DefinitionFault;
 use crate::link::Link;
 use crate::numbering::{Numbering, number_links};
 use crate::order::order_sites;
+use crate::place::{DefinitionMisfit, DefinitionPlace, demand_at};
 use crate::point::Point;
 use crate::point_rules::test_points;
 use crate::site::Site;
@@ -70,7 +72,6 @@ impl Definition {
     ///
     /// Refused with the first test that fails, as `DefinitionFault` tells them, and then with
     /// `NoMemory`.
-    #[tactic(auto, using(crate::proofs::Rules::told))]
     pub fn new(
         alloc: Global,
         version: Version,
@@ -83,6 +84,29 @@ impl Definition {
             ⊎ ((definition_fault version points sites ≡ None) × (e ≡ DefinitionFault.NoMemory))) }
         ensures passes { IfOk result (λ _. Passes (definition_rules version points sites)) }
         ensures told { IfErr result (λ e. Refuses (definition_rules version points sites) e) }
+    {
+        Definition::placed(alloc, version, points, sites).map_err(|misfit| misfit.fault)
+    }
+
+    /// The same as `new`, where a fault is told with its place.
+    #[tactic(auto, using(crate::proofs::Places::told))]
+    pub fn placed(
+        alloc: Global,
+        version: Version,
+        points: Listing<Point>,
+        sites: Listing<Site>,
+    ) -> Result<Definition, DefinitionMisfit>
+        requires charges { HasNoCharges version sites }
+        ensures value { IfOk result (λ d. definition_made version points sites ≡ Ok d) }
+        ensures refused { IfErr result (λ m. (definition_made version points sites ≡ Err m.fault)
+            ⊎ ((definition_fault version points sites ≡ None)
+            × (m.fault ≡ DefinitionFault.NoMemory))) }
+        ensures passes { IfOk result (λ _. Passes (definition_rules version points sites)) }
+        ensures told { IfErr result (λ m. Refuses (definition_rules version points sites) m.fault) }
+        ensures made { IfOk result (λ d. placed_made version points sites ≡ Ok d) }
+        ensures misfit { IfErr result (λ m. (placed_made version points sites ≡ Err m)
+            ⊎ ((placed_fault version points sites ≡ None) × (m ≡ out_of_memory))) }
+        ensures placed { IfErr result (λ m. Refuses (placed_rules version points sites) m) }
     {
         test(alloc, version, points.as_slice(), sites.as_slice())?;
         let mut sites = sites.into_vec();
@@ -290,16 +314,21 @@ fn test(
     version: Version,
     points: &[Point],
     sites: &[Site],
-) -> Result<(), DefinitionFault>
-    ensures value { MatchResult result (λ _. definition_fault version points.now sites.now ≡ None)
-        (λ e. definition_fault version points.now sites.now ≡ Some e) }
+) -> Result<(), DefinitionMisfit>
+    ensures value { MatchResult result (λ _. placed_fault version points.now sites.now ≡ None)
+        (λ m. placed_fault version points.now sites.now ≡ Some m) }
 {
-    if points.len() > version.most_points() {
-        return Err(DefinitionFault::TooManyPoints);
-    }
-    if sites.len() > version.most_sites() {
-        return Err(DefinitionFault::TooManySites);
-    }
+    let count = points.len();
+    demand_at(
+        count <= version.most_points(),
+        DefinitionFault::TooManyPoints,
+        DefinitionPlace::Points,
+    )?;
+    demand_at(
+        sites.len() <= version.most_sites(),
+        DefinitionFault::TooManySites,
+        DefinitionPlace::Sites,
+    )?;
     test_points(alloc, points)?;
-    test_sites(alloc, points.len(), sites)
+    test_sites(alloc, count, sites)
 }

@@ -3,10 +3,12 @@
 ghost use Rattle.std.specs.Prelude.{◌≡◌, Some, None, IfSome, MatchResult, map};
 ghost use Rattle.std.specs.List.{list_any};
 ghost use Rattle.mh_base.specs.Listed.{first_failing};
-ghost use Rattle.mh_site.specs.Definitions.{point_tests, tests_of_points, names_point};
+ghost use Rattle.mh_site.specs.Definitions.{names_point};
+ghost use Rattle.mh_site.specs.Places.{placed_point_tests, placed_points};
 
 use crate::fault::DefinitionFault;
 use crate::names::{Names, with_one_more};
+use crate::place::{DefinitionMisfit, PointPart, demand_of_point};
 use crate::point::Point;
 use std::alloc::Global;
 
@@ -14,35 +16,49 @@ use std::alloc::Global;
 pub const GREATEST_COST: u64 = 1 << 40;
 
 // The tests of all points, in order. Names are compared one by one once memory is refused.
-pub(crate) fn test_points(alloc: Global, points: &[Point]) -> Result<(), DefinitionFault>
-    ensures value { MatchResult result (λ _. first_failing (tests_of_points points.now) ≡ None)
-        (λ e. first_failing (tests_of_points points.now) ≡ Some e) }
+pub(crate) fn test_points(alloc: Global, points: &[Point]) -> Result<(), DefinitionMisfit>
+    ensures value { MatchResult result (λ _. first_failing (placed_points points.now) ≡ None)
+        (λ m. first_failing (placed_points points.now) ≡ Some m) }
 {
     let mut seen = Some(Names::new(alloc));
     for (index, point) in points.iter().enumerate() {
-        test_point(seen.as_ref(), &points[..index], point)?;
+        test_point(index, seen.as_ref(), &points[..index], point)?;
         seen = with_one_more(seen, point.name.as_str());
     }
     Ok(())
 }
 
-// The tests of a point behind earlier ones, whose names are in the table where there is one.
-fn test_point(seen: Option<&Names>, earlier: &[Point], point: &Point) -> Result<(), DefinitionFault>
+// The tests of the point with this number behind earlier ones, whose names are in the table where
+// there is one.
+fn test_point(
+    index: usize,
+    seen: Option<&Names>,
+    earlier: &[Point],
+    point: &Point,
+) -> Result<(), DefinitionMisfit>
     requires seen { IfSome seen (λ names. names.now ≡ map (λ p. p.name) earlier.now) }
     ensures value { MatchResult result
-        (λ _. first_failing (point_tests earlier.now point.now) ≡ None)
-        (λ e. first_failing (point_tests earlier.now point.now) ≡ Some e) }
+        (λ _. first_failing (placed_point_tests index earlier.now point.now) ≡ None)
+        (λ m. first_failing (placed_point_tests index earlier.now point.now) ≡ Some m) }
 {
-    if !point.name.is_lawful() {
-        return Err(DefinitionFault::BadName);
-    }
-    if is_seen(seen, earlier, point.name.as_str()) {
-        return Err(DefinitionFault::NameTwice);
-    }
-    if point.cost > GREATEST_COST {
-        return Err(DefinitionFault::CostTooLarge);
-    }
-    Ok(())
+    demand_of_point(
+        point.name.is_lawful(),
+        DefinitionFault::BadName,
+        index,
+        PointPart::Name,
+    )?;
+    demand_of_point(
+        !is_seen(seen, earlier, point.name.as_str()),
+        DefinitionFault::NameTwice,
+        index,
+        PointPart::Whole,
+    )?;
+    demand_of_point(
+        point.cost <= GREATEST_COST,
+        DefinitionFault::CostTooLarge,
+        index,
+        PointPart::Cost,
+    )
 }
 
 // Whether an earlier point has this name, by their table of names where there is one.

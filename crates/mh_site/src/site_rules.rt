@@ -1,19 +1,20 @@
 //! The rules of sites, in the order in which they are tested.
 
-ghost use Rattle.std.specs.Prelude.{◌≡◌, ◌&&◌, ◌==◌, Some, None, IfSome, MatchResult, map, nat_le};
-ghost use Rattle.std.specs.List.{list_any, list_all};
+ghost use Rattle.std.specs.Prelude.{◌≡◌, ◌<◌, ◌==◌, Some, None, IfSome, MatchResult, length, map, take};
+ghost use Rattle.std.specs.List.{list_any};
 ghost use Rattle.mh_base.specs.Listed.{first_failing};
-ghost use Rattle.mh_site.specs.Definitions.{site_tests, tests_of_sites, names_site, all_differ, same_key, needs_few as few, weighs_little as little, costs_little as cheap, needs_known as known, needs_differ as differing, has_place as places, fits_place as fitting};
+ghost use Rattle.mh_site.specs.Definitions.{names_site, all_differ, needs_few as few, weighs_little as little, costs_little as cheap, needs_known as known, needs_differ as differing, has_place as places, fits_place as fitting};
+ghost use Rattle.mh_site.specs.Places.{unfit, key_twice, key_part as part_of_key, placed_sites, placed_site_tests, placed_shape_tests, placed_key_tests, placed_point_name_tests, placed_invoke_tests};
 ghost use Rattle.mh_type.specs.Values.{same_value as values_same};
-ghost use Rattle.mh_tree.specs.Limits.{point_bound};
 ghost use Rattle.mh_type.specs.Signature.{signature_eq};
 
 use crate::fault::DefinitionFault;
 use crate::invoking::{invokes_known, invokes_lower, invokes_of_type};
 use crate::link::Link;
 use crate::names::{Names, with_one_more};
+use crate::place::{DefinitionMisfit, LinkPart, SitePart, demand_of_links, demand_of_site};
 use crate::site::Site;
-use mh_base::{are_below, demand};
+use mh_base::are_below;
 use mh_type::{Value, same_value};
 use std::alloc::Global;
 
@@ -38,59 +39,147 @@ pub(crate) fn test_sites(
     alloc: Global,
     points: usize,
     sites: &[Site],
-) -> Result<(), DefinitionFault>
-    ensures value { MatchResult result (λ _. first_failing (tests_of_sites points sites.now) ≡ None)
-        (λ e. first_failing (tests_of_sites points sites.now) ≡ Some e) }
+) -> Result<(), DefinitionMisfit>
+    ensures value { MatchResult result (λ _. first_failing (placed_sites points sites.now) ≡ None)
+        (λ m. first_failing (placed_sites points sites.now) ≡ Some m) }
 {
     let mut seen = Some(Names::new(alloc));
     for (index, site) in sites.iter().enumerate() {
-        test_site(points, sites, seen.as_ref(), &sites[..index], site)?;
+        test_site(points, sites, seen.as_ref(), index, site)?;
         seen = with_one_more(seen, site.name.as_str());
     }
     Ok(())
 }
 
-// The tests of one of these sites behind earlier ones, whose names are in the table where there is
-// one, in the order of their faults' numbers.
+// The tests of one of these sites, with this number, in the order of their faults' numbers. The
+// names of the sites before it are in the table where there is one.
 fn test_site(
     points: usize,
     sites: &[Site],
     seen: Option<&Names>,
-    earlier: &[Site],
+    index: usize,
     site: &Site,
-) -> Result<(), DefinitionFault>
+) -> Result<(), DefinitionMisfit>
+    requires inside { index < length sites.now }
+    requires seen { IfSome seen (λ names. names.now ≡ map (λ s. s.name) (take index sites.now)) }
+    ensures value { MatchResult result
+        (λ _. first_failing (placed_site_tests points sites.now index (take index sites.now)
+        site.now) ≡ None)
+        (λ m. first_failing (placed_site_tests points sites.now index (take index sites.now)
+        site.now) ≡ Some m) }
+{
+    test_shape(seen, &sites[..index], index, site)?;
+    test_keys(index, site)?;
+    test_point_names(points, index, site)?;
+    test_invocations(sites, index, site)
+}
+
+// The tests of a site's name, and of how much it has.
+fn test_shape(
+    seen: Option<&Names>,
+    earlier: &[Site],
+    index: usize,
+    site: &Site,
+) -> Result<(), DefinitionMisfit>
     requires seen { IfSome seen (λ names. names.now ≡ map (λ s. s.name) earlier.now) }
     ensures value { MatchResult result
-        (λ _. first_failing (site_tests points sites.now earlier.now site.now) ≡ None)
-        (λ e. first_failing (site_tests points sites.now earlier.now site.now) ≡ Some e) }
+        (λ _. first_failing (placed_shape_tests index earlier.now site.now) ≡ None)
+        (λ m. first_failing (placed_shape_tests index earlier.now site.now) ≡ Some m) }
+{
+    let (links, name) = (site.links.as_slice(), &site.name);
+    let new = !is_seen(seen, earlier, name.as_str());
+    let few = links.len() <= MOST_LINKS;
+    let needy = with_many_needs(links);
+    demand_of_site(few, DefinitionFault::TooManyLinks, index, SitePart::Links)?;
+    demand_of_links(needy, DefinitionFault::TooManyNeeds, index, LinkPart::Needs)?;
+    demand_of_site(
+        name.is_lawful(),
+        DefinitionFault::BadName,
+        index,
+        SitePart::Name,
+    )?;
+    demand_of_site(new, DefinitionFault::NameTwice, index, SitePart::Whole)?;
+    let heavy = with_much_weight(links);
+    demand_of_links(
+        heavy,
+        DefinitionFault::WeightTooLarge,
+        index,
+        LinkPart::Weight,
+    )
+}
+
+// The tests of a site's keys.
+fn test_keys(index: usize, site: &Site) -> Result<(), DefinitionMisfit>
+    ensures value { MatchResult result
+        (λ _. first_failing (placed_key_tests index site.now) ≡ None)
+        (λ m. first_failing (placed_key_tests index site.now) ≡ Some m) }
+{
+    let part = key_part(site.key);
+    demand_of_site(has_place(site), DefinitionFault::BadKeyPlace, index, part)?;
+    let other = with_other_kind(site);
+    demand_of_links(other, DefinitionFault::KeyMismatch, index, LinkPart::When)?;
+    let twice = with_key_twice(site.links.as_slice());
+    demand_of_links(twice, DefinitionFault::KeyTwice, index, LinkPart::Whole)
+}
+
+// The tests of the points that a site names, beside so many, and of its target's type.
+fn test_point_names(points: usize, index: usize, site: &Site) -> Result<(), DefinitionMisfit>
+    ensures value { MatchResult result
+        (λ _. first_failing (placed_point_name_tests points index site.now) ≡ None)
+        (λ m. first_failing (placed_point_name_tests points index site.now) ≡ Some m) }
 {
     let links = site.links.as_slice();
-    demand(links.len() <= MOST_LINKS, DefinitionFault::TooManyLinks)?;
-    demand(need_few(links), DefinitionFault::TooManyNeeds)?;
-    demand(site.name.is_lawful(), DefinitionFault::BadName)?;
-    demand(
-        !is_seen(seen, earlier, site.name.as_str()),
-        DefinitionFault::NameTwice,
-    )?;
-    demand(weigh_little(links), DefinitionFault::WeightTooLarge)?;
-    demand(has_place(site), DefinitionFault::BadKeyPlace)?;
-    demand(fit_place(site), DefinitionFault::KeyMismatch)?;
-    demand(keys_differ(links), DefinitionFault::KeyTwice)?;
-    demand(knows_points(site, points), DefinitionFault::NoPoint)?;
-    demand(need_once(links), DefinitionFault::NeedTwice)?;
-    demand(is_typed(site), DefinitionFault::TypeMismatch)?;
-    let target = site.target.handle();
-    demand(site.level <= GREATEST_LEVEL, DefinitionFault::BadLevel)?;
-    demand(invokes_known(sites, target), DefinitionFault::NoSite)?;
-    demand(
-        invokes_of_type(sites, target),
+    let unknown = with_unknown_need(links, points);
+    demand_of_links(unknown, DefinitionFault::NoPoint, index, LinkPart::Needs)?;
+    let known = site.target.handle().point_bound() <= points;
+    demand_of_site(known, DefinitionFault::NoPoint, index, SitePart::Target)?;
+    let twice = with_need_twice(links);
+    demand_of_links(twice, DefinitionFault::NeedTwice, index, LinkPart::Needs)?;
+    demand_of_site(
+        is_typed(site),
+        DefinitionFault::TypeMismatch,
+        index,
+        SitePart::Target,
+    )
+}
+
+// The tests of the sites that a site invokes, among these, and of its charges.
+fn test_invocations(sites: &[Site], index: usize, site: &Site) -> Result<(), DefinitionMisfit>
+    ensures value { MatchResult result
+        (λ _. first_failing (placed_invoke_tests sites.now index site.now) ≡ None)
+        (λ m. first_failing (placed_invoke_tests sites.now index site.now) ≡ Some m) }
+{
+    let (target, level) = (site.target.handle(), site.level);
+    let low = level <= GREATEST_LEVEL;
+    demand_of_site(low, DefinitionFault::BadLevel, index, SitePart::Level)?;
+    let known = invokes_known(sites, target);
+    demand_of_site(known, DefinitionFault::NoSite, index, SitePart::Target)?;
+    let typed = invokes_of_type(sites, target);
+    demand_of_site(
+        typed,
         DefinitionFault::InvokeMismatch,
+        index,
+        SitePart::Target,
     )?;
-    demand(
-        invokes_lower(sites, site.level, target),
-        DefinitionFault::WrongLevel,
-    )?;
-    demand(cost_little(links), DefinitionFault::ChargeTooLarge)
+    let lower = invokes_lower(sites, level, target);
+    demand_of_site(lower, DefinitionFault::WrongLevel, index, SitePart::Target)?;
+    let dear = with_much_charge(site.links.as_slice());
+    demand_of_links(
+        dear,
+        DefinitionFault::ChargeTooLarge,
+        index,
+        LinkPart::Charge,
+    )
+}
+
+// The part that a wrong key place is told of.
+fn key_part(key: Option<usize>) -> SitePart
+    ensures value { result ≡ part_of_key key }
+{
+    match key {
+        None => SitePart::Whole,
+        Some(_) => SitePart::Key,
+    }
 }
 
 // Whether an earlier site has this name, by their table of names where there is one.
@@ -116,22 +205,43 @@ fn is_site_name(sites: &[Site], name: &str) -> bool
     false
 }
 
-fn need_few(links: &[Link]) -> bool
-    ensures value { result ≡ list_all few links.now }
+// The first link with too many needs.
+fn with_many_needs(links: &[Link]) -> Option<usize>
+    ensures value { result ≡ unfit few links.now }
 {
-    links.iter().all(|link| link.needs.len() <= MOST_NEEDS)
+    links.iter().position(|link| !has_few_needs(link))
 }
 
-fn weigh_little(links: &[Link]) -> bool
-    ensures value { result ≡ list_all little links.now }
+fn has_few_needs(link: &Link) -> bool
+    ensures value { result ≡ few link.now }
 {
-    links.iter().all(|link| link.weight <= GREATEST_WEIGHT)
+    link.needs.len() <= MOST_NEEDS
 }
 
-fn cost_little(links: &[Link]) -> bool
-    ensures value { result ≡ list_all cheap links.now }
+// The first link with too large a weight.
+fn with_much_weight(links: &[Link]) -> Option<usize>
+    ensures value { result ≡ unfit little links.now }
 {
-    links.iter().all(|link| link.charge <= GREATEST_CHARGE)
+    links.iter().position(|link| !weighs_little(link))
+}
+
+fn weighs_little(link: &Link) -> bool
+    ensures value { result ≡ little link.now }
+{
+    link.weight <= GREATEST_WEIGHT
+}
+
+// The first link with too large a charge.
+fn with_much_charge(links: &[Link]) -> Option<usize>
+    ensures value { result ≡ unfit cheap links.now }
+{
+    links.iter().position(|link| !costs_little(link))
+}
+
+fn costs_little(link: &Link) -> bool
+    ensures value { result ≡ cheap link.now }
+{
+    link.charge <= GREATEST_CHARGE
 }
 
 // Whether the key place is a parameter. A site without links may have none.
@@ -144,14 +254,12 @@ fn has_place(site: &Site) -> bool
     }
 }
 
-// Whether the keys are of the kind of the parameter at the key place.
-fn fit_place(site: &Site) -> bool
-    ensures value { result ≡ list_all (fitting site.now) site.now.links }
+// The first link whose key is of another kind than the parameter at the key place.
+fn with_other_kind(site: &Site) -> Option<usize>
+    ensures value { result ≡ unfit (fitting site.now) site.now.links }
 {
-    site.links
-        .as_slice()
-        .iter()
-        .all(|link| fits_place(site, link))
+    let links = site.links.as_slice();
+    links.iter().position(|link| !fits_place(site, link))
 }
 
 fn fits_place(site: &Site, link: &Link) -> bool
@@ -165,16 +273,16 @@ fn fits_place(site: &Site, link: &Link) -> bool
     }
 }
 
-// Whether no two links have one key.
-fn keys_differ(links: &[Link]) -> bool
-    ensures value { result ≡ all_differ same_key links.now }
+// The first link whose key an earlier one has.
+fn with_key_twice(links: &[Link]) -> Option<usize>
+    ensures value { result ≡ key_twice links.now }
 {
     for (index, link) in links.iter().enumerate() {
-        if has_key(&links[index + 1..], &link.when) {
-            return false;
+        if has_key(&links[..index], &link.when) {
+            return Some(index);
         }
     }
-    true
+    None
 }
 
 // Whether a link has this key.
@@ -184,18 +292,11 @@ fn has_key(links: &[Link], key: &Value) -> bool
     links.iter().any(|link| same_value(key, &link.when))
 }
 
-// Whether the needs and the target name points below this number alone.
-fn knows_points(site: &Site, points: usize) -> bool
-    ensures value { result ≡ (list_all (known points) site.now.links && nat_le
-        (point_bound site.now.target.tree) points) }
+// The first link that needs a point past the last of so many.
+fn with_unknown_need(links: &[Link], points: usize) -> Option<usize>
+    ensures value { result ≡ unfit (known points) links.now }
 {
-    need_known(site.links.as_slice(), points) && site.target.handle().point_bound() <= points
-}
-
-fn need_known(links: &[Link], points: usize) -> bool
-    ensures value { result ≡ list_all (known points) links.now }
-{
-    links.iter().all(|link| knows_needs(link, points))
+    links.iter().position(|link| !knows_needs(link, points))
 }
 
 fn knows_needs(link: &Link, points: usize) -> bool
@@ -204,11 +305,13 @@ fn knows_needs(link: &Link, points: usize) -> bool
     are_below(link.needs.as_slice(), points)
 }
 
-// Whether no link has a need twice.
-fn need_once(links: &[Link]) -> bool
-    ensures value { result ≡ list_all differing links.now }
+// The first link with a need twice.
+fn with_need_twice(links: &[Link]) -> Option<usize>
+    ensures value { result ≡ unfit differing links.now }
 {
-    links.iter().all(|link| needs_differ(link.needs.as_slice()))
+    links
+        .iter()
+        .position(|link| !needs_differ(link.needs.as_slice()))
 }
 
 fn needs_differ(needs: &[u32]) -> bool
