@@ -23,7 +23,7 @@ use Rattle.mh_core.specs.Limits.{IsLimits, LimitsData, most_events}
 use Rattle.mh_core.specs.Machines.{AreCounted, IsMachine, machine_of}
 use Rattle.mh_core.specs.Pending.{IsNoFlush}
 use Rattle.mh_core.specs.Records.{hits_in}
-use Rattle.mh_core.specs.Rows.{tests}
+use Rattle.mh_core.specs.Rows.{HasRoomForPlan, tests}
 use Rattle.mh_core.specs.Runtimes.{CountsHit, RefusesFlush, RuntimeState, flush_of, opened_runtime, room_tests}
 use Rattle.mh_core.specs.Steps.{IsAccepted, IsRefused}
 use Rattle.mh_core.specs.Runtimes as runtime
@@ -182,6 +182,12 @@ module _ (r : RuntimeState) (h : List Event) (is : IsMachine r h) (m : MachineSt
         ap (λ (y : MachineState). length (records y.setting.definition y.history)) view,
         ap (λ (y : MachineState). length y.history) view,
       )
+
+  -- where the runtime has room for one more published plan, so has the machine
+  pub room_for_plan : HasRoomForPlan r.book.limits (length r.book.records + n) r.book.records → HasRoomForPlan m.setting.limits (length m.history) (records m.setting.definition m.history)
+  room_for_plan room =
+      subst (λ (y : MachineState). HasRoomForPlan y.setting.limits (length y.history) (records y.setting.definition y.history)) view
+      (subst (λ (k : ℕ). HasRoomForPlan r.book.limits k (records r.book.definition h)) calls_beside (subst (HasRoomForPlan r.book.limits (length r.book.records + n)) is.records room))
 
   -- a record that is no flush
   module _ (e : Record) (other : IsNoFlush e) (new : RuntimeState) (ledgers : new.ledgers ≡ r.ledgers) where

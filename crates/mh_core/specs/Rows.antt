@@ -29,6 +29,10 @@ TotalsFit d l r hits = (j : ℕ) → j < length (links d) → total r j + hits_o
 abbrev pub tells_fault : DefinitionData → List Record → ℕ → Plan → Refusal → Type 0
 tells_fault d r n plan told = (fault : CheckFault) × (told ≡ PlanRefused fault) × Refuses (plan_tests (problem_at d r n) plan) fault
 
+-- there is room for one more published plan behind these records, where so many events were accepted
+abbrev pub HasRoomForPlan : LimitsData → ℕ → List Record → Type 0
+HasRoomForPlan l accepted r = (accepted < l.history) × (plans r < most_plans)
+
 -- the tests of a record behind others, in order, where so many events were accepted
 abbrev pub tests : DefinitionData → LimitsData → ℕ → List Record → Record → Tests Refusal
 tests d l accepted r (Flushed w hits) =
@@ -50,7 +54,7 @@ tests d l accepted r (Published n plan) =
     test (IsTaken r n) (only NoSnapshot)
     (take_memory
     (test (Matches (problem_at d r n) plan) (tells_fault d r n plan)
-    (test ((accepted < l.history) × (plans r < most_plans)) (only HistoryFull) memory_last)))
+    (test (HasRoomForPlan l accepted r) (only HistoryFull) memory_last)))
 tests d l accepted r (Installed m) =
     test (IsPublished r m) (only NoPlan)
     (test (m ≡ plans r) (only (OldPlan (plans r)))

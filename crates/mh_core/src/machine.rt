@@ -9,6 +9,7 @@ ghost use Rattle.mh_core.specs.Histories.{event_of, records};
 ghost use Rattle.mh_core.specs.Legal.{MachineState, Step, Run, TakesNoMemory, opened_machine};
 ghost use Rattle.mh_core.specs.Pending.{IsNoFlush};
 ghost use Rattle.mh_core.specs.Problems.{IsTaken, problem_at};
+ghost use Rattle.mh_core.specs.Rows.{HasRoomForPlan};
 
 use crate::arguments::Arguments;
 use crate::book::Book;
@@ -173,6 +174,9 @@ impl Machine {
             self.new) }
         ensures refused { IfErr result (λ told. IsRefused self.old (Publish snapshot plan) told
             self.new) }
+        ensures early { IfErr result (λ told. told ≡ Refusal.NoMemory → HasRoomForPlan
+            self.old.setting.limits (length self.old.history)
+            (records self.old.setting.definition self.old.history)) }
     {
         let calls = self.calls();
         let reply = self.runtime.publish_behind(calls, snapshot, plan)?;

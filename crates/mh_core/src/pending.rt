@@ -1,10 +1,11 @@
 //! Changes that a book makes ready first and takes in later, so that nothing can fail between.
 
-ghost use Rattle.std.specs.Prelude.{◌≡◌, ℕ, true, Some, OnErr, OnOk, IfOk, IfErr};
+ghost use Rattle.std.specs.Prelude.{◌≡◌, ◌+◌, ℕ, true, Some, length, OnErr, OnOk, IfOk, IfErr};
 ghost use Rattle.mh_cert.specs.Plans.{Matches};
 ghost use Rattle.mh_core.specs.Books.{MayTake, Rejects, Takes, reply_to};
 ghost use Rattle.mh_core.specs.Pending.{HasEffect, IsNoFlush, IsReady, SameBook, control_of};
 ghost use Rattle.mh_core.specs.Problems.{IsTaken, problem_at};
+ghost use Rattle.mh_core.specs.Rows.{HasRoomForPlan};
 ghost use Rattle.mh_core.specs.declared.pending.Effect.TheVariants.{World};
 ghost use Rattle.mh_core.specs.declared.record.Record.TheVariants.{Snapped, Published};
 ghost use Rattle.mh_core.specs.declared.reply.Reply.TheVariants.{Done};
@@ -146,6 +147,8 @@ impl Book {
         ensures totals { self.new.totals ≡ self.old.totals }
         ensures refused { IfErr result
             (λ told. Rejects self.old calls (Published snapshot plan) told self.new) }
+        ensures early { IfErr result (λ told. told ≡ Refusal.NoMemory
+            → HasRoomForPlan self.old.limits (length self.old.records + calls) self.old.records) }
     {
         if self.plans_are_full(calls) {
             return Err(Refusal::HistoryFull);

@@ -14,6 +14,7 @@ ghost use Rattle.mh_core.specs.Legal.{answer_of_call, callee_tests};
 ghost use Rattle.mh_core.specs.Pending.{IsNoFlush};
 ghost use Rattle.mh_core.specs.Problems.{IsTaken, problem_at};
 ghost use Rattle.mh_core.specs.Renewals.{AreKnown, MeansTheSame, Renews, renewal_tests};
+ghost use Rattle.mh_core.specs.Rows.{HasRoomForPlan};
 ghost use Rattle.mh_core.specs.Runtimes.{CountsHit, HasRoom, IsRuntime, RefusesFlush, TakesNoMemory, call_tests, flush_of, opened_runtime, room_tests};
 ghost use Rattle.mh_core.specs.declared.record.Record.TheVariants.{Targeted, Invalidated, Snapped, Published, Installed};
 ghost use Rattle.mh_core.specs.declared.reply.Reply.TheVariants.{Called};
@@ -242,6 +243,8 @@ impl Runtime {
         ensures ledgers { self.new.ledgers ≡ self.old.ledgers }
         ensures refused { IfErr result (λ told. Rejects self.old.book calls
             (Published snapshot plan) told self.new.book) }
+        ensures early { IfErr result (λ told. told ≡ Refusal.NoMemory → HasRoomForPlan
+            self.old.book.limits (length self.old.book.records + calls) self.old.book.records) }
     {
         self.book.publish_for(calls, snapshot, plan)
     }

@@ -106,7 +106,7 @@ pub record IsProblem (d : DefinitionData) (l : LimitsData) (n : ℕ) (p : Proble
   pub taken : IsTaken before n
   pub value : p ≡ problem_at d before n
 
--- some legal records that took no snapshot of this number; or that did, and memory was wanting
+-- some legal records that took no snapshot of this number; or that did, and memory ran out
 pub record IsNoProblem (d : DefinitionData) (l : LimitsData) (n : ℕ) (told : Refusal) : Type 0 where
   pub before : List Record
   pub legal : Legal d l before

@@ -74,7 +74,7 @@ pub record Settles (d : DefinitionData) (passes : List PassState) (s : SettledSt
   pub made_is : (j : ℕ) → j < length (links d) → at s.book.totals.total j + at s.unflushed j ≡ made_by passes j
   pub fronts : All (IsWithin s.front) passes
 
--- by these totals not all passes are back; or they are, and memory was wanting
+-- by these totals not all passes are back; or they are, and memory ran out
 abbrev pub IsUnsettledBy : TotalsState → List PassState → SettleFault → Type 0
 IsUnsettledBy t passes MissingPass = AreBack t passes → ⊥
 IsUnsettledBy t passes NoMemory = AreBack t passes

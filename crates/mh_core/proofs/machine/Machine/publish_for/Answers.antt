@@ -9,7 +9,7 @@ use Rattle.mh_core.specs.declared.record.Record.{Record}
 use Rattle.mh_core.specs.declared.record.Record.TheVariants.{Published}
 use Rattle.mh_cert.specs.Plans.{Matches}
 use Rattle.mh_core.proofs.Growing.{fits_in}
-use Rattle.mh_core.proofs.Machines.{calls_beside, machine_accepts, machine_rejects, machine_takes, room_left}
+use Rattle.mh_core.proofs.Machines.{calls_beside, machine_accepts, machine_rejects, machine_takes, room_for_plan, room_left}
 use Rattle.mh_core.proofs.machine.Machine.publish_for.Goals.{After-add_newest}
 use Rattle.mh_core.proofs.machine.Machine.publish_for.Goals as goal
 
@@ -26,6 +26,12 @@ returns-in_err-reply-clause-refused c =
     rw (p.1, p.2)
     (machine_rejects m.runtime m.history c.self.invariant c.args.self.now c.self.view_is c.calls-calls.result c.calls-calls.ensures.count (Published c.args.snapshot c.args.plan) tt c.publish_behind.new.self
     c.in_err-reply.ensures.ledgers _ c.in_err-reply.ensures.refused)
+
+pub returns-in_err-reply-clause-early : goal.returns-in_err-reply-clause-early
+returns-in_err-reply-clause-early c =
+    let m = c.self.inside in
+    let p = err_from_is_err_and c.from_residual.result c.from_residual.ensures.1 in
+    rw (p.1, p.2) (λ memory. room_for_plan m.runtime m.history c.self.invariant c.args.self.now c.self.view_is c.calls-calls.result c.calls-calls.ensures.count (c.in_err-reply.ensures.early memory))
 
 pub add_newest-requires-clause-room : goal.add_newest-requires-clause-room
 add_newest-requires-clause-room c =
