@@ -33,8 +33,8 @@ fn work<N: Name + Send + Sync, T: Threads + Wait + Sync>(
     thread::map_vec(rt, passes, &share)
 }
 
-/// Has the workers make their rounds, and makes the changes meanwhile. Where no thread can be
-/// started, the rounds are made after the changes. None where a growth was refused.
+/// Runs the workers' rounds, and makes the changes meanwhile. Where no thread can be
+/// started, the rounds are made after the changes. None if an allocation is refused.
 pub(crate) fn work_beside<N: Name + Send + Sync, T: Threads + Wait + Sync>(
     rt: &T,
     alloc: Global,

@@ -79,15 +79,15 @@ link_detail b j k link.Need = slice_get (link_at b.definition j).1.needs k
 link_detail b j k link.Eligible = Some (truth (is_eligible b.definition b.records j))
 
 -- whether an installation of a plan does not skip a site
-abbrev pub currency : BookState → ℕ → ℕ → Option ℕ
-currency b m s = if nat_lt s (length b.definition.sites) then Some (truth (is_current b.records m s)) else None
+abbrev pub current_at_site : BookState → ℕ → ℕ → Option ℕ
+current_at_site b m s = if nat_lt s (length b.definition.sites) then Some (truth (is_current b.records m s)) else None
 
 abbrev pub plan_detail : BookState → ℕ → ℕ → PlanDetail → Option ℕ
 plan_detail b m k plan.Links = Some (length (plan_at b.records m).plan.links)
 plan_detail b m k plan.Link = slice_get (plan_at b.records m).plan.links k
 plan_detail b m k plan.Points = Some (length (plan_at b.records m).plan.points)
 plan_detail b m k plan.Point = slice_get (plan_at b.records m).plan.points k
-plan_detail b m k plan.Current = currency b m k
+plan_detail b m k plan.Current = current_at_site b m k
 
 -- a detail of the point, site, link or plan of a number, and where it is one of several, of that at a place
 abbrev pub told : BookState → Detail → ℕ → ℕ → Option ℕ

@@ -4,7 +4,7 @@ ghost use Rattle.std.specs.Prelude.{◌≡◌, ◌<◌, length, option_map};
 ghost use Rattle.std.specs.List.{slice_get};
 ghost use Rattle.mh_core.specs.Installations.{IsPublished, kept};
 ghost use Rattle.mh_core.specs.Links.{links as links_of};
-ghost use Rattle.mhlink_c.specs.Details.{count, currency, kind_number as number_of_kind, link_detail, link_of_site, plan_detail, point_detail, site_detail, told as told_of, truth as number_of_truth};
+ghost use Rattle.mhlink_c.specs.Details.{count, current_at_site, kind_number as number_of_kind, link_detail, link_of_site, plan_detail, point_detail, site_detail, told as told_of, truth as number_of_truth};
 
 use crate::detail::{CountDetail, Detail, LinkDetail, PlanDetail, PointDetail, SiteDetail};
 use mh_core::{Book, Definition, Kind, MethodType};
@@ -124,14 +124,14 @@ fn of_plan(book: &Book, detail: PlanDetail, plan: usize, place: usize) -> Option
         PlanDetail::Link => number_at(published.links.as_slice(), place),
         PlanDetail::Points => Some(published.points.len() as u64),
         PlanDetail::Point => number_at(published.points.as_slice(), place),
-        PlanDetail::Current => currency_at(book, plan, place),
+        PlanDetail::Current => is_current_at(book, plan, place),
     }
 }
 
 // Whether an installation of a plan does not skip a site, as a number.
-fn currency_at(book: &Book, plan: usize, site: usize) -> Option<u64>
+fn is_current_at(book: &Book, plan: usize, site: usize) -> Option<u64>
     requires published { IsPublished book.now.records plan }
-    ensures value { result ≡ currency book.now plan site }
+    ensures value { result ≡ current_at_site book.now plan site }
 {
     if site >= book.definition().sites().len() {
         return None;
