@@ -4,8 +4,9 @@ mod Forms
 mod Loop
 mod PlanData
 mod ProblemInputs
+mod ProblemPlaces
 mod Problems
-mod ProblemTests
+pub mod ProblemTests
 mod Reached
 mod Reports
 mod Runs

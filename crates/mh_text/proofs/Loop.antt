@@ -15,7 +15,7 @@ regroup : {A E : Type 0} (front : List A) (x : A) (read : Result (List A) E) →
 regroup front x (Ok xs) = ap Ok (simp append_assoc)
 regroup front x (Err f) = refl
 
--- the items from place i on, of which the first has the number n
+-- the items from place i on, where the first has the number n
 module _ {A E : Type 0} (f : ℕ → Data → Result A E) (front : List A) (xs : List Value) (i n : ℕ) where
   abbrev rest : List Value → Result (List A) E
   rest ys = with_front front (each_from f n (map view ys))

@@ -1,5 +1,5 @@
 -- What the making of a problem refuses, as a fault of the input.
-use Rattle.std.proofs.Common.{◌≡◌, ◌⊎◌, inl, inr, Ok, Err, ap, refl}
+use Rattle.std.proofs.Common.{◌≡◌, ◌⊎◌, ◌∙◌, List, inl, inr, Ok, Err, ap, sym, refl}
 use Rattle.serde_json.specs.Data.{Data}
 use Rattle.mh_base.specs.Listed.{made_unless}
 use Rattle.mh_network.specs.declared.fault.ProblemFault.{ProblemFault}
@@ -11,9 +11,12 @@ use Rattle.mh_text.specs.declared.fault.InputFault.TheVariants as input
 use Rattle.mh_text.specs.declared.fault.TextFault.TheVariants as text
 use Rattle.mh_text.specs.declared.json.problem.ProblemRows.{ProblemRows}
 use Rattle.mh_text.specs.Gives.{of_problem, no_memory}
-use Rattle.mh_text.specs.Misreads.{here}
+use Rattle.mh_text.specs.Misfits.{keys_in_problem, of_problem_misfit}
+use Rattle.mh_text.specs.Misreads.{MisreadData}
+use Rattle.mh_text.specs.declared.key.Key.{Key}
+use Rattle.mh_network.specs.declared.place.ProblemMisfit.{ProblemMisfit}
 use Rattle.mh_text.specs.Output.{outside}
-use Rattle.mh_text.specs.Problems.{rows_of, problem_made, problem_read, IsMade, IsNotMade}
+use Rattle.mh_text.specs.Problems.{misread_in, place_in, rows_of, problem_made, problem_read, IsMade, IsNotMade}
 use Rattle.mh_text.specs.Versions.{version_tests}
 use Rattle.mh_text.proofs.ProblemTests.{decided}
 
@@ -46,10 +49,14 @@ module _ (d : Data) (rows : ProblemRows) where
       let made : problem_made rows ≡ Ok problem = ap (made_unless problem) ((decided rows).passes is.0) in
       rw (read, made, is.1) refl
 
-  -- and else the first test that fails is told
-  pub problem_is_refused : (cause : ProblemFault) → rows_of d ≡ Ok rows → IsCause rows cause
-      → (of_problem cause ≡ input.NoMemory) ⊎ (problem_read d ≡ Err (here (of_problem cause)))
-  problem_is_refused cause read (inl refuses) =
-      let refused : problem_made rows ≡ Err cause = ap (made_unless problem) ((decided rows).refuses cause refuses) in
-      inr (rw (read, refused) refl)
-  problem_is_refused cause read (inr memory) = inl (ap of_problem memory.1)
+  -- and else the first test that fails is told, where its fault stands
+  pub problem_is_refused : (misfit : ProblemMisfit) (m : MisreadData) → rows_of d ≡ Ok rows → IsCause rows misfit.fault
+      → (misfit.fault ≡ NoMemory) ⊎ (keys_in_problem misfit.place ≡ place_in rows.links rows.costs misfit.fault)
+      → (m.fault ≡ input.NoMemory) ⊎ (m ≡ of_problem_misfit misfit) → (m.fault ≡ input.NoMemory) ⊎ (problem_read d ≡ Err m)
+  problem_is_refused misfit m read cause stands (inl memory) = inl memory
+  problem_is_refused misfit m read (inl refuses) (inl wanting) (inr is) = inl (ap (λ (m : MisreadData). m.fault) is ∙ ap of_problem wanting)
+  problem_is_refused misfit m read (inr memory) stands (inr is) = inl (ap (λ (m : MisreadData). m.fault) is ∙ ap of_problem memory.1)
+  problem_is_refused misfit m read (inl refuses) (inr stands) (inr is) =
+      let refused : problem_made rows ≡ Err misfit.fault = ap (made_unless problem) ((decided rows).refuses misfit.fault refuses) in
+      let told : Err (misread_in rows misfit.fault) ≡ Err m = ap (λ (path : List Key). Err (record { fault = of_problem misfit.fault; path = path })) (sym stands) ∙ ap Err (sym is) in
+      inr ((rw (read, refused) refl) ∙ told)

@@ -1,6 +1,6 @@
 -- Runs, and the bytes that they write.
-use Rattle.std.proofs.Common.{◌≡◌, ℕ, ◌+◌, ◌<◌, List, [], ◌∷◌, ◌++◌, length, take, get_or, Option, Some, None, Result, Ok, Err, Bool, true, false, refl, sym, ap, ◌∙◌, subst, inl, inr, IfErr, OnOk, MatchResult, rules}
-use Rattle.std.proofs.lemmas.List.{append-nil, take_more, flat_map_more}
+use Rattle.std.proofs.Common.{◌≡◌, ℕ, ◌+◌, ◌<◌, List, [], ◌∷◌, ◌++◌, length, take, get_or, Option, Some, None, Result, Ok, Err, Bool, true, false, refl, sym, ap, ◌∙◌, subst, inl, inr, IfErr, OnOk, MatchResult, arith, rules}
+use Rattle.std.proofs.lemmas.List.{append-nil, append_assoc, take_more, flat_map_more}
 use Rattle.std.proofs.Math.Seq.{take-length}
 use Rattle.std.proofs.lemmas.Str.{is_utf8-from_IsUtf8, IsUtf8-from_is_utf8}
 use Rattle.std.proofs.KnownBytes.{Appends-trans}
@@ -19,6 +19,8 @@ use Rattle.mh_text.specs.declared.json.step.Step.{Step}
 use Rattle.mh_text.specs.Bytes.{AppendsFront, HasFailed}
 use Rattle.mh_text.specs.Inputs.{json_in}
 use Rattle.mh_text.specs.Misreads.{here}
+use Rattle.mh_text.specs.Refused.{AreRefused, refusal_in, refused_at, refused_behind}
+use Rattle.mh_text.specs.declared.streams.refused.RefusedEvent.{RefusedEvent}
 use Rattle.mh_text.specs.Steps.{Told, Takes, Run}
 use Rattle.mh_text.specs.declared.streams.run.RunOptions.{RunOptions}
 use Rattle.mh_text.specs.Output.{first, report_where, with_report, AppendsRun, EndsIn, EndsEarly, FailsReport, IsEnd, RunsTo}
@@ -58,6 +60,21 @@ line_written x start a b c replies told same before now =
     let here = subst (λ (y : Setting). Appends b c (line_of y.definition told)) same now in
     subst (Appends a c) (lines_more start.definition replies told) (Appends-trans a b c _ _ before here)
 
+-- the refused events so far, and that of one more reply
+pub refused_more : (n k : ℕ) (replies : List Told) (told : Told) → k ≡ n + length replies + 1
+    → refused_behind n replies ++ refused_at k (refusal_in told.1) ≡ refused_behind n (replies ++ told ∷ [])
+refused_more n k [] told at =
+    ap (λ (i : ℕ). refused_at i (refusal_in told.1)) (omega (arith, at)) ∙ sym (append-nil (refused_at (n + 1) (refusal_in told.1)))
+refused_more n k (first ∷ rest) told at =
+    append_assoc (refused_at (n + 1) (refusal_in first.1)) (refused_behind (n + 1) rest) (refused_at k (refusal_in told.1))
+    ∙ ap (λ (more : List RefusedEvent). refused_at (n + 1) (refusal_in first.1) ++ more) (refused_more (n + 1) k rest told (omega (arith, at)))
+
+-- events that are all of them while none was lost, and none once one was
+pub all_or_none : (has_all : Bool) (replies : List Told) (events : List RefusedEvent) → (has_all ≡ true → events ≡ refused_behind 0 replies) → (has_all ≡ false → events ≡ [])
+    → AreRefused replies events
+all_or_none true replies events all none = inr (all refl)
+all_or_none false replies events all none = inl (none refl)
+
 -- what was written is the line of a reply, where it is the same text
 pub line_with : {X : Type 0} (r : Result X Fault) (old new : Option (List ℕ)) (at : ℕ) (text : List ℕ) (d : DefinitionData) (told : Told) → text ≡ line_of d told
     → MatchResult r (λ _. Appends old new text) (λ f. (f.at ≡ at) × AppendsFront old new text)
@@ -93,17 +110,16 @@ report_behind false x last lines o p q same before report =
 
 -- a script's machine and steps, as they were opened
 module _ (options : RunOptions) (script : Script) (machine : MachineState) (steps : List Step) (opened : machine ≡ first script) (same : steps ≡ script.steps) where
-  runs_script : (last : MachineState) (old new : Option (List ℕ)) → RunsTo machine steps last old new → RunsTo (first script) script.steps last old new
-  runs_script last old new runs =
-      subst (λ (m : MachineState). RunsTo m script.steps last old new) opened (subst (λ (ss : List Step). RunsTo machine ss last old new) same runs)
+  runs_script : (last : MachineState) (refused : List RefusedEvent) (old new : Option (List ℕ)) → RunsTo machine steps last refused old new → RunsTo (first script) script.steps last refused old new
+  runs_script last refused old new runs =
+      subst (λ (m : MachineState). RunsTo m script.steps last refused old new) opened (subst (λ (ss : List Step). RunsTo machine ss last refused old new) same runs)
 
   -- a whole run, with its report
-  pub run_written : {X : Type 0} (r : Result X Fault) (last : MachineState) (o p q : Option (List ℕ)) → RunsTo machine steps last o p → OnOk r (Appends p q (report_where options.report last))
-      → OnOk r (AppendsRun options (first script) script.steps o q)
-  run_written (Err e) last o p q runs report = search rules
-  run_written (Ok x) last o p q runs report =
-      let (replies, run, setting, lines) = runs_script last o p runs in
-      (replies, last.history, run, report_behind options.report (first script).setting last (lines_of script.definition replies) o p q setting lines report)
+  pub run_written : (last : MachineState) (refused : List RefusedEvent) (o p q : Option (List ℕ)) → RunsTo machine steps last refused o p → Appends p q (report_where options.report last)
+      → AppendsRun options (first script) script.steps refused o q
+  run_written last refused o p q runs report =
+      let (replies, run, setting, are, lines) = runs_script last refused o p runs in
+      (replies, last.history, run, are, report_behind options.report (first script).setting last (lines_of script.definition replies) o p q setting lines report)
 
   -- a run that ended in the line of a step ended early
   pub early_in_line : (old new : Option (List ℕ)) (WriteHasFailed : Type 0) (e : Fault) → IsEnd WriteHasFailed e.kind → EndsIn machine steps e old new → EndsEarly options script old new WriteHasFailed e
@@ -111,8 +127,7 @@ module _ (options : RunOptions) (script : Script) (machine : MachineState) (step
       inr (inl (kind, subst (λ (m : MachineState). EndsIn m script.steps e old new) opened (subst (λ (ss : List Step). EndsIn machine ss e old new) same ends)))
 
   -- and so did one that ended in its report
-  pub early_in_report : {X : Type 0} (r : Result X Fault) (last : MachineState) (o p q : Option (List ℕ)) (before between after : ℕ) → between ≡ before → RunsTo machine steps last o p
-      → IfErr r (FailsReport options last p q (HasFailed between after)) → IfErr r (EndsEarly options script o q (HasFailed before after))
-  early_in_report (Ok x) last o p q before between after quiet runs fails = search rules
-  early_in_report (Err e) last o p q before between after quiet runs fails =
-      inr (inr (last, p, runs_script last o p runs, subst (λ (n : ℕ). FailsReport options last p q (HasFailed n after) e) quiet fails))
+  pub early_in_report : (e : Fault) (last : MachineState) (refused : List RefusedEvent) (o p q : Option (List ℕ)) (before between after : ℕ) → between ≡ before → RunsTo machine steps last refused o p
+      → FailsReport options last p q (HasFailed between after) e → EndsEarly options script o q (HasFailed before after) e
+  early_in_report e last refused o p q before between after quiet runs fails =
+      inr (inr (last, refused, p, runs_script last refused o p runs, subst (λ (n : ℕ). FailsReport options last p q (HasFailed n after) e) quiet fails))

@@ -6,6 +6,7 @@ pub mod Gives
 pub mod Inputs
 pub mod Keys
 pub mod Lines
+pub mod Misfits
 pub mod MisreadViews
 pub mod Misreads
 pub mod Output
@@ -13,6 +14,7 @@ pub mod PlanLines
 pub mod Planning
 pub mod Plans
 pub mod Problems
+pub mod Refused
 pub mod Report
 pub mod Script
 pub mod Shape

@@ -13,6 +13,8 @@ use Rattle.mh_text.specs.declared.json.script.Script.{Script}
 use Rattle.mh_text.specs.declared.json.step.Step.{Step}
 use Rattle.mh_text.specs.declared.streams.run.RunOptions.{RunOptions}
 use Rattle.mh_text.specs.Bytes.{AppendsFront}
+use Rattle.mh_text.specs.Refused.{AreRefused}
+use Rattle.mh_text.specs.declared.streams.refused.RefusedEvent.{RefusedEvent}
 use Rattle.mh_text.specs.Steps.{Told, Run}
 use Rattle.mh_text.specs.Gives.{◌>>=◌, no_memory}
 use Rattle.mh_text.specs.Inputs.{json_of_input}
@@ -41,15 +43,17 @@ with_report false lines m = lines
 abbrev pub run_text : RunOptions → Setting → List Told → List Event → List ℕ
 run_text options x replies last = with_report options.report (lines_of x.definition replies) (record { setting = x; history = last })
 
--- the text of a whole run of these steps was appended
-abbrev pub AppendsRun : RunOptions → MachineState → List Step → Option (List ℕ) → Option (List ℕ) → Type 0
-AppendsRun options first steps old new =
-    (replies : List Told) × (last : List Event) × Run first.setting first.history steps replies last × Appends old new (run_text options first.setting replies last)
+-- the text of a whole run of these steps was appended, in which these events were refused
+abbrev pub AppendsRun : RunOptions → MachineState → List Step → List RefusedEvent → Option (List ℕ) → Option (List ℕ) → Type 0
+AppendsRun options first steps refused old new =
+    (replies : List Told) × (last : List Event) × Run first.setting first.history steps replies last
+    × AreRefused replies refused × Appends old new (run_text options first.setting replies last)
 
--- a whole run of these steps ends with this machine, and its lines were appended
-abbrev pub RunsTo : MachineState → List Step → MachineState → Option (List ℕ) → Option (List ℕ) → Type 0
-RunsTo first steps last old new =
-    (replies : List Told) × Run first.setting first.history steps replies last.history × (last.setting ≡ first.setting) × Appends old new (lines_of first.setting.definition replies)
+-- a whole run of these steps ends with this machine, and its lines were appended; these events were refused
+abbrev pub RunsTo : MachineState → List Step → MachineState → List RefusedEvent → Option (List ℕ) → Option (List ℕ) → Type 0
+RunsTo first steps last refused old new =
+    (replies : List Told) × Run first.setting first.history steps replies last.history × (last.setting ≡ first.setting)
+    × AreRefused replies refused × Appends old new (lines_of first.setting.definition replies)
 
 -- memory ends a run in no line of an event that was itself refused for memory: that line takes none
 abbrev pub MayEnd : TextFault → Reply → Type 0
@@ -103,7 +107,8 @@ FailsReport options m old new WriteHasFailed e =
 -- the report behind a whole run of these steps fails, whose lines were appended
 abbrev pub EndsInReport : RunOptions → MachineState → List Step → Option (List ℕ) → Option (List ℕ) → Type 0 → Fault → Type 0
 EndsInReport options first steps old new WriteHasFailed e =
-    (last : MachineState) × (between : Option (List ℕ)) × RunsTo first steps last old between × FailsReport options last between new WriteHasFailed e
+    (last : MachineState) × (refused : List RefusedEvent) × (between : Option (List ℕ)) × RunsTo first steps last refused old between
+    × FailsReport options last between new WriteHasFailed e
 
 -- a fault of a run: memory before its first event, one that ends it in the line of an event, or one that ends it in its report
 abbrev pub EndsEarly : RunOptions → Script → Option (List ℕ) → Option (List ℕ) → Type 0 → Fault → Type 0

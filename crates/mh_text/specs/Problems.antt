@@ -1,6 +1,7 @@
 -- The problem of selection that a JSON value is.
-use Rattle.std.specs.Prelude.{ℕ, ◌+◌, ◌^◌, ◌-◌, ◌≡◌, ◌⊎◌, ◌&&◌, List, [], ◌∷◌, Option, Some, None, Bool, true, Result, Ok, Err, length, nat_le, nat_lt}
+use Rattle.std.specs.Prelude.{ℕ, ◌+◌, ◌^◌, ◌-◌, ◌≡◌, ◌⊎◌, ◌&&◌, List, [], ◌∷◌, Option, Bool, true, Result, Ok, Err, length, nat_le, nat_lt}
 use Rattle.std.specs.List.{list_all}
+use Rattle.std.specs.Option.{unwrap_or}
 use Rattle.serde_json.specs.Data.{Data}
 use Rattle.serde_json.specs.Find.{as_bool}
 use Rattle.mh_network.specs.declared.link_row.LinkRow.{LinkRow}
@@ -14,15 +15,19 @@ use Rattle.mh_text.specs.declared.fault.Fault.{Fault}
 use Rattle.mh_text.specs.declared.fault.InputFault.TheVariants.{BadShape, Problem}
 use Rattle.mh_text.specs.declared.fault.TextFault.TheVariants.{Input}
 use Rattle.mh_text.specs.declared.json.problem.ProblemRows.{ProblemRows}
-use Rattle.mh_text.specs.Gives.{◌>>=◌, or_fault, at_place, caused, no_memory, of_problem}
+use Rattle.mh_text.specs.Gives.{◌>>=◌, or_fault, at_place, no_memory, of_problem}
 use Rattle.mh_text.specs.Inputs.{json_of_input}
 use Rattle.mh_text.specs.Output.{outside}
 use Rattle.mh_site.specs.declared.version.Version.{Version}
+use Rattle.mh_text.specs.Misfits.{fitted}
 use Rattle.mh_text.specs.Misreads.{MisreadData}
 use Rattle.mh_text.specs.Shape.{member_of, member_or, count_of, each_of, counts_of, part_at}
 use Rattle.mh_text.specs.declared.key.Field.TheVariants as field
+use Rattle.mh_text.specs.declared.key.Key.{Key}
+use Rattle.mh_text.specs.declared.key.Key.TheVariants.{Member, Item}
 use Rattle.mh_text.specs.Versions.{charge_of, most_links, version_of, version_tests}
 use Rattle.mh_site.specs.Limits.{most_points}
+use Rattle.mh_site.specs.Places.{unfit}
 
 -- whether something is so
 abbrev pub truth_of : Data → Result Bool MisreadData
@@ -88,7 +93,7 @@ ascend (n ∷ more) = ascend_from n more
 abbrev pub needs_known : ℕ → LinkRow → Bool
 needs_known points r = list_all (λ p. nat_lt p points) r.needs
 
--- the tests of the links and costs of a problem, each decided: those of `version_tests`, in their order (Laws.Problems)
+-- the tests of the links and costs of a problem, each decided: those of `version_tests`, in their order (a lemma of mh_text, `ProblemTests`, shows it)
 abbrev pub decided_tests : ProblemRows → Decided ProblemFault
 decided_tests rows =
     let p : ProblemData = problem_of rows.links rows.costs in
@@ -106,8 +111,26 @@ decided_tests rows =
 abbrev pub problem_made : ProblemRows → Result ProblemData ProblemFault
 problem_made rows = made_unless (problem_of rows.links rows.costs) (first_failing (decided_tests rows))
 
+-- the needs of the first link that fails a test
+abbrev pub needs_of_first : (LinkRow → Bool) → List LinkRow → List Key
+needs_of_first passes links = Member field.Links ∷ Item (unwrap_or (unfit passes links) 0) ∷ Member field.Needs ∷ []
+
+-- the keys that lead to what of links and costs has the fault
+abbrev pub place_in : List LinkRow → List ℕ → ProblemFault → List Key
+place_in links costs TooManyLinks = Member field.Links ∷ []
+place_in links costs TooManyPoints = Member field.Costs ∷ []
+place_in links costs TooManyNeeds = needs_of_first (λ r. nat_le (length r.needs) network.most_needs) links
+place_in links costs NeedOutOfRange = needs_of_first (needs_known (length costs)) links
+place_in links costs NeedsNotAscending = needs_of_first (λ r. ascend r.needs) links
+place_in links costs GainTooLarge = Member field.Links ∷ []
+place_in links costs _ = []
+
+-- what links and costs refuse, as a misread of their JSON
+abbrev pub misread_in : ProblemRows → ProblemFault → MisreadData
+misread_in rows cause = record { fault = of_problem cause; path = place_in rows.links rows.costs cause }
+
 -- a problem: its links and costs are read, and make it
 abbrev pub problem_read : Data → Result ProblemData MisreadData
 problem_read d = do
   rows ← rows_of d
-  caused of_problem (problem_made rows)
+  fitted (misread_in rows) (problem_made rows)

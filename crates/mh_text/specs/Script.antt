@@ -12,7 +12,7 @@ use Rattle.mh_site.specs.declared.link.Link.{Link}
 use Rattle.mh_site.specs.declared.site.Site.{Site}
 use Rattle.mh_site.specs.declared.version.Version.{Version}
 use Rattle.mh_site.specs.Defined.{DefinitionData, site_at}
-use Rattle.mh_site.specs.Definitions.{definition_made}
+use Rattle.mh_site.specs.Places.{placed_made}
 use Rattle.mh_core.specs.declared.event.Event.{Event}
 use Rattle.mh_core.specs.declared.event.Event.TheVariants.{Call, Flush, Target, Invalidate, Snapshot, Publish, Install}
 use Rattle.mh_core.specs.Limits.{LimitsData, most_events, most_held, most_hits}
@@ -25,7 +25,8 @@ use Rattle.mh_text.specs.declared.json.script.Script.{Script}
 use Rattle.mh_text.specs.declared.json.sites.Sited.{Sited}
 use Rattle.mh_text.specs.declared.json.step.Step.{Step}
 use Rattle.mh_text.specs.declared.json.step.Step.TheVariants.{Ask, Plan as ask_plan}
-use Rattle.mh_text.specs.Gives.{◌>>=◌, at_place, caused, of_definition}
+use Rattle.mh_text.specs.Gives.{◌>>=◌, at_place}
+use Rattle.mh_text.specs.Misfits.{fitted, of_misfit}
 use Rattle.mh_text.specs.Keys.{field_name}
 use Rattle.mh_text.specs.Misreads.{MisreadData, here, under}
 use Rattle.mh_text.specs.declared.key.Field.TheVariants as field
@@ -134,7 +135,7 @@ definition_of d = do
   points ← member_of field.Points points_of d
   scope ← shared_in (point_names_of points) d
   sited ← sites_in version scope d
-  definition ← caused of_definition (definition_made version points sited.sites)
+  definition ← fitted of_misfit (placed_made version points sited.sites)
   Ok (record { definition = definition; scope = sited.scope })
 
 -- the most workers that call, or plan

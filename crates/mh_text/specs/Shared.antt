@@ -1,16 +1,15 @@
 -- The shared trees of a definition.
-use Rattle.std.specs.Prelude.{ℕ, ◌+◌, not, ◌&&◌, List, [], ◌∷◌, ◌++◌, Option, Some, None, Result, Ok, Err, codes, if◌then◌else◌}
+use Rattle.std.specs.Prelude.{ℕ, ◌+◌, not, ◌&&◌, List, [], ◌∷◌, ◌++◌, Result, Ok, Err, if◌then◌else◌}
 use Rattle.std.specs.List.{list_any}
 use Rattle.std.specs.Str.{bytes_eq}
 use Rattle.serde_json.specs.Data.{Data}
-use Rattle.serde_json.specs.Find.{get}
 use Rattle.mh_text.specs.declared.fault.InputFault.TheVariants.{BadShape}
 use Rattle.mh_text.specs.declared.json.scope.Scope.{Scope}
 use Rattle.mh_text.specs.declared.json.scope.Shared.{Shared}
 use Rattle.mh_text.specs.Gives.{◌>>=◌}
 use Rattle.mh_text.specs.Misreads.{MisreadData, here, under}
 use Rattle.mh_text.specs.declared.key.Field.TheVariants as field
-use Rattle.mh_text.specs.declared.key.Key.TheVariants.{Member, Item}
+use Rattle.mh_text.specs.declared.key.Key.TheVariants.{Item}
 use Rattle.mh_site.specs.Names.{is_name}
 use Rattle.mh_site.specs.NamesInOrder.{with_name}
 use Rattle.mh_text.specs.Shape.{list_of, text_of, member_or}

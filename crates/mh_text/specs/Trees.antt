@@ -12,8 +12,7 @@ use Rattle.mh_text.specs.declared.fault.InputFault.TheVariants.{BadShape, Unknow
 use Rattle.mh_text.specs.declared.json.scope.Scope.{Scope}
 use Rattle.mh_text.specs.Gives.{◌>>=◌, or_fault, caused, of_tree}
 use Rattle.mh_text.specs.Misreads.{MisreadData, here, under}
-use Rattle.mh_text.specs.declared.key.Field.TheVariants as field
-use Rattle.mh_text.specs.declared.key.Key.TheVariants.{Member, Item}
+use Rattle.mh_text.specs.declared.key.Key.TheVariants.{Item}
 use Rattle.mh_site.specs.NamesInOrder.{place_of}
 use Rattle.mh_text.specs.Shape.{text_of, count_of, counts_of}
 use Rattle.mh_text.specs.Values.{kind_of, kinds_of, type_of, op_of, value_of_kind, values_for}

@@ -15,9 +15,7 @@ use Rattle.mh_type.specs.Operations.{op_named}
 use Rattle.mh_type.specs.Printable.{is_text}
 use Rattle.mh_text.specs.declared.fault.InputFault.TheVariants.{BadShape, BadValue}
 use Rattle.mh_text.specs.Gives.{or_fault, ◌>>=◌, caused, of_type}
-use Rattle.mh_text.specs.Misreads.{MisreadData, here, under}
-use Rattle.mh_text.specs.declared.key.Field.TheVariants as field
-use Rattle.mh_text.specs.declared.key.Key.TheVariants.{Member, Item}
+use Rattle.mh_text.specs.Misreads.{MisreadData, here}
 use Rattle.mh_text.specs.Shape.{list_of, text_of, items_from, each_of}
 
 -- the name of a kind

@@ -1,7 +1,6 @@
 -- Versions of definitions and problems, and the charges that links have in version 2.
-use Rattle.std.specs.Prelude.{ℕ, ◌^◌, ◌-◌, ◌≤◌, Option, Some, None, Result, Ok, Err, codes, length, List, if◌then◌else◌, ◌==◌}
+use Rattle.std.specs.Prelude.{ℕ, ◌^◌, ◌-◌, ◌≤◌, Result, Ok, Err, length, List, if◌then◌else◌, ◌==◌}
 use Rattle.serde_json.specs.Data.{Data}
-use Rattle.serde_json.specs.Find.{get}
 use Rattle.mh_base.specs.Tests.{Tests, test, only}
 use Rattle.mh_network.specs.declared.link_row.LinkRow.{LinkRow}
 use Rattle.mh_network.specs.declared.fault.ProblemFault.{ProblemFault}
@@ -12,9 +11,8 @@ use Rattle.mh_site.specs.declared.version.Version.TheVariants.{One, Two}
 use Rattle.mh_site.specs.Limits.{most_points}
 use Rattle.mh_text.specs.declared.fault.InputFault.TheVariants.{BadShape}
 use Rattle.mh_text.specs.Gives.{◌>>=◌}
-use Rattle.mh_text.specs.Misreads.{MisreadData, here, under}
+use Rattle.mh_text.specs.Misreads.{MisreadData, here}
 use Rattle.mh_text.specs.declared.key.Field.TheVariants as field
-use Rattle.mh_text.specs.declared.key.Key.TheVariants.{Member, Item}
 use Rattle.mh_text.specs.Shape.{member_or, count_of}
 
 -- the version, which is the number 1 or 2

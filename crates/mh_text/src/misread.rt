@@ -10,7 +10,6 @@ use crate::json::wanted::Wanted;
 use crate::key::Key;
 use mh_core::NoMemory;
 use mh_network::ProblemFault;
-use mh_site::DefinitionFault;
 use mh_tree::TreeFault;
 use mh_type::TypeFault;
 use std::alloc::{AllocError, AllocFailed, Global};
@@ -209,18 +208,6 @@ impl From<TypeFault> for Misread {
     ghost from_gives = { λ cause e. e ≡ here (of_type cause) };
 
     fn from(cause: TypeFault) -> Misread {
-        Misread::of(InputFault::from(cause))
-    }
-}
-
-impl From<DefinitionFault> for Misread {
-    ghost use Rattle.std.specs.Prelude.{◌≡◌};
-    ghost use Rattle.mh_text.specs.Gives.{of_definition};
-    ghost use Rattle.mh_text.specs.Misreads.{here};
-
-    ghost from_gives = { λ cause e. e ≡ here (of_definition cause) };
-
-    fn from(cause: DefinitionFault) -> Misread {
         Misread::of(InputFault::from(cause))
     }
 }

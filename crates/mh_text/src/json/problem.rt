@@ -3,7 +3,8 @@ ghost use Rattle.std.specs.Prelude.{◌≡◌, ◌⊎◌, ◌^◌, ◌-◌, opti
 ghost use Rattle.serde_json.specs.View.{view};
 ghost use Rattle.mh_text.specs.Gives.{Gives, IsOfInput, at_place};
 ghost use Rattle.mh_base.specs.Tests.{Passes, Refuses};
-ghost use Rattle.mh_text.specs.Problems.{problem_made, problem_read, row_list_of, row_of, rows_of, rows_at, rows_of_input, truth_of, IsMade, MakesProblem};
+ghost use Rattle.mh_text.specs.Misfits.{keys_in_problem};
+ghost use Rattle.mh_text.specs.Problems.{place_in, problem_made, problem_read, row_list_of, row_of, rows_of, rows_at, rows_of_input, truth_of, IsMade, MakesProblem};
 ghost use Rattle.mh_text.specs.Shape.{count_of, counts_of};
 ghost use Rattle.mh_text.specs.Versions.{version_tests};
 
@@ -13,9 +14,12 @@ use crate::json::shape::{amount, each, member, member_or, number, part_at};
 use crate::json::versions::{most_links, read_charge, read_version};
 use crate::json::wanted::{Numbered, Wanted};
 use crate::key::Field;
+use crate::misfit::misread_of_problem;
 use crate::misread::Misread;
 use mh_base::demand;
-use mh_network::{GREATEST_SUM, LinkRow, Listing, Problem, ProblemFault};
+use mh_network::{
+    GREATEST_SUM, LinkRow, Listing, Problem, ProblemFault, ProblemMisfit, ProblemPlace,
+};
 use mh_site::Version;
 use serde_json::Value;
 use std::alloc::Global;
@@ -126,23 +130,31 @@ fn read_rows_at(alloc: Global, value: &Value, key: Option<&str>) -> Result<Probl
 }
 
 /// The problem of rows that were read: the first fault is too many links or points for their
-/// version, and then what `Problem::new` refuses.
-pub fn make_problem(alloc: Global, rows: &ProblemRows) -> Result<Problem, ProblemFault>
+/// version, and then what `Problem::placed` refuses.
+fn make_problem(alloc: Global, rows: &ProblemRows) -> Result<Problem, ProblemMisfit>
     ensures made { IfOk result (λ p. IsMade rows.now p) }
     ensures refused { let tests = version_tests rows.now.version rows.now.links rows.now.costs in
-        IfErr result (λ cause. Refuses tests cause
-        ⊎ (Passes tests × (cause ≡ ProblemFault.NoMemory))) }
+        IfErr result (λ m. Refuses tests m.fault
+        ⊎ (Passes tests × (m.fault ≡ ProblemFault.NoMemory))) }
+    ensures placed { IfErr result (λ m. (m.fault ≡ ProblemFault.NoMemory)
+        ⊎ (keys_in_problem m.place ≡ place_in rows.now.links rows.now.costs m.fault)) }
 {
     let (links, costs) = (rows.links.as_slice(), rows.costs.as_slice());
     demand(
         links.len() <= most_links(rows.version),
-        ProblemFault::TooManyLinks,
+        ProblemMisfit {
+            fault: ProblemFault::TooManyLinks,
+            place: ProblemPlace::Links,
+        },
     )?;
     demand(
         costs.len() <= rows.version.most_points(),
-        ProblemFault::TooManyPoints,
+        ProblemMisfit {
+            fault: ProblemFault::TooManyPoints,
+            place: ProblemPlace::Points,
+        },
     )?;
-    Problem::new(alloc, links, costs)
+    Problem::placed(alloc, links, costs)
 }
 
 /// A problem: its rows, and then the fault of what they make.
@@ -150,7 +162,10 @@ pub(crate) fn read_problem_value(alloc: Global, value: &Value) -> Result<Problem
     ensures value { Gives (λ x. x) result (problem_read (view value.now)) }
 {
     let rows = read_rows(alloc, value)?;
-    Ok(make_problem(alloc, &rows)?)
+    match make_problem(alloc, &rows) {
+        Ok(problem) => Ok(problem),
+        Err(misfit) => Err(misread_of_problem(alloc, misfit)),
+    }
 }
 
 /// The problem of rows that were read, its fault at 0.
@@ -160,7 +175,7 @@ fn problem_of(alloc: Global, rows: &ProblemRows) -> Result<Problem, Fault>
 {
     match make_problem(alloc, rows) {
         Ok(problem) => Ok(problem),
-        Err(cause) => Err(Fault::from(InputFault::from(cause))),
+        Err(misfit) => Err(Fault::from(InputFault::from(misfit.fault))),
     }
 }
 

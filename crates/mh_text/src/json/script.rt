@@ -2,6 +2,9 @@
 ghost use Rattle.std.specs.Prelude.{◌≡◌, IfErr};
 ghost use Rattle.serde_json.specs.View.{view};
 ghost use Rattle.mh_text.specs.Gives.{Gives, GivesUpTo, IsOfInput};
+ghost use Rattle.mh_site.specs.Rules.{HasNoCharges};
+ghost use Rattle.mh_site.specs.Places.{placed_made};
+ghost use Rattle.mh_text.specs.Misfits.{fitted, of_misfit};
 ghost use Rattle.mh_text.specs.Script.{definition_of, preamble_of, workers_of, step_list_of, script_of, script_read, script_with, IsNextOf, IsReached};
 ghost use Rattle.mh_text.specs.Output.{script_of_input, IsReachedIn};
 
@@ -18,9 +21,10 @@ use crate::json::step::Step;
 use crate::json::versions::read_version;
 use crate::json::wanted::Wanted;
 use crate::key::Field;
+use crate::misfit::misread_of_misfit;
 use crate::misread::Misread;
 use mh_core::Limits;
-use mh_site::{Definition, Listing};
+use mh_site::{Definition, Listing, Point, Site, Version};
 use serde_json::Value;
 use std::alloc::Global;
 
@@ -64,6 +68,22 @@ impl Preamble {
     }
 }
 
+/// The definition of points and sites that were read.
+fn define(
+    alloc: Global,
+    version: Version,
+    points: Listing<Point>,
+    sites: Listing<Site>,
+) -> Result<Definition, Misread>
+    requires charges { HasNoCharges version sites }
+    ensures value { Gives (λ x. x) result (fitted of_misfit (placed_made version points sites)) }
+{
+    match Definition::placed(alloc, version, points, sites) {
+        Ok(definition) => Ok(definition),
+        Err(misfit) => Err(misread_of_misfit(alloc, misfit)),
+    }
+}
+
 /// A definition: its version, points, shared trees and sites, and then the faults of what they
 /// make.
 #[tactic(auto, unfolding(crate::specs::Script::definition_of))]
@@ -80,7 +100,7 @@ pub fn read_definition(alloc: Global, value: &Value) -> Result<Declarations, Mis
     let names = point_names(alloc, points.as_slice())?;
     let scope = read_shared_trees(alloc, names, value)?;
     let Sited { scope, sites } = read_site_list(alloc, version, scope, value)?;
-    let definition = Definition::new(alloc, version, points, sites)?;
+    let definition = define(alloc, version, points, sites)?;
     Ok(Declarations { definition, scope })
 }
 

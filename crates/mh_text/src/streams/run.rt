@@ -1,10 +1,11 @@
 //! Bytes in, lines out.
-ghost use Rattle.std.specs.Prelude.{◌≡◌, ◌≢◌, ◌+◌, ◌↔◌, true, Ok, IfOk, IfErr, IsTrue, OnOk, IfSome, MatchResult};
+ghost use Rattle.std.specs.Prelude.{◌≡◌, ◌≢◌, ◌+◌, ◌↔◌, true, Ok, IfOk, IfErr, IsTrue, OnOk, IfSome, MatchResult, List, Some};
 ghost use Rattle.std.specs.Io.KnownBytes.{Appends, IsAtEnd, Keeps};
 ghost use Rattle.mh_text.specs.declared.json.script.Script.{Script};
 ghost use Rattle.mh_text.specs.Bytes.{AppendsFront, HasFailed, LosesAtMost, most_bytes};
 ghost use Rattle.mh_text.specs.Gives.{IsHonest, IsHonestReading, NoOtherFailed};
 ghost use Rattle.mh_text.specs.Lines.{line_of};
+ghost use Rattle.mh_text.specs.Refused.{refusal_in};
 ghost use Rattle.mh_text.specs.Steps.{Told, Takes};
 ghost use Rattle.mh_text.specs.Output.{script_of_input, first, report_where, AppendsRun, EndsIn, EndsEarly, EndsReading, FailsReport, IsUnread, Failed, IsEnd, MayEnd, RunsTo};
 
@@ -15,6 +16,7 @@ use crate::lines::line;
 use crate::lines::report::report_lines;
 use crate::streams::input::read_input;
 use crate::streams::planning::write_lines;
+use crate::streams::refused::{RefusedEvent, RefusedEvents, refusal_of};
 use crate::streams::stepping::answer;
 use crate::streams::watched::Watched;
 use mh_core::{Machine, Refusal, Reply};
@@ -87,7 +89,7 @@ fn write_line<W: Write>(
     write_text(text.as_str(), at, writer)
 }
 
-/// One step, and its line.
+/// One step, and its line; and why it was refused, where it was.
 fn write_step<T: Threads + Sync, W: Write>(
     rt: &T,
     alloc: Global,
@@ -95,14 +97,15 @@ fn write_step<T: Threads + Sync, W: Write>(
     step: Step,
     at: u64,
     writer: &mut Watched<W>,
-) -> Result<(), Fault>
+) -> Result<Option<Refusal>, Fault>
     ensures step { (told : Told) × Takes machine.old.setting machine.old.history step told
         machine.new.history × MatchResult result
         (λ _. Appends (W.contents writer.old.inner) (W.contents writer.new.inner)
         (line_of machine.old.setting.definition told)) (λ e. (e.at ≡ at)
         × AppendsFront (W.contents writer.old.inner) (W.contents writer.new.inner)
         (line_of machine.old.setting.definition told))
-        × IfErr result (λ e. MayEnd e.kind told.1) }
+        × (IfErr result (λ e. MayEnd e.kind told.1)
+        × IfOk result (λ refusal. refusal ≡ refusal_in told.1)) }
     ensures setting { machine.new.setting ≡ machine.old.setting }
     ensures kind { IfErr result (λ e. IsEnd (HasFailed writer.old.failures writer.new.failures)
         e.kind) }
@@ -113,18 +116,27 @@ fn write_step<T: Threads + Sync, W: Write>(
     let named = step.number();
     let reply = answer(rt, alloc, machine, step);
     let definition = machine.book().definition();
-    write_line(alloc, definition, named, &reply, at, writer)
+    write_line(alloc, definition, named, &reply, at, writer)?;
+    Ok(refusal_of(&reply))
 }
 
-/// Runs the steps, writes the line of each, and gives the machine behind them.
+/// The machine behind a run, and the events of the run that were refused.
+#[derive(Drop)]
+struct Ran {
+    machine: Machine,
+    refused: Vec<RefusedEvent>,
+}
+
+/// Runs the steps, writes the line of each, and gives the machine behind them, and the events that
+/// were refused.
 fn run_steps<T: Threads + Sync, W: Write>(
     rt: &T,
     alloc: Global,
     machine: Machine,
     steps: Vec<Step>,
     writer: &mut Watched<W>,
-) -> Result<Machine, Fault>
-    ensures ok { IfOk result (λ last. RunsTo machine steps.items last
+) -> Result<Ran, Fault>
+    ensures ok { IfOk result (λ ran. RunsTo machine steps.items ran.machine ran.refused.items
         (W.contents writer.old.inner) (W.contents writer.new.inner)) }
     ensures kind { IfErr result (λ e. IsEnd (HasFailed writer.old.failures writer.new.failures)
         e.kind) }
@@ -135,12 +147,17 @@ fn run_steps<T: Threads + Sync, W: Write>(
         (W.contents writer.new.inner)) }
 {
     let mut machine = machine;
+    let mut refused = RefusedEvents::new(alloc);
     let mut at = 0;
     for step in steps {
         at += 1;
-        write_step(rt, alloc, &mut machine, step, at, writer)?;
+        let refusal = write_step(rt, alloc, &mut machine, step, at, writer)?;
+        refused.add(at, refusal);
     }
-    Ok(machine)
+    Ok(Ran {
+        machine,
+        refused: refused.into_events(),
+    })
 }
 
 /// Writes the report of a machine, where it is asked for.
@@ -184,16 +201,17 @@ pub fn read_script_from<R: Read>(alloc: Global, reader: &mut Watched<R>) -> Resu
     read_script(alloc, &input)
 }
 
-/// Runs a script, and writes the line of each reply, and what the options ask for.
+/// Runs a script, writes the line of each reply, and what the options ask for, and gives the events
+/// that were refused.
 fn run_script<T: Threads + Sync, W: Write>(
     rt: &T,
     alloc: Global,
     options: RunOptions,
     script: Script,
     writer: &mut Watched<W>,
-) -> Result<(), Fault>
-    ensures ok { OnOk result (AppendsRun options (first script) script.steps
-        (W.contents writer.old.inner) (W.contents writer.new.inner)) }
+) -> Result<Vec<RefusedEvent>, Fault>
+    ensures ok { IfOk result (λ refused. AppendsRun options (first script) script.steps
+        refused.items (W.contents writer.old.inner) (W.contents writer.new.inner)) }
     ensures kept { OnOk result (writer.new.failures ≡ writer.old.failures) }
     ensures others { IfErr result (λ e. e.kind ≢ TextFault.WriteFailed
         → writer.new.failures ≡ writer.old.failures) }
@@ -207,8 +225,9 @@ fn run_script<T: Threads + Sync, W: Write>(
         steps,
     } = script;
     let machine = Machine::open(alloc, &definition, workers, limits)?;
-    let last = run_steps(rt, alloc, machine, steps.into_vec(), writer)?;
-    write_report(alloc, options, &last, writer)
+    let ran = run_steps(rt, alloc, machine, steps.into_vec(), writer)?;
+    write_report(alloc, options, &ran.machine, writer)?;
+    Ok(ran.refused)
 }
 
 /// Runs the script that the reader gives, and writes the line of each reply; then the report of the
@@ -228,8 +247,8 @@ pub fn run_bytes<T: Threads + Sync, R: Read, W: Write>(
     writer: &mut Watched<W>,
 ) -> Result<(), Fault>
     ensures ok { OnOk result (IfSome (R.remaining reader.old.inner) (λ input. (script : Script)
-        × (script_of_input input ≡ Ok script)
-        × AppendsRun options (first script) script.steps (W.contents writer.old.inner)
+        × (refused : List RefusedEvent) × (script_of_input input ≡ Ok script)
+        × AppendsRun options (first script) script.steps refused (W.contents writer.old.inner)
         (W.contents writer.new.inner))) }
     ensures failed { IfErr result (λ e. Failed options (R.remaining reader.old.inner)
         (W.contents writer.old.inner) (W.contents writer.new.inner)
@@ -244,5 +263,29 @@ pub fn run_bytes<T: Threads + Sync, R: Read, W: Write>(
         (R.remaining reader.new.inner) }
 {
     let script = read_script_from(alloc, reader)?;
+    run_script(rt, alloc, options, script, writer)?;
+    Ok(())
+}
+
+/// Runs the script in an input as `run_bytes` does, and gives the events that were refused, in order;
+/// or none of them, where memory ran out for one.
+pub fn run_input<T: Threads + Sync, W: Write>(
+    rt: &T,
+    alloc: Global,
+    options: RunOptions,
+    input: &[u8],
+    writer: &mut Watched<W>,
+) -> Result<Vec<RefusedEvent>, Fault>
+    ensures ok { IfOk result (λ refused. (script : Script)
+        × (script_of_input input.now ≡ Ok script)
+        × AppendsRun options (first script) script.steps refused.items
+        (W.contents writer.old.inner) (W.contents writer.new.inner)) }
+    ensures failed { IfErr result (Failed options (Some input.now) (W.contents writer.old.inner)
+        (W.contents writer.new.inner) ⊥ (HasFailed writer.old.failures writer.new.failures)) }
+    ensures honest { IsHonest result 0 0 writer.old.failures writer.new.failures }
+    ensures others { IfErr result (λ e. e.kind ≢ TextFault.WriteFailed
+        → writer.new.failures ≡ writer.old.failures) }
+{
+    let script = read_script(alloc, input)?;
     run_script(rt, alloc, options, script, writer)
 }

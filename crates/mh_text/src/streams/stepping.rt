@@ -88,7 +88,7 @@ fn make_plan<T: Threads + Sync>(
 
 /// The best plan of a problem, with the fewest links, made by so many workers, from 1 to 64.
 ///
-/// Refused with `NoMemory` alone, where a growth was refused.
+/// Refused only with `NoMemory`, if an allocation is refused.
 pub fn best_plan<T: Threads + Sync>(
     rt: &T,
     alloc: Global,

@@ -2,7 +2,6 @@ use Rattle.std.proofs.Common.{◌≡◌, ◌∙◌, inl, inr, List, Ok, ap, sym,
 use Rattle.std.proofs.lemmas.Result.{err_from_is_err_and}
 use Rattle.serde_json.specs.View.{view}
 use Rattle.mh_text.specs.declared.key.Field.TheVariants as field
-use Rattle.mh_text.specs.Gives.{of_definition}
 use Rattle.mh_text.specs.Shape.{member_of}
 use Rattle.mh_text.specs.Script.{point_names_of, points_of}
 use Rattle.mh_text.specs.Shared.{shared_in}
@@ -11,8 +10,8 @@ use Rattle.mh_text.proofs.Charges.{no_charges}
 use Rattle.mh_text.proofs.SitesInOrder.{declared_fails}
 use Rattle.mh_text.proofs.json.script.read_definition.Goals as goal
 
-pub new-requires : goal.new-requires
-new-requires c = record {
+pub define-requires : goal.define-requires
+define-requires c = record {
   charges = no_charges c.in_ok-version.version c.in_ok-scope.scope (view c.args.value.now) _ c.in_ok-scope-2.ensures.value;
 }
 
@@ -26,11 +25,11 @@ returns-in_err-definition c =
     let of_version : member_of field.Version version_of definition ≡ Ok version = c.in_ok-version.ensures.value version_of (search of_calls) in
     let of_points : member_of field.Points points_of definition ≡ Ok points = c.in_ok-points.ensures.value points_of (search of_calls) in
     record {
-      value = rw (p.1, p.2) (elim c.in_err-definition.ensures.refused [
-        | inl made ↦
+      value = rw (p.1, p.2) (elim c.in_err-definition.ensures.value [
+        | inl memory ↦ inl memory
+        | inr made ↦
             inr
-            (declared_fails definition version points c.in_ok-scope.scope c.in_ok-scope-2.field-0 c.in_err-definition.field-0.0 of_version of_points
+            (declared_fails definition version points c.in_ok-scope.scope c.in_ok-scope-2.field-0 _ of_version of_points
             (ap (λ (ns : List (List _)). shared_in ns definition) (sym names) ∙ c.in_ok-scope.ensures.value) c.in_ok-scope-2.ensures.value made)
-        | inr wanting ↦ inl (ap of_definition wanting.1)
       ]);
     }
