@@ -1,3 +1,4 @@
 mod Items
 mod Names
+mod RefusedLines
 mod Unreads

@@ -11,6 +11,7 @@ use Rattle.mh_text.specs.declared.fault.InputFault.TheVariants.{NoMemory, TooLon
 use Rattle.mh_text.specs.declared.key.Key.{Key}
 use Rattle.mh_text.specs.declared.json.form.InputForm.{InputForm}
 use Rattle.mh_text.specs.declared.json.form.InputForm.TheVariants as form
+use Rattle.mh_explain.specs.declared.faulty.FaultyPart.{FaultyPart}
 
 -- whether some part of an input, or its text, has a fault
 abbrev pub is_of_part : InputFault → Bool
@@ -22,6 +23,10 @@ is_of_part _ = true
 abbrev pub place_text : List Key → List ℕ
 place_text [] = codes "the input itself"
 place_text (key ∷ rest) = path_text (key ∷ rest)
+
+-- a part with its fault, as what could not be read
+abbrev pub misread_of : FaultyPart → MisreadData
+misread_of part = record { fault = part.fault; path = part.path.items }
 
 -- lines begin with that of a place
 abbrev pub NamesPlace : List Key → List ℕ → Type 0

@@ -1,3 +1,4 @@
 pub mod Explanations
 pub mod Near
+pub mod Refused
 pub mod Unread

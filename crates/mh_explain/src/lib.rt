@@ -12,12 +12,14 @@
 //! ```
 #![tactic(auto)]
 
+mod faulty;
 mod found;
 mod lines;
 mod near;
 mod no_json;
 mod objects;
 mod path;
+mod refused;
 mod scope;
 mod spot;
 mod unread;
@@ -25,8 +27,10 @@ mod values;
 mod why;
 mod words;
 
-pub use lines::{definition_explanation, explanation};
+pub use faulty::{FaultyPart, faulty_part};
+pub use lines::{definition_explanation, explanation, explanation_of_part, explanation_of_text};
 pub use mh_text::{InputFault, InputForm};
 pub use near::nearest;
-pub use unread::{UnreadKeys, unread_keys};
+pub use refused::explanation_of_refused;
+pub use unread::{UnreadKeys, unread_keys, unread_keys_in};
 pub use words::quoted;

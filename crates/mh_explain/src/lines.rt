@@ -1,10 +1,11 @@
 //! Where a fault of an input is, what stands there, and why it is one.
-ghost use Rattle.std.specs.Prelude.{◌≡◌, ◌≢◌, ◌⊎◌, [], string_bytes, IfOk};
+ghost use Rattle.std.specs.Prelude.{◌≡◌, ◌≢◌, ◌⊎◌, [], option_map, string_bytes, IfOk};
 ghost use Rattle.serde_json.specs.View.{view};
 ghost use Rattle.mh_text.specs.declared.fault.InputFault.TheVariants.{NoMemory as out_of_memory};
 ghost use Rattle.mh_text.specs.Forms.{misread_by};
-ghost use Rattle.mh_explain.specs.Explanations.{place_text, script_around as script_with, Explains, ExplainsDefinition, ExplainsMisread, NamesPlace};
+ghost use Rattle.mh_explain.specs.Explanations.{misread_of, place_text, script_around as script_with, Explains, ExplainsDefinition, ExplainsMisread, NamesPlace};
 
+use crate::faulty::{FaultyPart, faulty_part};
 use crate::found::found;
 use crate::no_json::Text;
 use crate::path::Path;
@@ -13,7 +14,7 @@ use crate::values::value_at;
 use crate::why::why;
 use mh_base::NoMemory;
 use mh_text::readers::parse_json;
-use mh_text::{InputFault, InputForm, Key, Misread, Wanted, first_misread};
+use mh_text::{InputFault, InputForm, Key, Misread, Wanted};
 use serde_json::{Value, json};
 use std::alloc::{AllocError, Global};
 
@@ -35,33 +36,50 @@ fn reasons(alloc: Global, fault: InputFault, spot: &Spot<'_>) -> Result<String, 
     Ok(format!(in alloc; "  found: {found}\n  why:   {why}\n")?)
 }
 
-/// The explanation of a fault that a value has when it is read as a form.
-fn of_misread(
+/// The explanation of the fault of a part of a value that is read as a form.
+fn of_part(
     alloc: Global,
     form: InputForm,
     input: &Value,
-    misread: Misread,
+    part: &FaultyPart,
 ) -> Result<String, NoMemory>
-    ensures place { IfOk result (λ lines. NamesPlace misread.path (string_bytes lines)) }
+    ensures place { IfOk result (λ lines. NamesPlace part.now.path.items (string_bytes lines)) }
 {
-    let (fault, wanted) = (misread.fault(), misread.wanted());
-    let path = misread.into_path(alloc);
-    let place = path_text(alloc, &path)?;
-    let reasons = match value_at(input, &path) {
+    let path = part.path.as_slice();
+    let place = path_text(alloc, path)?;
+    let reasons = match value_at(input, path) {
         Some(value) => {
-            let path = &path;
             let spot = Spot {
                 form,
                 input,
                 path,
                 value,
-                wanted,
+                wanted: part.wanted,
             };
-            reasons(alloc, fault, &spot)?
+            reasons(alloc, part.fault, &spot)?
         }
         None => String::new(alloc),
     };
     Ok(format!(in alloc; "  where: {place}\n{reasons}")?)
+}
+
+/// The lines that explain the fault of a part of a value (see `faulty_part`), as `explanation` has
+/// them; none where no part has a fault.
+///
+/// Fails only if memory runs out.
+pub fn explanation_of_part(
+    alloc: Global,
+    form: InputForm,
+    value: &Value,
+    part: &Option<FaultyPart>,
+) -> Result<String, NoMemory>
+    ensures explains { IfOk result (λ lines. ExplainsMisread
+        (option_map misread_of part.now) (string_bytes lines)) }
+{
+    match part {
+        Some(part) => of_part(alloc, form, value, part),
+        None => Ok(String::new(alloc)),
+    }
 }
 
 /// The explanation of the first fault of a value of JSON.
@@ -69,14 +87,18 @@ fn of_value(alloc: Global, form: InputForm, value: &Value) -> Result<String, NoM
     ensures explains { IfOk result (λ lines. ExplainsMisread (misread_by form (view value.now))
         (string_bytes lines)) }
 {
-    match first_misread(alloc, form, value)? {
-        Some(misread) => of_misread(alloc, form, value, misread),
-        None => Ok(String::new(alloc)),
-    }
+    let part = faulty_part(alloc, form, value)?;
+    explanation_of_part(alloc, form, value, &part)
 }
 
-/// The explanation of a text that is no JSON.
-fn of_text(alloc: Global, input: &[u8], misread: Misread) -> Result<String, NoMemory>
+/// The lines that explain why a text is no JSON, which was misread so, as `explanation` has them.
+///
+/// Fails only if memory runs out, now or when it was misread.
+pub fn explanation_of_text(
+    alloc: Global,
+    input: &[u8],
+    misread: Misread,
+) -> Result<String, NoMemory>
     ensures memory { IfOk result (λ _. misread.fault ≢ out_of_memory) }
 {
     match (misread.fault(), misread.wanted()) {
@@ -119,7 +141,7 @@ pub fn explanation(
         InputFault::NoMemory | InputFault::TooLong => Ok(String::new(alloc)),
         _ => match parse_json(alloc, input) {
             Ok(value) => of_value(alloc, form, &value),
-            Err(misread) => of_text(alloc, input, misread),
+            Err(misread) => explanation_of_text(alloc, input, misread),
         },
     }
 }
@@ -143,6 +165,6 @@ pub fn definition_explanation(alloc: Global, input: &[u8]) -> Result<String, NoM
             let script = script_around(alloc, definition)?;
             of_value(alloc, InputForm::Script, &script)
         }
-        Err(misread) => of_text(alloc, input, misread),
+        Err(misread) => explanation_of_text(alloc, input, misread),
     }
 }

@@ -1,6 +1,6 @@
 //! A part of an input that could not be read.
 use crate::objects::{Object, object_at};
-use mh_text::{InputForm, Key, Wanted};
+use mh_text::{Field, InputForm, Key, Wanted};
 use serde_json::Value;
 
 /// A part of an input that could not be read, and what was wanted there.
@@ -14,9 +14,18 @@ pub(crate) struct Spot<'a> {
     pub(crate) wanted: Wanted,
 }
 
-impl Spot<'_> {
+impl<'a> Spot<'a> {
     /// The object that is read there, if one is.
     pub(crate) fn object(&self) -> Option<Object> {
         object_at(self.form, self.path)
+    }
+
+    /// The problem that the input has, if it is no script.
+    pub(crate) fn problem(&self) -> Option<&'a Value> {
+        match self.form {
+            InputForm::Script => None,
+            InputForm::Problem => Some(self.input),
+            InputForm::Claim => self.input.get(Field::Problem.name()),
+        }
     }
 }

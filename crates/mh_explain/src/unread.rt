@@ -389,8 +389,10 @@ impl UnreadKeys {
     }
 }
 
-/// The keys of a value of JSON that nothing reads.
-fn unread_in(alloc: Global, form: InputForm, value: &Value) -> Result<UnreadKeys, NoMemory>
+/// The keys of a value of JSON that nothing reads, as `unread_keys` has them.
+///
+/// Fails only if memory runs out.
+pub fn unread_keys_in(alloc: Global, form: InputForm, value: &Value) -> Result<UnreadKeys, NoMemory>
     ensures first { IfOk result (λ unread. unread.first ≡ first_unread_in form (view value.now)) }
 {
     let version = version_of_input(form, value)?;
@@ -408,7 +410,7 @@ pub fn unread_keys(alloc: Global, form: InputForm, input: &[u8]) -> Result<Unrea
     ensures first { IfOk result (λ unread. unread.first ≡ first_unread form input.now) }
 {
     match read_json(alloc, input) {
-        Ok(value) => unread_in(alloc, form, &value),
+        Ok(value) => unread_keys_in(alloc, form, &value),
         Err(fault) => {
             if fault.kind == TextFault::Input(InputFault::NoMemory) {
                 return Err(NoMemory);

@@ -1,5 +1,6 @@
 //! Why a part of an input has a fault, in a sentence.
 mod definitions;
+mod events;
 mod forms;
 mod missing;
 mod names;
@@ -10,6 +11,7 @@ mod trees;
 mod types;
 
 use crate::spot::Spot;
+pub(crate) use events::reasons_of_event;
 use mh_base::NoMemory;
 use mh_text::InputFault;
 use std::alloc::Global;
@@ -21,8 +23,8 @@ pub(crate) fn why(alloc: Global, fault: InputFault, spot: &Spot<'_>) -> Result<S
         InputFault::UnknownShared => names::why_unknown_shared(alloc, spot.input, spot.value),
         InputFault::UnknownSite => names::why_unknown_site(alloc, spot.input, spot.value),
         InputFault::Tree(cause) => trees::why_refused(alloc, cause, spot),
-        InputFault::Definition(cause) => definitions::why_definition(alloc, cause, spot.value),
-        InputFault::Problem(cause) => problems::why_none(alloc, cause, spot.value),
+        InputFault::Definition(cause) => definitions::why_definition(alloc, cause, spot),
+        InputFault::Problem(cause) => problems::why_none(alloc, cause, spot),
         InputFault::BadType(_) => types::why_none(alloc, spot.value),
         InputFault::NoMemory
         | InputFault::TooLong

@@ -1,404 +1,410 @@
 //! Definitions that are not lawful.
-use crate::scope::sites_before;
-use crate::values::{items_at, known, named_behind, version_of};
-use crate::why::names::{is_lawful, why_unlawful};
+use crate::scope::scope_at;
+use crate::spot::Spot;
+use crate::values::{items, items_at, known, named_behind, version_of};
+use crate::why::names::{is_among, names_in, why_unlawful};
 use crate::words::{meant, quoted, why_too_many};
 use mh_base::NoMemory;
 use mh_site::{
-    DefinitionFault, GREATEST_CHARGE, GREATEST_COST, GREATEST_LEVEL, GREATEST_WEIGHT, Link,
-    MOST_LINKS, MOST_NEEDS, Point, Site, Version,
+    DefinitionFault, GREATEST_CHARGE, GREATEST_COST, GREATEST_LEVEL, GREATEST_WEIGHT, MOST_LINKS,
+    MOST_NEEDS, Version,
 };
-use mh_text::Field;
-use mh_text::readers::read_points;
-use mh_type::same_value;
+use mh_text::readers::{place, read_declared, read_type, read_value};
+use mh_text::{Field, Key, Wanted};
+use mh_type::{Kind, MethodType, same_value};
 use serde_json::Value;
 use std::alloc::Global;
 
-/// Why a definition is not lawful. The first point or site that has the cause is told: those before
-/// it pass each test.
+/// Why a definition is not lawful: what is said of the part that has the cause.
 pub(crate) fn why_definition(
     alloc: Global,
     cause: DefinitionFault,
-    definition: &Value,
+    spot: &Spot<'_>,
 ) -> Result<String, NoMemory> {
-    let Some(points) = definition.get(Field::Points.name()) else {
+    let Some(definition) = spot.input.get(Field::Definition.name()) else {
         return Ok(String::new(alloc));
     };
-    let Some(points) = known(read_points(alloc, points))? else {
-        return Ok(String::new(alloc));
-    };
-    let points = points.as_slice();
-    match cause {
-        DefinitionFault::TooManyPoints => why_many_points(alloc, points.len(), definition),
-        DefinitionFault::CostTooLarge => why_costly(alloc, points),
-        DefinitionFault::BadName => why_bad_name(alloc, points, definition),
-        DefinitionFault::NameTwice => why_name_twice(alloc, definition),
-        _ => why_unlawful_site(alloc, cause, points, definition),
-    }
-}
-
-fn why_many_points(alloc: Global, points: usize, definition: &Value) -> Result<String, NoMemory> {
-    let most = version_of(Some(definition))?.most_points();
-    why_too_many(alloc, "points", points, most, Version::Two.most_points())
-}
-
-fn why_costly(alloc: Global, points: &[Point]) -> Result<String, NoMemory> {
-    for point in points {
-        if point.cost > GREATEST_COST {
-            let name = quoted(alloc, point.name.as_str())?;
-            let cost = point.cost;
-            return Ok(format!(in alloc; "the point {name} costs {cost}, past {GREATEST_COST}")?);
+    match spot.path {
+        [_, Key::Member(Field::Sites), Key::Item(number), ..] => {
+            let site = Site {
+                definition,
+                number: *number,
+            };
+            site.why(alloc, cause, spot)
         }
+        [_, Key::Member(Field::Points), Key::Item(number), ..] => {
+            why_point(alloc, cause, definition, *number, spot.value)
+        }
+        [_, Key::Member(list)] => why_long(alloc, *list, definition, items(spot.value).len()),
+        _ => Ok(String::new(alloc)),
     }
-    Ok(String::new(alloc))
+}
+
+/// That there are too many points or sites.
+fn why_long(
+    alloc: Global,
+    list: Field,
+    definition: &Value,
+    found: usize,
+) -> Result<String, NoMemory> {
+    let version = version_of(Some(definition))?;
+    let (what, most, later) = match list {
+        Field::Points => ("points", version.most_points(), Version::Two.most_points()),
+        _ => ("sites", version.most_sites(), Version::Two.most_sites()),
+    };
+    why_too_many(alloc, what, found, most, later)
 }
 
 /// The name that an item of a list has.
-fn name_of(item: &Value) -> Option<&str> {
-    item.get(Field::Name.name()).and_then(Value::as_str)
+fn name_of(item: &Value) -> &str {
+    item.get(Field::Name.name())
+        .and_then(Value::as_str)
+        .unwrap_or("")
 }
 
-/// Why the first name that is not lawful is not.
-fn why_bad_name(alloc: Global, points: &[Point], definition: &Value) -> Result<String, NoMemory> {
-    for point in points {
-        if !point.name.is_lawful() {
-            let why = why_unlawful(alloc, point.name.as_str())?;
-            return Ok(format!(in alloc; "a point: {why}")?);
-        }
-    }
-    for site in items_at(definition, Field::Sites) {
-        if let Some(name) = name_of(site) {
-            if !is_lawful(name) {
-                let why = why_unlawful(alloc, name)?;
-                return Ok(format!(in alloc; "a site: {why}")?);
-            }
-        }
-    }
-    Ok(String::new(alloc))
+/// That an item of a list has the name of an earlier one: both numbers.
+fn why_name_twice(
+    alloc: Global,
+    list: Field,
+    items: &[Value],
+    item: usize,
+) -> Result<String, NoMemory> {
+    let name = items.get(item).map(name_of);
+    let one = items.iter().position(|other| Some(name_of(other)) == name);
+    let (list, one) = (list.name(), one.unwrap_or(item));
+    Ok(format!(in alloc; "{list}[{one}] and {list}[{item}] have one name")?)
 }
 
-/// The first item of a list that has the name of an earlier one: both numbers.
-fn twice(items: &[Value]) -> Option<(usize, usize)> {
-    for (i, item) in items.iter().enumerate() {
-        if let Some(name) = name_of(item) {
-            if let Some(earlier) = first_named(&items[..i], name) {
-                return Some((earlier, i));
-            }
-        }
-    }
-    None
-}
-
-/// The number of the first item with a name.
-fn first_named(items: &[Value], name: &str) -> Option<usize> {
-    for (i, item) in items.iter().enumerate() {
-        if name_of(item) == Some(name) {
-            return Some(i);
-        }
-    }
-    None
-}
-
-fn why_name_twice(alloc: Global, definition: &Value) -> Result<String, NoMemory> {
-    if let Some((one, other)) = twice(items_at(definition, Field::Points)) {
-        return Ok(format!(in alloc; "points[{one}] and points[{other}] have one name")?);
-    }
-    match twice(items_at(definition, Field::Sites)) {
-        Some((one, other)) => {
-            Ok(format!(in alloc; "sites[{one}] and sites[{other}] have one name")?)
-        }
-        None => Ok(String::new(alloc)),
-    }
-}
-
-/// Why the first site that has this cause is not lawful.
-fn why_unlawful_site(
+/// Why a point is not lawful, of which this part is not.
+fn why_point(
     alloc: Global,
     cause: DefinitionFault,
-    points: &[Point],
     definition: &Value,
+    number: usize,
+    part: &Value,
 ) -> Result<String, NoMemory> {
-    let Some(sited) = sites_before(alloc, definition, usize::MAX)? else {
-        return Ok(String::new(alloc));
-    };
-    let sites = sited.sites.as_slice();
-    if cause == DefinitionFault::TooManySites {
-        return why_many_sites(alloc, sites.len(), definition);
+    let points = items_at(definition, Field::Points);
+    match cause {
+        DefinitionFault::NameTwice => why_name_twice(alloc, Field::Points, points, number),
+        DefinitionFault::BadName => {
+            let why = why_unlawful(alloc, part.as_str().unwrap_or(""))?;
+            Ok(format!(in alloc; "a point: {why}")?)
+        }
+        DefinitionFault::CostTooLarge => {
+            let name = quoted(alloc, points.get(number).map_or("", name_of))?;
+            let cost = number_of(part);
+            Ok(format!(in alloc; "the point {name} costs {cost}, past {GREATEST_COST}")?)
+        }
+        _ => Ok(String::new(alloc)),
     }
-    why_first_site(
-        alloc,
-        cause,
-        points,
-        sites,
-        items_at(definition, Field::Sites),
-    )
 }
 
-fn why_many_sites(alloc: Global, sites: usize, definition: &Value) -> Result<String, NoMemory> {
-    let most = version_of(Some(definition))?.most_sites();
-    why_too_many(alloc, "sites", sites, most, Version::Two.most_sites())
+fn number_of(value: &Value) -> u64 {
+    value.as_u64().unwrap_or(0)
 }
 
-/// Why the first of these sites that has a cause is not lawful: each beside its value.
-fn why_first_site(
-    alloc: Global,
-    cause: DefinitionFault,
-    points: &[Point],
-    sites: &[Site],
-    values: &[Value],
-) -> Result<String, NoMemory> {
-    for (i, site) in sites.iter().enumerate() {
-        if let Some(value) = values.get(i) {
-            if let Some(why) = why_site(alloc, cause, points, sites, site, value)? {
-                return why_named(alloc, site, why.as_str());
+/// A site of a definition.
+#[derive(Clone, Copy)]
+pub(crate) struct Site<'a> {
+    definition: &'a Value,
+    number: usize,
+}
+
+impl<'a> Site<'a> {
+    /// The first site with a name.
+    pub(crate) fn named(definition: &'a Value, name: &str) -> Option<Site<'a>> {
+        let sites = items_at(definition, Field::Sites);
+        let number = sites.iter().position(|site| name_of(site) == name)?;
+        Some(Site { definition, number })
+    }
+
+    /// Why it is not lawful.
+    fn why(
+        &self,
+        alloc: Global,
+        cause: DefinitionFault,
+        spot: &Spot<'_>,
+    ) -> Result<String, NoMemory> {
+        match cause {
+            DefinitionFault::NameTwice => {
+                why_name_twice(alloc, Field::Sites, self.sites(), self.number)
             }
+            DefinitionFault::BadName => {
+                let why = why_unlawful(alloc, spot.value.as_str().unwrap_or(""))?;
+                Ok(format!(in alloc; "a site: {why}")?)
+            }
+            _ => match self.why_part(alloc, cause, spot)? {
+                Some(why) => {
+                    let name = quoted(alloc, self.value().map_or("", name_of))?;
+                    Ok(format!(in alloc; "the site {name} {why}")?)
+                }
+                None => Ok(String::new(alloc)),
+            },
         }
     }
-    Ok(String::new(alloc))
-}
 
-/// A sentence that speaks of a site.
-fn why_named(alloc: Global, site: &Site, why: &str) -> Result<String, NoMemory> {
-    let name = quoted(alloc, site.name.as_str())?;
-    Ok(format!(in alloc; "the site {name} {why}")?)
-}
-
-/// Why a site has this cause, where it has.
-fn why_site(
-    alloc: Global,
-    cause: DefinitionFault,
-    points: &[Point],
-    sites: &[Site],
-    site: &Site,
-    value: &Value,
-) -> Result<Option<String>, NoMemory> {
-    match cause {
-        DefinitionFault::TooManyLinks => why_many_links(alloc, site.links.len()),
-        DefinitionFault::BadKeyPlace => why_bad_place(alloc, site),
-        DefinitionFault::KeyMismatch => why_other_kind(alloc, site),
-        DefinitionFault::KeyTwice => why_key_twice(alloc, site.links.as_slice()),
-        DefinitionFault::NoPoint => why_no_point(alloc, points, value),
-        DefinitionFault::TypeMismatch => why_other_type(alloc, site),
-        DefinitionFault::BadLevel => why_high(alloc, site.level),
-        DefinitionFault::WrongLevel => why_not_lower(alloc, sites, site, value),
-        _ => why_links(alloc, cause, points, site.links.as_slice()),
+    fn sites(&self) -> &'a [Value] {
+        items_at(self.definition, Field::Sites)
     }
-}
 
-fn why_many_links(alloc: Global, links: usize) -> Result<Option<String>, NoMemory> {
-    if links <= MOST_LINKS {
-        return Ok(None);
+    fn value(&self) -> Option<&'a Value> {
+        self.sites().get(self.number)
     }
-    Ok(Some(format!(in alloc; "has {links} links, and at most {MOST_LINKS} may be")?))
-}
 
-fn why_bad_place(alloc: Global, site: &Site) -> Result<Option<String>, NoMemory> {
-    let method_type = &site.method_type;
-    match site.key {
-        Some(place) if place >= method_type.count() => Ok(Some(format!(in alloc;
-            "has the key place {place}, past the parameters of {method_type}"
-        )?)),
-        None if site.links.len() > 0 => Ok(Some(String::from_str(
-            alloc,
-            "has links, and no \"key\", the place of the parameter that tells them apart",
-        )?)),
-        _ => Ok(None),
+    /// What the site has at a key.
+    fn part(&self, field: Field) -> Option<&'a Value> {
+        self.value()?.get(field.name())
     }
-}
 
-fn why_other_kind(alloc: Global, site: &Site) -> Result<Option<String>, NoMemory> {
-    let method_type = &site.method_type;
-    let Some(place) = site.key else {
-        return Ok(None);
-    };
-    let Some(wanted) = method_type.parameters().get(place) else {
-        return Ok(None);
-    };
-    for (i, link) in site.links.as_slice().iter().enumerate() {
-        let kind = link.when.kind();
-        if kind != *wanted {
-            return Ok(Some(format!(in alloc;
-                "has a key of kind {kind} in links[{i}], and parameter {place} of {method_type} is {wanted}"
+    fn level(&self) -> u64 {
+        self.part(Field::Level).map_or(0, number_of)
+    }
+
+    /// Its type, where that can be read.
+    pub(crate) fn method_type(&self) -> Result<Option<MethodType>, NoMemory> {
+        match self.part(Field::Type) {
+            Some(text) => known(read_type(text)),
+            None => Ok(None),
+        }
+    }
+
+    /// What is wrong with a part of the site.
+    fn why_part(
+        &self,
+        alloc: Global,
+        cause: DefinitionFault,
+        spot: &Spot<'_>,
+    ) -> Result<Option<String>, NoMemory> {
+        match spot.path {
+            [_, _, _, Key::Member(Field::Links), Key::Item(link), ..] => {
+                self.why_link(alloc, cause, *link, spot.value)
+            }
+            [_, _, _, Key::Member(Field::Links)] => {
+                let links = items(spot.value).len();
+                Ok(Some(format!(in alloc; "has {links} links, and at most {MOST_LINKS} may be")?))
+            }
+            [_, _, _, Key::Member(Field::Level)] => {
+                let level = self.level();
+                Ok(Some(format!(in alloc; "has level {level}, past {GREATEST_LEVEL}")?))
+            }
+            [_, _, _, Key::Member(Field::Target)] => self.why_target(alloc, cause, spot),
+            _ => self.why_no_place(alloc),
+        }
+    }
+
+    /// Why the key place is none.
+    fn why_no_place(&self, alloc: Global) -> Result<Option<String>, NoMemory> {
+        let Some(place) = self.part(Field::Key).and_then(Value::as_u64) else {
+            return Ok(Some(String::from_str(
+                alloc,
+                "has links, and no \"key\", the place of the parameter that tells them apart",
             )?));
-        }
+        };
+        let Some(method_type) = self.method_type()? else {
+            return Ok(None);
+        };
+        Ok(Some(format!(in alloc;
+            "has the key place {place}, past the parameters of {method_type}"
+        )?))
     }
-    Ok(None)
-}
 
-fn why_key_twice(alloc: Global, links: &[Link]) -> Result<Option<String>, NoMemory> {
-    for (i, link) in links.iter().enumerate() {
-        if let Some(j) = link_keyed_as(link, &links[..i]) {
-            return Ok(Some(format!(in alloc; "has one key in links[{j}] and links[{i}]")?));
-        }
-    }
-    Ok(None)
-}
-
-/// The first of the earlier links that has the key of this one.
-fn link_keyed_as(link: &Link, earlier: &[Link]) -> Option<usize> {
-    for (i, other) in earlier.iter().enumerate() {
-        if same_value(&other.when, &link.when) {
-            return Some(i);
-        }
-    }
-    None
-}
-
-fn why_other_type(alloc: Global, site: &Site) -> Result<Option<String>, NoMemory> {
-    let (own, target) = (&site.method_type, site.target.handle().method_type());
-    if target.equals(own) {
-        return Ok(None);
-    }
-    Ok(Some(format!(in alloc; "is {own}, and its target {target}")?))
-}
-
-fn why_high(alloc: Global, level: u64) -> Result<Option<String>, NoMemory> {
-    if level <= GREATEST_LEVEL {
-        return Ok(None);
-    }
-    Ok(Some(format!(in alloc; "has level {level}, past {GREATEST_LEVEL}")?))
-}
-
-/// Why a link has a cause, where one has.
-fn why_links(
-    alloc: Global,
-    cause: DefinitionFault,
-    points: &[Point],
-    links: &[Link],
-) -> Result<Option<String>, NoMemory> {
-    for (i, link) in links.iter().enumerate() {
-        if let Some(why) = why_link(alloc, cause, points, link)? {
-            return Ok(Some(format!(in alloc; "has {why} in links[{i}]")?));
-        }
-    }
-    Ok(None)
-}
-
-fn why_link(
-    alloc: Global,
-    cause: DefinitionFault,
-    points: &[Point],
-    link: &Link,
-) -> Result<Option<String>, NoMemory> {
-    let (weight, charge, needs) = (link.weight, link.charge, link.needs.len());
-    match cause {
-        DefinitionFault::TooManyNeeds if needs > MOST_NEEDS => Ok(Some(format!(in alloc;
-            "{needs} needs, more than {MOST_NEEDS},"
-        )?)),
-        DefinitionFault::WeightTooLarge if weight > GREATEST_WEIGHT => Ok(Some(format!(in alloc;
-            "the weight {weight}, past {GREATEST_WEIGHT},"
-        )?)),
-        DefinitionFault::ChargeTooLarge if charge > GREATEST_CHARGE => Ok(Some(format!(in alloc;
-            "the charge {charge}, past {GREATEST_CHARGE},"
-        )?)),
-        DefinitionFault::NeedTwice => why_need_twice(alloc, points, link.needs.as_slice()),
-        _ => Ok(None),
-    }
-}
-
-fn why_need_twice(
-    alloc: Global,
-    points: &[Point],
-    needs: &[u32],
-) -> Result<Option<String>, NoMemory> {
-    for (i, need) in needs.iter().enumerate() {
-        if is_needed(&needs[..i], *need) {
-            if let Some(point) = points.get(*need as usize) {
-                let name = quoted(alloc, point.name.as_str())?;
-                return Ok(Some(format!(in alloc; "the need {name} twice")?));
+    fn why_target(
+        &self,
+        alloc: Global,
+        cause: DefinitionFault,
+        spot: &Spot<'_>,
+    ) -> Result<Option<String>, NoMemory> {
+        match cause {
+            DefinitionFault::NoPoint => {
+                let names = named_behind(alloc, "point", spot.value)?;
+                self.why_no_point(alloc, &names)
             }
+            DefinitionFault::TypeMismatch => self.why_other_type(alloc, spot),
+            DefinitionFault::WrongLevel => self.why_not_lower(alloc, spot.value),
+            _ => Ok(None),
         }
     }
-    Ok(None)
-}
 
-fn is_needed(needs: &[u32], point: u32) -> bool {
-    for need in needs {
-        if *need == point {
-            return true;
-        }
+    fn why_other_type(&self, alloc: Global, spot: &Spot<'_>) -> Result<Option<String>, NoMemory> {
+        let Some(scope) = scope_at(alloc, spot.input, spot.path, spot.value)? else {
+            return Ok(None);
+        };
+        let target = known(read_declared(alloc, &scope, spot.value))?;
+        let (Some(own), Some(target)) = (self.method_type()?, target) else {
+            return Ok(None);
+        };
+        let target = target.handle().method_type();
+        Ok(Some(format!(in alloc; "is {own}, and its target {target}")?))
     }
-    false
-}
 
-/// The names that stand behind a word in the target of a site.
-fn named_in<'a>(alloc: Global, word: &str, site: &'a Value) -> Result<Vec<&'a str>, NoMemory> {
-    match site.get(Field::Target.name()) {
-        Some(target) => named_behind(alloc, word, target),
-        None => Ok(Vec::new(alloc)),
-    }
-}
-
-/// The first name of no point that a link of a site needs.
-fn unknown_need<'a>(points: &[Point], site: &'a Value) -> Option<&'a str> {
-    for link in items_at(site, Field::Links) {
-        for need in items_at(link, Field::Needs) {
-            if let Some(name) = need.as_str() {
-                if !is_point(points, name) {
-                    return Some(name);
+    /// That a target invokes a site that is not of a lower level: the first such.
+    pub(crate) fn why_not_lower(
+        &self,
+        alloc: Global,
+        target: &Value,
+    ) -> Result<Option<String>, NoMemory> {
+        let own = self.level();
+        for name in named_behind(alloc, "invoke", target)? {
+            if let Some(other) = Site::named(self.definition, name) {
+                let level = other.level();
+                if level >= own {
+                    let shown = quoted(alloc, name)?;
+                    return Ok(Some(format!(in alloc;
+                        "of level {own} invokes {shown} of level {level}, which has to be lower"
+                    )?));
                 }
             }
         }
+        Ok(None)
     }
-    None
-}
 
-fn is_point(points: &[Point], name: &str) -> bool {
-    for point in points {
-        if point.name.as_str() == name {
-            return true;
-        }
-    }
-    false
-}
-
-fn why_no_point(alloc: Global, points: &[Point], site: &Value) -> Result<Option<String>, NoMemory> {
-    if let Some(name) = unknown_need(points, site) {
-        return Ok(Some(why_unknown_point(alloc, points, name)?));
-    }
-    for name in named_in(alloc, "point", site)? {
-        if !is_point(points, name) {
-            return Ok(Some(why_unknown_point(alloc, points, name)?));
-        }
-    }
-    Ok(None)
-}
-
-fn why_unknown_point(alloc: Global, points: &[Point], name: &str) -> Result<String, NoMemory> {
-    let mut names = Vec::new(alloc);
-    for point in points {
-        names.push(point.name.as_str())?;
-    }
-    let others = meant(alloc, name, &names, "point", "points")?;
-    let shown = quoted(alloc, name)?;
-    Ok(format!(in alloc; "names the point {shown}, which is not there; {others}")?)
-}
-
-fn why_not_lower(
-    alloc: Global,
-    sites: &[Site],
-    site: &Site,
-    value: &Value,
-) -> Result<Option<String>, NoMemory> {
-    for name in named_in(alloc, "invoke", value)? {
-        if let Some(level) = level_of(sites, name) {
-            if level >= site.level {
-                let own = site.level;
+    /// That the first of these names that no point has is that of none.
+    fn why_no_point(&self, alloc: Global, names: &[&str]) -> Result<Option<String>, NoMemory> {
+        let points = names_in(alloc, self.definition, Field::Points)?;
+        for name in names {
+            if !is_among(name, &points) {
+                let others = meant(alloc, name, &points, "point", "points")?;
                 let shown = quoted(alloc, name)?;
                 return Ok(Some(format!(in alloc;
-                    "of level {own} invokes {shown} of level {level}, which has to be lower"
+                    "names the point {shown}, which is not there; {others}"
                 )?));
             }
         }
+        Ok(None)
     }
-    Ok(None)
+
+    /// What is wrong with a link, or with this part of it.
+    fn why_link(
+        &self,
+        alloc: Global,
+        cause: DefinitionFault,
+        link: usize,
+        part: &Value,
+    ) -> Result<Option<String>, NoMemory> {
+        match cause {
+            DefinitionFault::NoPoint => self.why_no_point(alloc, &texts_in(alloc, part)?),
+            DefinitionFault::KeyMismatch => self.why_other_kind(alloc, link, part),
+            DefinitionFault::KeyTwice => self.why_key_twice(alloc, link),
+            _ => match why_many(alloc, cause, part)? {
+                Some(why) => Ok(Some(format!(in alloc; "has {why} in links[{link}]")?)),
+                None => Ok(None),
+            },
+        }
+    }
+
+    /// That the key of a link is of another kind than the key place.
+    fn why_other_kind(
+        &self,
+        alloc: Global,
+        link: usize,
+        when: &Value,
+    ) -> Result<Option<String>, NoMemory> {
+        let place = self.part(Field::Key).map_or(0, number_of);
+        let (Some(method_type), Some(wanted)) = (self.method_type()?, self.key_kind()?) else {
+            return Ok(None);
+        };
+        let Some(key) = known(read_value(alloc, Some(wanted), when))? else {
+            return Ok(None);
+        };
+        let kind = key.kind();
+        Ok(Some(format!(in alloc;
+            "has a key of kind {kind} in links[{link}], and parameter {place} of {method_type} is {wanted}"
+        )?))
+    }
+
+    /// The kind of the parameter at the key place.
+    fn key_kind(&self) -> Result<Option<Kind>, NoMemory> {
+        let place = self
+            .part(Field::Key)
+            .and_then(|key| place(key, Wanted::KeyPlace).ok());
+        let (Some(place), Some(method_type)) = (place, self.method_type()?) else {
+            return Ok(None);
+        };
+        Ok(method_type.parameters().get(place).copied())
+    }
+
+    /// That a link has the key of an earlier one: both numbers.
+    fn why_key_twice(&self, alloc: Global, link: usize) -> Result<Option<String>, NoMemory> {
+        let kind = self.key_kind()?;
+        let Some(links) = self.part(Field::Links).map(items) else {
+            return Ok(None);
+        };
+        let Some(key) = links.get(link).map(|link| key_of(alloc, kind, link)) else {
+            return Ok(None);
+        };
+        let Some(key) = key? else {
+            return Ok(None);
+        };
+        for (i, earlier) in links.iter().enumerate() {
+            if let Some(other) = key_of(alloc, kind, earlier)? {
+                if same_value(&other, &key) {
+                    return Ok(Some(format!(in alloc;
+                        "has one key in links[{i}] and links[{link}]"
+                    )?));
+                }
+            }
+        }
+        Ok(None)
+    }
 }
 
-/// The level of the first site with a name.
-fn level_of(sites: &[Site], name: &str) -> Option<u64> {
-    for site in sites {
-        if site.name.as_str() == name {
-            return Some(site.level);
+/// The key of a link.
+fn key_of(
+    alloc: Global,
+    kind: Option<Kind>,
+    link: &Value,
+) -> Result<Option<mh_type::Value>, NoMemory> {
+    match link.get(Field::When.name()) {
+        Some(when) => known(read_value(alloc, kind, when)),
+        None => Ok(None),
+    }
+}
+
+/// That a link has more than it may.
+fn why_many(
+    alloc: Global,
+    cause: DefinitionFault,
+    part: &Value,
+) -> Result<Option<String>, NoMemory> {
+    let number = number_of(part);
+    Ok(match cause {
+        DefinitionFault::TooManyNeeds => {
+            let needs = items(part).len();
+            Some(format!(in alloc; "{needs} needs, more than {MOST_NEEDS},")?)
+        }
+        DefinitionFault::WeightTooLarge => {
+            Some(format!(in alloc; "the weight {number}, past {GREATEST_WEIGHT},")?)
+        }
+        DefinitionFault::ChargeTooLarge => {
+            Some(format!(in alloc; "the charge {number}, past {GREATEST_CHARGE},")?)
+        }
+        DefinitionFault::NeedTwice => match twice(&texts_in(alloc, part)?) {
+            Some(name) => {
+                let name = quoted(alloc, name)?;
+                Some(format!(in alloc; "the need {name} twice")?)
+            }
+            None => None,
+        },
+        _ => None,
+    })
+}
+
+/// The texts in a list.
+fn texts_in(alloc: Global, list: &Value) -> Result<Vec<&str>, NoMemory> {
+    let mut texts = Vec::new(alloc);
+    for item in items(list) {
+        if let Some(text) = item.as_str() {
+            texts.push(text)?;
+        }
+    }
+    Ok(texts)
+}
+
+/// The first text that is there before, too.
+fn twice<'a>(texts: &[&'a str]) -> Option<&'a str> {
+    for (i, text) in texts.iter().enumerate() {
+        if is_among(text, &texts[..i]) {
+            return Some(text);
         }
     }
     None

@@ -20,32 +20,27 @@ pub(crate) fn shared_names(alloc: Global, script: &Value) -> Result<Vec<&str>, N
     Ok(names)
 }
 
-/// The names of the sites of a script.
-fn site_names(alloc: Global, script: &Value) -> Result<Vec<&str>, NoMemory> {
+/// The names of the points, or of the sites, of a definition.
+pub(crate) fn names_in(
+    alloc: Global,
+    definition: &Value,
+    list: Field,
+) -> Result<Vec<&str>, NoMemory> {
     let mut names = Vec::new(alloc);
-    let Some(definition) = script.get(Field::Definition.name()) else {
-        return Ok(names);
-    };
-    for site in items_at(definition, Field::Sites) {
-        if let Some(name) = site.get(Field::Name.name()).and_then(Value::as_str) {
+    for item in items_at(definition, list) {
+        if let Some(name) = item.get(Field::Name.name()).and_then(Value::as_str) {
             names.push(name)?;
         }
     }
     Ok(names)
 }
 
-/// The names of the points of a script.
-fn point_names(alloc: Global, script: &Value) -> Result<Vec<&str>, NoMemory> {
-    let mut names = Vec::new(alloc);
-    let Some(definition) = script.get(Field::Definition.name()) else {
-        return Ok(names);
-    };
-    for point in items_at(definition, Field::Points) {
-        if let Some(name) = point.get(Field::Name.name()).and_then(Value::as_str) {
-            names.push(name)?;
-        }
+/// The names of the points, or of the sites, of a script.
+pub(crate) fn names_of(alloc: Global, script: &Value, list: Field) -> Result<Vec<&str>, NoMemory> {
+    match script.get(Field::Definition.name()) {
+        Some(definition) => names_in(alloc, definition, list),
+        None => Ok(Vec::new(alloc)),
     }
-    Ok(names)
 }
 
 /// That a name is wanted, and the name of the thing that a number is.
@@ -56,8 +51,11 @@ pub(crate) fn why_no_name(
     value: &Value,
 ) -> Result<String, NoMemory> {
     let (what, names) = match named {
-        Named::Point => ("the name of a point", point_names(alloc, script)?),
-        Named::Site => ("the name of a site", site_names(alloc, script)?),
+        Named::Point => (
+            "the name of a point",
+            names_of(alloc, script, Field::Points)?,
+        ),
+        Named::Site => ("the name of a site", names_of(alloc, script, Field::Sites)?),
         Named::Shared => ("the name of a shared tree", shared_names(alloc, script)?),
     };
     let why = wanted(alloc, what, value)?;
@@ -74,7 +72,7 @@ pub(crate) fn why_no_name(
 }
 
 /// Whether a name is among some.
-fn is_among(name: &str, names: &[&str]) -> bool {
+pub(crate) fn is_among(name: &str, names: &[&str]) -> bool {
     for other in names {
         if name == *other {
             return true;
@@ -106,7 +104,7 @@ pub(crate) fn why_unknown_site(
     value: &Value,
 ) -> Result<String, NoMemory> {
     let name = value.as_str().unwrap_or("");
-    let names = site_names(alloc, script)?;
+    let names = names_of(alloc, script, Field::Sites)?;
     let shown = quoted(alloc, name)?;
     if is_among(name, &names) {
         return Ok(format!(in alloc; "the site {shown} stands no earlier than this tree")?);

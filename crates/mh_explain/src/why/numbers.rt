@@ -3,7 +3,7 @@ use crate::spot::Spot;
 use crate::values::items_at;
 use crate::words::{numbered, wanted};
 use mh_base::NoMemory;
-use mh_text::{Field, InputForm, Numbered};
+use mh_text::{Field, Numbered};
 use serde_json::Value;
 use std::alloc::Global;
 
@@ -29,15 +29,6 @@ fn nouns(numbered: Numbered) -> (&'static str, &'static str, &'static str) {
     }
 }
 
-/// The problem that an input has, if it is no script.
-fn problem_in<'a>(form: InputForm, input: &'a Value) -> Option<&'a Value> {
-    match form {
-        InputForm::Script => None,
-        InputForm::Problem => Some(input),
-        InputForm::Claim => input.get(Field::Problem.name()),
-    }
-}
-
 /// How many of these an input has, where it says so itself.
 fn count_in(kind: Numbered, spot: &Spot<'_>) -> Option<usize> {
     match kind {
@@ -45,8 +36,8 @@ fn count_in(kind: Numbered, spot: &Spot<'_>) -> Option<usize> {
             let workers = spot.input.get(Field::Workers.name())?.as_u64()?;
             usize::try_from(workers).ok()
         }
-        Numbered::Link => Some(items_at(problem_in(spot.form, spot.input)?, Field::Links).len()),
-        Numbered::Point => Some(items_at(problem_in(spot.form, spot.input)?, Field::Costs).len()),
+        Numbered::Link => Some(items_at(spot.problem()?, Field::Links).len()),
+        Numbered::Point => Some(items_at(spot.problem()?, Field::Costs).len()),
         Numbered::Snapshot | Numbered::Plan => None,
     }
 }

@@ -1,45 +1,58 @@
 //! Links and costs that make no problem.
+use crate::spot::Spot;
 use crate::values::known;
 use crate::words::{numbered, why_too_many};
 use mh_base::NoMemory;
 use mh_network::{GREATEST_SUM, LinkRow, MOST_NEEDS, ProblemFault};
 use mh_site::Version;
 use mh_text::readers::{most_links, read_rows};
-use serde_json::Value;
+use mh_text::{Field, Key};
 use std::alloc::Global;
 
 /// Why links and costs make no problem.
 pub(crate) fn why_none(
     alloc: Global,
     cause: ProblemFault,
-    problem: &Value,
+    spot: &Spot<'_>,
 ) -> Result<String, NoMemory> {
+    let Some(problem) = spot.problem() else {
+        return Ok(String::new(alloc));
+    };
     let Some(rows) = known(read_rows(alloc, problem))? else {
         return Ok(String::new(alloc));
     };
     let (links, costs) = (rows.links.as_slice(), rows.costs.as_slice());
+    let version = rows.version;
     match cause {
         ProblemFault::NoMemory => Ok(String::new(alloc)),
         ProblemFault::GainTooLarge => why_gains(alloc, links),
         ProblemFault::CostTooLarge => why_costs(alloc, links, costs),
-        ProblemFault::NeedOutOfRange => why_out_of_range(alloc, links, costs.len()),
-        ProblemFault::NeedsNotAscending => why_not_ascending(alloc, links),
         ProblemFault::TooManyLinks => {
-            let most = most_links(rows.version);
-            why_too_many(alloc, "links", links.len(), most, most_links(Version::Two))
+            let (most, later) = (most_links(version), most_links(Version::Two));
+            why_too_many(alloc, "links", links.len(), most, later)
         }
         ProblemFault::TooManyPoints => {
-            let most = rows.version.most_points();
-            why_too_many(
-                alloc,
-                "points",
-                costs.len(),
-                most,
-                Version::Two.most_points(),
-            )
+            let (most, later) = (version.most_points(), Version::Two.most_points());
+            why_too_many(alloc, "points", costs.len(), most, later)
         }
-        ProblemFault::TooManyNeeds => why_many_needs(alloc, links),
+        ProblemFault::NeedOutOfRange
+        | ProblemFault::NeedsNotAscending
+        | ProblemFault::TooManyNeeds => match link_in(spot.path, links) {
+            Some((link, row)) => {
+                let needs = why_needs(alloc, cause, row.needs.as_slice(), costs.len())?;
+                Ok(format!(in alloc; "links[{link}] {needs}")?)
+            }
+            None => Ok(String::new(alloc)),
+        },
     }
+}
+
+/// The link whose needs stand at the end of a path, with its number.
+fn link_in<'a>(path: &[Key], links: &'a [LinkRow]) -> Option<(usize, &'a LinkRow)> {
+    let [.., Key::Item(link), Key::Member(Field::Needs)] = path else {
+        return None;
+    };
+    Some((*link, links.get(*link)?))
 }
 
 fn why_gains(alloc: Global, links: &[LinkRow]) -> Result<String, NoMemory> {
@@ -72,59 +85,48 @@ fn sum_of_charges(links: &[LinkRow]) -> u128 {
     sum
 }
 
-fn why_out_of_range(alloc: Global, links: &[LinkRow], points: usize) -> Result<String, NoMemory> {
-    for (i, link) in links.iter().enumerate() {
-        if let Some(need) = need_past(link.needs.as_slice(), points) {
+/// What is wrong with the needs of a link, beside so many points.
+fn why_needs(
+    alloc: Global,
+    cause: ProblemFault,
+    needs: &[u32],
+    points: usize,
+) -> Result<String, NoMemory> {
+    match cause {
+        ProblemFault::NeedOutOfRange => {
+            let need = need_past(needs, points);
             let points = numbered(alloc, points, "point", "points")?;
-            return Ok(format!(in alloc; "links[{i}] needs point {need}, and {points}")?);
+            Ok(format!(in alloc; "needs point {need}, and {points}")?)
+        }
+        ProblemFault::NeedsNotAscending => {
+            let (before, need) = descent(needs);
+            Ok(format!(in alloc; "needs point {need} behind point {before}, and needs ascend")?)
+        }
+        _ => {
+            let found = needs.len();
+            Ok(format!(in alloc; "has {found} needs, and at most {MOST_NEEDS} may be")?)
         }
     }
-    Ok(String::new(alloc))
 }
 
 /// The first need past the last point.
-fn need_past(needs: &[u32], points: usize) -> Option<u32> {
+fn need_past(needs: &[u32], points: usize) -> u32 {
     for need in needs {
         if *need as usize >= points {
-            return Some(*need);
+            return *need;
         }
     }
-    None
-}
-
-fn why_not_ascending(alloc: Global, links: &[LinkRow]) -> Result<String, NoMemory> {
-    for (i, link) in links.iter().enumerate() {
-        if let Some((before, need)) = descent(link.needs.as_slice()) {
-            return Ok(format!(in alloc;
-                "links[{i}] needs point {need} behind point {before}, and needs ascend"
-            )?);
-        }
-    }
-    Ok(String::new(alloc))
+    0
 }
 
 /// The first two needs in a row that do not ascend.
-fn descent(needs: &[u32]) -> Option<(u32, u32)> {
-    let mut before = None;
-    for need in needs {
-        if let Some(last) = before {
-            if *need <= last {
-                return Some((last, *need));
-            }
+fn descent(needs: &[u32]) -> (u32, u32) {
+    let mut last = 0;
+    for (i, need) in needs.iter().enumerate() {
+        if i > 0 && *need <= last {
+            return (last, *need);
         }
-        before = Some(*need);
+        last = *need;
     }
-    None
-}
-
-fn why_many_needs(alloc: Global, links: &[LinkRow]) -> Result<String, NoMemory> {
-    for (i, link) in links.iter().enumerate() {
-        let found = link.needs.len();
-        if found > MOST_NEEDS {
-            return Ok(format!(in alloc;
-                "links[{i}] has {found} needs, and at most {MOST_NEEDS} may be"
-            )?);
-        }
-    }
-    Ok(String::new(alloc))
+    (last, last)
 }
