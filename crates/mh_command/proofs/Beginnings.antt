@@ -1,9 +1,9 @@
 -- What stands written of a text and what is behind it, where the stream fails.
-use Rattle.std.proofs.Common.{◌≡◌, ◌∙◌, ap, sym, subst, ℕ, List, [], ◌++◌, append_assoc, append-nil, Option, Result, Ok, Err, OnErr, arith}
+use Rattle.std.proofs.Common.{◌≡◌, ◌∙◌, ap, sym, ℕ, List, [], ◌++◌, append_assoc, append-nil, Option, Result, Ok, Err, OnErr, arith}
 use Rattle.std.proofs.KnownBytes.{Appends-kept, Appends-trans}
 use Rattle.std.specs.Io.KnownBytes.{Appends, Keeps}
 use Rattle.mh_text.specs.Bytes.{AppendsFront, HasFailed, one_more}
-use Rattle.mh_command.specs.Streams.{AppendsBeginning, IsCut}
+use Rattle.mh_command.specs.Streams.{IsCut}
 
 pub always_on_err : {A E : Type 0} (r : Result A E) (P : Type 0) → P → OnErr r P
 always_on_err (Ok x) P h = tt

@@ -12,7 +12,7 @@ use Rattle.clap.specs.declared.error.kind.ErrorKind.TheVariants.{DisplayHelp, Di
 use Rattle.clap.specs.declared.parser.matches.ArgMatches.{ArgMatches}
 use Rattle.clap.proofs.OnLiterals.{clap_on_literals}
 use Rattle.mh_command.specs.CommandLine.{program, run_words, check_words, AreWords, AsksFor, AsksHelp, AsksVersion, IsNamed}
-use Rattle.mh_command.specs.declared.reading.Reading.{Reading}
+use Rattle.mh_command.specs.declared.options.Reading.{Reading}
 use Rattle.mh_command.specs.declared.request.Asked.{Asked}
 use Rattle.mh_command.specs.declared.request.Request.{Request}
 use Rattle.mh_command.specs.declared.request.Request.TheVariants.{Run, Check, CheckProfile, Plan, Stress, Profile}

@@ -1,5 +1,5 @@
 -- How what is asked ends: its work, the last flush, and what is told.
-use Rattle.std.proofs.Common.{◌≡◌, ◌≢◌, ◌⊎◌, ◌<◌, ◌≤◌, inl, inr, refl, sym, ap, ◌∙◌, subst, ℕ, Bool, true, false, List, [], ◌∷◌, ◌++◌, append-nil, Option, Some, None, Result, Ok, Err, IfOk, IfErr, IfSome, OnOk, arith}
+use Rattle.std.proofs.Common.{◌≡◌, ◌≢◌, ◌⊎◌, ◌<◌, ◌≤◌, inl, inr, refl, sym, ap, ◌∙◌, subst, ℕ, false, List, [], ◌∷◌, ◌++◌, append-nil, Option, Some, None, Result, Ok, Err, IfOk, IfErr, IfSome, OnErr, OnOk, arith}
 use Rattle.std.proofs.KnownBytes.{Appends-kept, Keeps-refl, Keeps-trans}
 use Rattle.std.specs.Io.KnownBytes.{Appends, Keeps}
 use Rattle.mh_core.specs.Legal.{MachineState}
@@ -11,15 +11,19 @@ use Rattle.mh_text.specs.Lines.{lines_of}
 use Rattle.mh_text.specs.Output as output
 use Rattle.mh_text.specs.Output.{first, outside, EndsEarly, Failed}
 use Rattle.mh_text.specs.declared.fault.Fault.{Fault}
+use Rattle.mh_text.specs.declared.fault.InputFault.{InputFault}
 use Rattle.mh_text.specs.declared.fault.InputFault.TheVariants.{NoMemory, TooLong, NotJson, BadShape, BadValue, UnknownShared, UnknownSite, Tree, Definition, Problem, BadType, UnknownPoint, PointTwice, NeedTwice}
 use Rattle.mh_text.specs.declared.fault.TextFault.{TextFault}
 use Rattle.mh_text.specs.declared.fault.TextFault.TheVariants.{Input, ReadFailed, WriteFailed, NoReader}
 use Rattle.mh_text.specs.declared.json.script.Script.{Script}
+use Rattle.mh_text.specs.declared.streams.refused.RefusedEvent.{RefusedEvent}
 use Rattle.mh_text.specs.declared.streams.run.RunOptions.{RunOptions}
-use Rattle.mh_command.specs.Answers.{Answers, FailsIn, FailsOn, IsAnswerOf, IsAnswerTo, IsAnswerUnless, IsHelp, IsStopped, Works, output_alone, turned_down}
+use Rattle.mh_explain.specs.Refused.{NamesRefused}
+use Rattle.mh_command.specs.Answers.{Answers, AreKnown, FailsIn, FailsOn, IsAnswerOf, IsAnswerTo, IsAnswerUnless, IsHelp, IsStopped, Works, answered, turned_down}
 use Rattle.mh_command.specs.Statuses.{status_told}
 use Rattle.mh_command.proofs.Beginnings.{one_more_fails}
-use Rattle.mh_command.specs.Readings.{fault_explained, refused_at, IsExplained}
+use Rattle.mh_command.specs.Readings.{fault_explained, refused_at, IsExplainedWith}
+use Rattle.mh_command.proofs.Works.{none_helped}
 use Rattle.mh_command.specs.Streams.{IsDone, IsShown, IsTold}
 use Rattle.mh_command.specs.declared.request.Asked.{Asked}
 use Rattle.mh_command.specs.declared.request.Request.{Request}
@@ -110,7 +114,7 @@ module _ (old mid new : Option (List ℕ)) (kept : Keeps mid new) where
   early_kept : (options : RunOptions) (script : Script) (B : Type 0) (e : Fault) → EndsEarly options script old mid B e → EndsEarly options script old new B e
   early_kept options script B e (inl (same, memory)) = inl (Keeps-trans old mid new same kept, memory)
   early_kept options script B e (inr (inl (end, ends))) = inr (inl (end, ends_kept (first script) _ _ ends))
-  early_kept options script B e (inr (inr (last, between, runs, fails))) = inr (inr (last, between, runs, report_kept options last between B e fails))
+  early_kept options script B e (inr (inr (last, refused, between, runs, fails))) = inr (inr (last, refused, between, runs, report_kept options last between B e fails))
 
   on_kept : (request : Request) (input : Option (List ℕ)) (A B : Type 0) (e : Fault) → FailsOn request input old mid A B e → FailsOn request input old new A B e
   on_kept (Run options) input A B e (inl (same, unread)) = inl (Keeps-trans old mid new same kept, unread)
@@ -136,9 +140,9 @@ module _ (old mid new : Option (List ℕ)) (kept : Keeps mid new) where
   fails_kept asked input A B e (inl (same, unread)) = inl (Keeps-trans old mid new same kept, unread)
   fails_kept asked input A B e (inr (unrefused, fails)) = inr (unrefused, on_kept asked.request input A B e fails)
 
-  works_kept : (asked : Asked) (input : Option (List ℕ)) (status : ℕ) → Works asked input old mid status → Works asked input old new status
-  works_kept asked None status known = known
-  works_kept asked (Some bytes) status (text, is, written) = (text, is, Appends-kept old mid new text written kept)
+  works_kept : (asked : Asked) (input : Option (List ℕ)) (known : List RefusedEvent) (status : ℕ) → Works asked input known old mid status → Works asked input known old new status
+  works_kept asked None known status works = works
+  works_kept asked (Some bytes) known status (text, refused, is, are, written) = (text, refused, is, are, Appends-kept old mid new text written kept)
 
 abbrev IsTurnedOn : Option (List ℕ) → Option (List ℕ) → Fault → Request → List ℕ → Type 0
 IsTurnedOn old new e request bytes = IsAnswerOf request bytes (turned_down e) × Keeps old new
@@ -162,8 +166,8 @@ module _ (old new : Option (List ℕ)) (A B : Type 0) (e : Fault) (small : statu
   refuses_on (Run options) bytes (inr (script, is, inl (kept, memory))) = absurd (not_outside no_memory (omega arith) memory)
   refuses_on (Run options) bytes (inr (script, is, inr (inl (inl memory, ends)))) = absurd (not_of no_memory (omega arith) memory)
   refuses_on (Run options) bytes (inr (script, is, inr (inl (inr (write, failed), ends)))) = absurd (not_of WriteFailed (omega arith) write)
-  refuses_on (Run options) bytes (inr (script, is, inr (inr (last, between, runs, (asked, inl (kept, memory)))))) = absurd (not_outside no_memory (omega arith) memory)
-  refuses_on (Run options) bytes (inr (script, is, inr (inr (last, between, runs, (asked, inr (write, failed, begun)))))) = absurd (not_outside WriteFailed (omega arith) write)
+  refuses_on (Run options) bytes (inr (script, is, inr (inr (last, refused, between, runs, (asked, inl (kept, memory)))))) = absurd (not_outside no_memory (omega arith) memory)
+  refuses_on (Run options) bytes (inr (script, is, inr (inr (last, refused, between, runs, (asked, inr (write, failed, begun)))))) = absurd (not_outside WriteFailed (omega arith) write)
   refuses_on Check bytes (inl (kept, inl memory)) = absurd (not_outside no_memory (omega arith) memory)
   refuses_on Check bytes (inl (kept, inr (inl (read, failed)))) = absurd (not_outside ReadFailed (omega arith) read)
   refuses_on Check bytes (inl (kept, inr (inr fault))) = (inr (e, fault, refl), kept)
@@ -202,24 +206,41 @@ not_explained : (at : Option ℕ) → fault_explained at None ≡ fault_explaine
 not_explained None = refl
 not_explained (Some at) = refl
 
--- what is told beside an answer is told beside the fault of its last flush
-help_of_flush : (asked : Asked) (input : Option (List ℕ)) (status : ℕ) (help : List ℕ) → IsHelp asked input (Ok status) help
-    → IsHelp asked input (Err (outside WriteFailed)) help
-help_of_flush asked None status help helped = record { unexplained = helped.unexplained; silent = tt; explained = tt }
-help_of_flush asked (Some bytes) status help helped = record {
+-- the help of an answer is that of the fault of its last flush
+help_of_flush : (asked : Asked) (input : Option (List ℕ)) (status : ℕ) (known : List RefusedEvent) (help : List ℕ) → IsHelp asked input (Ok status) known help
+    → IsHelp asked input (Err (outside WriteFailed)) known help
+help_of_flush asked None status known help helped = record { unexplained = helped.unexplained; silent = tt; explained = tt }
+help_of_flush asked (Some bytes) status known help helped = record {
   unexplained = helped.unexplained;
   silent = tt;
-  explained = subst (λ cause. IsExplained asked.request bytes cause help) (not_explained (refused_at asked bytes)) helped.explained;
+  explained = subst (λ cause. IsExplainedWith asked.request bytes cause known help) (not_explained (refused_at asked bytes)) helped.explained;
 }
 
 -- a fault may be told with nothing behind it
-pub nothing_told : (asked : Asked) (input : Option (List ℕ)) (e : Fault) → IsHelp asked input (Err e) []
-nothing_told asked None e = record { unexplained = λ plain. refl; silent = tt; explained = tt }
-nothing_told asked (Some bytes) e = record { unexplained = λ plain. refl; silent = tt; explained = inl refl }
+pub nothing_told : (asked : Asked) (input : Option (List ℕ)) (e : Fault) → IsHelp asked input (Err e) [] []
+nothing_told asked input e = none_helped asked input (Err e) [] refl
+
+-- help that speaks of the refused events that are known speaks of those of the answer
+module _ (asked : Asked) (bytes : List ℕ) (refused known : List RefusedEvent) (are : AreKnown refused known) (help : List ℕ) where
+  named_as : (events : List ℕ) → (events ≡ []) ⊎ NamesRefused known events → (events ≡ []) ⊎ NamesRefused refused events
+  named_as events (inl none) = inl none
+  named_as events (inr named) = elim are [
+    | inl none ↦ inl (subst (λ (k : List RefusedEvent). NamesRefused k events) none named)
+    | inr all ↦ inr (subst (λ (k : List RefusedEvent). NamesRefused k events) all named)
+  ]
+
+  explained_as : (cause : Option InputFault) → IsExplainedWith asked.request bytes cause known help → IsExplainedWith asked.request bytes cause refused help
+  explained_as cause (front, events, split, explained, named) = (front, events, split, explained, named_as events named)
+
+  clear_as : refused ≡ [] → known ≡ []
+  clear_as clear = elim are [
+    | inl none ↦ none
+    | inr all ↦ all ∙ clear
+  ]
 
 -- The work of what is asked from the output o to m, a flush to n, and what is told from the errors e to f.
 -- The numbers are the failures of the input, of the output and of the errors.
-module _ (asked : Asked) (input o m n e f : Option (List ℕ)) (in_old in_new out_old out_mid out_new err_old err_new result : ℕ) (help : List ℕ) (kept : Keeps m n) where
+module _ (asked : Asked) (input o m n e f : Option (List ℕ)) (in_old in_new out_old out_mid out_new err_old err_new result : ℕ) (help : List ℕ) (known : List RefusedEvent) (kept : Keeps m n) where
   abbrev pub A : Type 0
   A = HasFailed in_old in_new
 
@@ -250,58 +271,66 @@ module _ (asked : Asked) (input o m n e f : Option (List ℕ)) (in_old in_new ou
   is_known (Ok status) small (inr (failed, more)) told = let k = told_known (outside WriteFailed) failed in (k.1, k.2)
   is_known (Err fault) small done (told, same) = let k = told_known fault told in (k.1, k.2)
 
-  answer_done : (i : Option (List ℕ)) (status : ℕ) → result ≡ status → Appends e f help → Works asked i o m status → IsHelp asked i (Ok status) help → Answers asked i result o n e f
+  answer_done : (i : Option (List ℕ)) (status : ℕ) → result ≡ status → Appends e f help → Works asked i known o m status → IsHelp asked i (Ok status) known help → Answers asked i result o n e f
   answer_done None status is told works helped = tt
-  answer_done (Some bytes) status is told (text, answer, written) helped = (
-    output_alone status text,
+  answer_done (Some bytes) status is told (text, refused, answer, are, written) helped = (
+    answered status text refused,
     help,
     answer,
-    record { unexplained = helped.unexplained; silent = λ none read. helped.silent read; explained = helped.explained },
+    record {
+      unexplained = helped.unexplained;
+      silent = λ none read clear. helped.silent read (clear_as asked bytes refused known are help clear);
+      explained = explained_as asked bytes refused known are help _ helped.explained;
+    },
     sym is,
     Appends-kept o m n text written kept,
     told,
   )
 
   answer_turned : (i : Option (List ℕ)) (fault : Fault) → result ≡ status_told fault.kind → result < 2 → IfSome i (IsTurned o m fault asked)
-      → Appends e f (fault_line fault ++ help) → IsHelp asked i (Err fault) help → Answers asked i result o n e f
-  answer_turned None fault is small turned line helped = tt
-  answer_turned (Some bytes) fault is small (answer, same) line helped =
+      → Appends e f (fault_line fault ++ help) → known ≡ [] → IsHelp asked i (Err fault) known help → Answers asked i result o n e f
+  answer_turned None fault is small turned line clear helped = tt
+  answer_turned (Some bytes) fault is small (answer, same) line clear helped =
       let range = told_range fault.kind in
       let above = range.0 in (
         turned_down fault,
         help,
         answer,
-        record { unexplained = helped.unexplained; silent = λ none read. absurd (some_is_no_none fault none); explained = helped.explained },
+        record {
+          unexplained = helped.unexplained;
+          silent = λ none read silent. absurd (some_is_no_none fault none);
+          explained = subst (λ (k : List RefusedEvent). IsExplainedWith asked.request bytes (fault_explained (refused_at asked bytes) (Some fault)) k help) clear helped.explained;
+        },
         omega (arith, is, small, above),
         nothing_appended o n (Keeps-trans o m n same kept),
         line,
       )
 
-  pub answers : (worked : Result ℕ Fault) → IfOk worked (Works asked input o m) → IfErr worked (FailsIn asked input o m A B) → IsHelp asked input worked help
+  pub answers : (worked : Result ℕ Fault) → IfOk worked (Works asked input known o m) → IfErr worked (FailsIn asked input o m A B) → OnErr worked (known ≡ []) → IsHelp asked input worked known help
       → IfOk worked IsFinished → IfErr worked IsEnded → result < 2 → IsWritten
-  answers (Ok status) works fails helped (inl (inl (is, (written, quiet)), same)) told small = answer_done input status is written works helped
-  answers (Ok status) works fails helped (inl (inr (some, three, failed), same)) told small = absurd (omega (arith, three, small))
-  answers (Ok status) works fails helped (inr (inl (is, (line, quiet)), more)) told small = absurd (omega (arith, is, small))
-  answers (Ok status) works fails helped (inr (inr (inl (is, failed)), more)) told small = absurd (omega (arith, is, small))
-  answers (Ok status) works fails helped (inr (inr (inr (is, idle)), more)) told small = absurd (omega (arith, is, small))
-  answers (Err fault) works fails helped done (inl (is, (line, quiet)), same) small =
+  answers (Ok status) works fails clear helped (inl (inl (is, (written, quiet)), same)) told small = answer_done input status is written works helped
+  answers (Ok status) works fails clear helped (inl (inr (some, three, failed), same)) told small = absurd (omega (arith, three, small))
+  answers (Ok status) works fails clear helped (inr (inl (is, (line, quiet)), more)) told small = absurd (omega (arith, is, small))
+  answers (Ok status) works fails clear helped (inr (inr (inl (is, failed)), more)) told small = absurd (omega (arith, is, small))
+  answers (Ok status) works fails clear helped (inr (inr (inr (is, idle)), more)) told small = absurd (omega (arith, is, small))
+  answers (Err fault) works fails clear helped done (inl (is, (line, quiet)), same) small =
       let low : status_told fault.kind < 2 = omega (arith, is, small) in
-      answer_turned input fault is small (refuses_input o m A B fault low asked input fails) line helped
-  answers (Err fault) works fails helped done (inr (inl (is, failed)), same) small = absurd (omega (arith, is, small))
-  answers (Err fault) works fails helped done (inr (inr (is, idle)), same) small = absurd (omega (arith, is, small))
+      answer_turned input fault is small (refuses_input o m A B fault low asked input fails) line clear helped
+  answers (Err fault) works fails clear helped done (inr (inl (is, failed)), same) small = absurd (omega (arith, is, small))
+  answers (Err fault) works fails clear helped done (inr (inr (is, idle)), same) small = absurd (omega (arith, is, small))
 
-  pub stops : (worked : Result ℕ Fault) → IfOk worked (λ status. status < 2) → IfOk worked (Works asked input o m) → IfErr worked (FailsIn asked input o m A B) → IsHelp asked input worked help
+  pub stops : (worked : Result ℕ Fault) → IfOk worked (λ status. status < 2) → IfOk worked (Works asked input known o m) → IfErr worked (FailsIn asked input o m A B) → OnErr worked (known ≡ []) → IsHelp asked input worked known help
       → IsHonest worked in_old in_new out_old out_mid → IfOk worked IsFinished → IfErr worked IsEnded → 2 ≤ result → Stops
-  stops (Ok status) small works fails helped honest (inl (inl (is, (written, quiet)), same)) told large = absurd (omega (arith, is, small, large))
-  stops (Ok status) small works fails helped honest (inl (inr (some, three, cut), same)) told large =
-      inr (three, (status, works_kept o m n kept asked input status works, (help, helped, cut)))
-  stops (Ok status) small works fails helped honest (inr (failed, more)) told large =
+  stops (Ok status) small works fails clear helped honest (inl (inl (is, (written, quiet)), same)) told large = absurd (omega (arith, is, small, large))
+  stops (Ok status) small works fails clear helped honest (inl (inr (some, three, cut), same)) told large =
+      inr (three, (status, known, works_kept o m n kept asked input known status works, (help, helped, cut)))
+  stops (Ok status) small works fails clear helped honest (inr (failed, more)) told large =
       let counted : HasFailed out_old out_new = subst (λ k. HasFailed k out_new) honest.1 (subst (HasFailed out_mid) (sym more) (one_more_fails out_mid (one_more out_mid) refl)) in
-      let flushed = help_of_flush asked input status help helped in
-      inl (outside WriteFailed, inr (refl, counted, (status, works_kept o m n kept asked input status works)), (help, flushed, failed))
-  stops (Err fault) small works fails helped honest done (told, same) large =
+      let flushed = help_of_flush asked input status known help helped in
+      inl (outside WriteFailed, known, inr (refl, counted, (status, works_kept o m n kept asked input known status works)), (help, flushed, failed))
+  stops (Err fault) small works fails clear helped honest done (told, same) large =
       let fails_still = subst (λ k. FailsIn asked input o n A (HasFailed out_old k) fault) (sym same) (fails_kept o m n kept asked input A B fault fails) in
-      inl (fault, inl fails_still, (help, helped, told))
+      inl (fault, known, inl (fails_still, clear), (help, helped, told))
 
   pub some_failed : (worked : Result ℕ Fault) → IfOk worked (λ status. status < 2) → IsHonest worked in_old in_new out_old out_mid
       → IfOk worked IsFinished → IfErr worked IsEnded → result ≡ 3 → A ⊎ HasFailed out_old out_new ⊎ HasFailed err_old err_new
@@ -342,7 +371,7 @@ module _ (asked : Asked) (input o m n e f : Option (List ℕ)) (in_old in_new ou
   is_at_end (Ok status) IsEnd end told zero = end
   is_at_end (Err fault) IsEnd end (told, same) zero = let k = told_known fault told in let above = k.0 in absurd (omega (arith, above, zero))
 
-  pub is_unexplained : (worked : Result ℕ Fault) → IsHelp asked input worked help → IfOk worked IsFinished → IfErr worked IsEnded → result ≡ 0
+  pub is_unexplained : (worked : Result ℕ Fault) → IsHelp asked input worked known help → IfOk worked IsFinished → IfErr worked IsEnded → result ≡ 0
       → asked.reading.explain ≡ false → Keeps e f
   is_unexplained (Ok status) helped (inl (inl (is, (written, quiet)), same)) told zero plain = appended_nothing e f (subst (Appends e f) (helped.unexplained plain) written)
   is_unexplained (Ok status) helped (inl (inr (some, three, failed), same)) told zero plain = absurd (omega (arith, three, zero))

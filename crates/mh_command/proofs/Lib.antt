@@ -1,5 +1,8 @@
 mod Beginnings
 mod CommandLines
 mod Ends
-mod Options
+mod FirstFaults
+mod Found
+mod OptionWords
+mod Placed
 mod Works

@@ -1,15 +1,23 @@
 -- Work over an input that was read, and the same of what is left in a reader.
-use Rattle.std.proofs.Common.{◌≡◌, ◌≢◌, ◌⊎◌, ◌<◌, inl, inr, refl, sym, ap, ◌∙◌, subst, ℕ, Bool, true, false, List, [], length, Option, Some, None, Result, Ok, Err, IfErr, IfSome, codes}
+use Rattle.std.proofs.Common.{◌≡◌, ◌≢◌, ◌⊎◌, ◌<◌, inl, inr, refl, sym, ap, ◌∙◌, subst, ℕ, Bool, true, false, List, [], ◌++◌, append-nil, length, Option, Some, None, Result, Ok, Err, IfErr, IfSome, codes}
 use Rattle.std.proofs.lemmas.Bool.{lt-leb}
 use Rattle.std.specs.Prelude.{if◌then◌else◌}
 use Rattle.std.proofs.KnownBytes.{Keeps-refl}
-use Rattle.std.specs.Io.KnownBytes.{Keeps}
+use Rattle.std.specs.Io.KnownBytes.{Appends, Keeps}
 use Rattle.mh_text.specs.Bytes.{HasFailed, most_bytes}
 use Rattle.mh_text.specs.Gives.{IsEndOf, IsHonest, no_memory, too_long, ◌>>=◌, at_place}
 use Rattle.mh_text.specs.Inputs.{json_of_input}
-use Rattle.mh_text.specs.Checks.{IsClaimFault}
+use Rattle.mh_text.specs.Checks.{IsClaimFault, IsVerdict, verdict_line}
 use Rattle.mh_text.specs.Output.{outside, EndsReading, IsUnread}
-use Rattle.mh_text.specs.Planning.{IsProblemFault}
+use Rattle.mh_text.specs.Planning.{IsPlanned, IsProblemFault}
+use Rattle.mh_text.specs.declared.streams.planning.PlanOptions.{PlanOptions}
+use Rattle.mh_text.specs.declared.lines.verdict.Verdict.{Verdict}
+use Rattle.mh_stress.specs.Stress.{IsStressed}
+use Rattle.mh_stress.specs.declared.stress.StressOptions.{StressOptions}
+use Rattle.mh_profile.specs.Claims as claim
+use Rattle.mh_profile.specs.Planning as profile
+use Rattle.mh_profile.specs.declared.planning.ProfileOptions.{ProfileOptions}
+use Rattle.mh_command.specs.Statuses.{status_found}
 use Rattle.mh_profile.specs.Claims.{IsReadClaimFault}
 use Rattle.mh_profile.specs.Inputs.{IsProfileFault}
 use Rattle.mh_text.specs.Problems.{rows_at}
@@ -19,10 +27,12 @@ use Rattle.mh_text.specs.declared.fault.InputFault.{InputFault}
 use Rattle.mh_text.specs.declared.fault.InputFault.TheVariants.{BadShape}
 use Rattle.mh_text.specs.declared.fault.TextFault.{TextFault}
 use Rattle.mh_text.specs.declared.fault.TextFault.TheVariants.{Input, ReadFailed, WriteFailed, NoReader}
+use Rattle.mh_explain.specs.Refused.{NamesRefused}
 use Rattle.mh_explain.specs.Unread.{first_unread, first_of_read}
+use Rattle.mh_text.specs.declared.streams.refused.RefusedEvent.{RefusedEvent}
 use Rattle.mh_text.specs.declared.json.form.InputForm.{InputForm}
-use Rattle.mh_command.specs.Answers.{FailsIn, FailsOn, IsAnswerUnless, IsFaultOf, IsHelp, Works, WorksOn, fault_at, output_alone}
-use Rattle.mh_command.specs.Readings.{fault_explained, fault_told, form_of, refused_at, unread_fault, unread_in, IsExplained, IsRefusal}
+use Rattle.mh_command.specs.Answers.{FailsIn, FailsOn, IsAnswerUnless, IsFaultOf, IsHelp, Works, WorksOn, answered, fault_at, output_alone}
+use Rattle.mh_command.specs.Readings.{fault_explained, fault_told, form_of, refused_at, unread_fault, unread_in, IsExplained, IsExplainedWith, IsRefusal}
 use Rattle.mh_command.specs.declared.request.Asked.{Asked}
 use Rattle.mh_command.specs.declared.request.Request.{Request}
 use Rattle.mh_command.specs.declared.request.Request.TheVariants.{Run, Check, CheckProfile, Plan, Stress, Profile}
@@ -61,8 +71,8 @@ module _ (input old new : Option (List ℕ)) (A B : Type 0) (e : Fault) (read : 
   keeps_unread (Run options) bytes (inr (script, is, inl (kept, memory))) = kept
   keeps_unread (Run options) bytes (inr (script, is, inr (inl (inl memory, ends)))) = absurd (not_of no_memory memory_is_no_read memory)
   keeps_unread (Run options) bytes (inr (script, is, inr (inl (inr (write, failed), ends)))) = absurd (not_of WriteFailed write_is_no_read write)
-  keeps_unread (Run options) bytes (inr (script, is, inr (inr (last, between, runs, (asked, inl (kept, memory)))))) = absurd (not_outside no_memory memory_is_no_read memory)
-  keeps_unread (Run options) bytes (inr (script, is, inr (inr (last, between, runs, (asked, inr (write, failed, begun)))))) = absurd (not_outside WriteFailed write_is_no_read write)
+  keeps_unread (Run options) bytes (inr (script, is, inr (inr (last, refused, between, runs, (asked, inl (kept, memory)))))) = absurd (not_outside no_memory memory_is_no_read memory)
+  keeps_unread (Run options) bytes (inr (script, is, inr (inr (last, refused, between, runs, (asked, inr (write, failed, begun)))))) = absurd (not_outside WriteFailed write_is_no_read write)
   keeps_unread Check bytes (inl (kept, unread)) = kept
   keeps_unread Check bytes (inr (verdict, found, (is, failed, begun))) = absurd (not_outside WriteFailed write_is_no_read is)
   keeps_unread CheckProfile bytes (inl (kept, unread)) = kept
@@ -132,11 +142,40 @@ module _ (e told : Fault) (read : e.kind ≡ ReadFailed → told ≡ outside no_
     | inr kept ↦ quiet (λ write. not (ap (λ f. f.kind) (other kept) ∙ write))
   ]
 
+-- The work of a request that refuses no event.
+module _ (old new : Option (List ℕ)) where
+  pub check_works : (input : Option (List ℕ)) (verdict : Verdict) (status : ℕ) → status ≡ status_found verdict → IfSome input (λ bytes. IsVerdict bytes verdict)
+      → Appends old new (verdict_line verdict) → WorksOn Check input [] old new status
+  check_works None verdict status is found written = tt
+  check_works (Some bytes) verdict status is found written =
+      (verdict_line verdict, [], inl (verdict, found, ap (λ (s : ℕ). output_alone s (verdict_line verdict)) is), inl refl, written)
+
+  pub profile_check_works : (input : Option (List ℕ)) (verdict : Verdict) (status : ℕ) → status ≡ status_found verdict → IfSome input (λ bytes. claim.IsVerdict bytes verdict)
+      → Appends old new (verdict_line verdict) → WorksOn CheckProfile input [] old new status
+  profile_check_works None verdict status is found written = tt
+  profile_check_works (Some bytes) verdict status is found written =
+      (verdict_line verdict, [], inl (verdict, found, ap (λ (s : ℕ). output_alone s (verdict_line verdict)) is), inl refl, written)
+
+  pub plan_works : (input : Option (List ℕ)) (options : PlanOptions) → IfSome input (λ bytes. (text : List ℕ) × IsPlanned options bytes text × Appends old new text)
+      → WorksOn (Plan options) input [] old new 0
+  plan_works None options works = tt
+  plan_works (Some bytes) options (text, planned, written) = (text, [], inl (text, planned, refl), inl refl, written)
+
+  pub stress_works : (input : Option (List ℕ)) (options : StressOptions) → IfSome input (λ bytes. (text : List ℕ) × IsStressed options bytes text × Appends old new text)
+      → WorksOn (Stress options) input [] old new 0
+  stress_works None options works = tt
+  stress_works (Some bytes) options (text, stressed, written) = (text, [], inl (text, stressed, refl), inl refl, written)
+
+  pub profile_works : (input : Option (List ℕ)) (options : ProfileOptions) → IfSome input (λ bytes. (text : List ℕ) × profile.IsPlanned options bytes text × Appends old new text)
+      → WorksOn (Profile options) input [] old new 0
+  profile_works None options works = tt
+  profile_works (Some bytes) options (text, planned, written) = (text, [], inl (text, planned, refl), inl refl, written)
+
 -- the work is done for what is asked where the input is not refused
-pub works_unrefused : (asked : Asked) (bytes : List ℕ) (old new : Option (List ℕ)) (status : ℕ) → refused_at asked bytes ≡ None
-    → WorksOn asked.request (Some bytes) old new status → Works asked (Some bytes) old new status
-works_unrefused asked bytes old new status none (text, answer, written) =
-    (text, subst (λ o. IsAnswerUnless o asked.request bytes (output_alone status text)) (sym none) answer, written)
+pub works_unrefused : (asked : Asked) (bytes : List ℕ) (known : List RefusedEvent) (old new : Option (List ℕ)) (status : ℕ) → refused_at asked bytes ≡ None
+    → WorksOn asked.request (Some bytes) known old new status → Works asked (Some bytes) known old new status
+works_unrefused asked bytes known old new status none (text, refused, answer, are, written) =
+    (text, refused, subst (λ o. IsAnswerUnless o asked.request bytes (answered status text refused)) (sym none) answer, are, written)
 
 not_refused : (strict : Bool) (found : Option ℕ) → strict ≡ false → (if strict then found else None) ≡ None
 not_refused true found is = cc
@@ -151,18 +190,19 @@ module _ (asked : Asked) (never : (bytes : List ℕ) → refused_at asked bytes 
   unrefused None = tt
   unrefused (Some bytes) = never bytes
 
-  pub works_plain : (input old new : Option (List ℕ)) (status : ℕ) → WorksOn asked.request input old new status → Works asked input old new status
-  works_plain None old new status known = known
-  works_plain (Some bytes) old new status works = works_unrefused asked bytes old new status (never bytes) works
+  pub works_plain : (input : Option (List ℕ)) (known : List RefusedEvent) (old new : Option (List ℕ)) (status : ℕ) → WorksOn asked.request input known old new status → Works asked input known old new status
+  works_plain None known old new status works = works
+  works_plain (Some bytes) known old new status works = works_unrefused asked bytes known old new status (never bytes) works
 
   pub fails_plain : (input old new : Option (List ℕ)) (A B : Type 0) (e : Fault) → FailsOn asked.request input old new A B e → FailsIn asked input old new A B e
   fails_plain input old new A B e fails = inr (unrefused input, fails)
 
 -- What holds of the bytes that were read holds of those that a reader had left, where these are known to be the same.
 module _ (asked : Asked) (bytes : List ℕ) where
-  pub works_whole : (input old new : Option (List ℕ)) (status : ℕ) → IfSome input (λ all. bytes ≡ all) → Works asked (Some bytes) old new status → Works asked input old new status
-  works_whole None old new status same works = tt
-  works_whole (Some all) old new status same works = subst (λ bs. Works asked (Some bs) old new status) same works
+  pub works_whole : (input : Option (List ℕ)) (events : List RefusedEvent) (old new : Option (List ℕ)) (status : ℕ) → IfSome input (λ all. bytes ≡ all)
+      → Works asked (Some bytes) events old new status → Works asked input events old new status
+  works_whole None events old new status same works = tt
+  works_whole (Some all) events old new status same works = subst (λ bs. Works asked (Some bs) events old new status) same works
 
   unknown : (request : Request) (old new : Option (List ℕ)) (A B : Type 0) (e : Fault) → FailsOn request (Some bytes) old new ⊥ B e → FailsOn request None old new A B e
   unknown (Run options) old new A B e fails = inr tt
@@ -193,39 +233,72 @@ module _ (asked : Asked) (bytes : List ℕ) where
   fails_end input old new A B (Ok status) same fails = tt
   fails_end input old new A B (Err e) same fails = fails_whole input old new A B e same fails
 
-  pub help_whole : (input : Option (List ℕ)) (end : Result ℕ Fault) (help : List ℕ) → IfSome input (λ all. bytes ≡ all) → IsHelp asked (Some bytes) end help → IsHelp asked input end help
-  help_whole (Some all) end help same helped = subst (λ bs. IsHelp asked (Some bs) end help) same helped
-  help_whole None (Ok status) help same helped = record { unexplained = helped.unexplained; silent = tt; explained = tt }
-  help_whole None (Err e) help same helped = record { unexplained = helped.unexplained; silent = tt; explained = tt }
+  pub help_whole : (input : Option (List ℕ)) (end : Result ℕ Fault) (events : List RefusedEvent) (help : List ℕ) → IfSome input (λ all. bytes ≡ all)
+      → IsHelp asked (Some bytes) end events help → IsHelp asked input end events help
+  help_whole (Some all) end events help same helped = subst (λ bs. IsHelp asked (Some bs) end events help) same helped
+  help_whole None (Ok status) events help same helped = record { unexplained = helped.unexplained; silent = tt; explained = tt }
+  help_whole None (Err e) events help same helped = record { unexplained = helped.unexplained; silent = tt; explained = tt }
 
--- where nothing is told, nothing is to be explained
-pub none_helped : (asked : Asked) (input : Option (List ℕ)) (end : Result ℕ Fault) (help : List ℕ) → help ≡ [] → IsHelp asked input end help
+-- help that speaks of no refused event
+pub plain_help : (request : Request) (bytes : List ℕ) (fault : Option InputFault) (help : List ℕ) → IsExplained request bytes fault help → IsExplainedWith request bytes fault [] help
+plain_help request bytes fault help explained = (help, [], sym (append-nil help), explained, inl refl)
+
+-- where there is no help, nothing is to be explained
+pub none_helped : (asked : Asked) (input : Option (List ℕ)) (end : Result ℕ Fault) (help : List ℕ) → help ≡ [] → IsHelp asked input end [] help
 none_helped asked None (Ok status) help none = record { unexplained = λ plain. none; silent = tt; explained = tt }
 none_helped asked None (Err e) help none = record { unexplained = λ plain. none; silent = tt; explained = tt }
-none_helped asked (Some bytes) (Ok status) help none = record { unexplained = λ plain. none; silent = λ read. none; explained = inl none }
-none_helped asked (Some bytes) (Err e) help none = record { unexplained = λ plain. none; silent = tt; explained = inl none }
+none_helped asked (Some bytes) (Ok status) help none = record { unexplained = λ plain. none; silent = λ read clear. none; explained = plain_help asked.request bytes _ help (inl none) }
+none_helped asked (Some bytes) (Err e) help none = record { unexplained = λ plain. none; silent = tt; explained = plain_help asked.request bytes _ help (inl none) }
 
 -- the help for an input that is refused for a key
 pub refused_helped : (asked : Asked) (bytes : List ℕ) (at : ℕ) (help : List ℕ) → refused_at asked bytes ≡ Some at
-    → IsExplained asked.request bytes (Some BadShape) help → (asked.reading.explain ≡ false → help ≡ []) → IsHelp asked (Some bytes) (Err (unread_fault at)) help
+    → IsExplained asked.request bytes (Some BadShape) help → (asked.reading.explain ≡ false → help ≡ []) → IsHelp asked (Some bytes) (Err (unread_fault at)) [] help
 refused_helped asked bytes at help is explained plain =
     record {
       unexplained = plain;
       silent = tt;
-      explained = subst (λ o. IsExplained asked.request bytes (fault_explained o (Some (unread_fault at))) help) (sym is) explained;
+      explained = subst (λ o. IsExplainedWith asked.request bytes (fault_explained o (Some (unread_fault at))) [] help) (sym is) (plain_help asked.request bytes (Some BadShape) help explained);
     }
 
 -- the help for the end of the work, over an input that is not refused
 module _ (asked : Asked) (bytes : List ℕ) (fault : Option InputFault) (help : List ℕ) (unrefused : refused_at asked bytes ≡ None) (explained : IsExplained asked.request bytes fault help) where
-  explained_as : (o : Option Fault) → fault ≡ fault_told o → IsExplained asked.request bytes (fault_explained (refused_at asked bytes) o) help
+  explained_as : (o : Option Fault) → fault ≡ fault_told o → IsExplainedWith asked.request bytes (fault_explained (refused_at asked bytes) o) [] help
   explained_as o is =
-      subst (λ r. IsExplained asked.request bytes (fault_explained r o) help) (sym unrefused)
-      (subst (λ (f : Option InputFault). IsExplained asked.request bytes f help) is explained)
+      subst (λ r. IsExplainedWith asked.request bytes (fault_explained r o) [] help) (sym unrefused)
+      (subst (λ (f : Option InputFault). IsExplainedWith asked.request bytes f [] help) is (plain_help asked.request bytes fault help explained))
 
   pub worked_helped : (end : Result ℕ Fault) → fault ≡ fault_told (fault_at end) → (asked.reading.explain ≡ false → help ≡ [])
-      → (fault ≡ None → unread_in (form_of asked.request) bytes ≡ None → help ≡ []) → IsHelp asked (Some bytes) end help
-  worked_helped (Ok status) is plain silent = record { unexplained = plain; silent = λ read. silent is read; explained = explained_as None is }
+      → (fault ≡ None → unread_in (form_of asked.request) bytes ≡ None → help ≡ []) → IsHelp asked (Some bytes) end [] help
+  worked_helped (Ok status) is plain silent = record { unexplained = plain; silent = λ read clear. silent is read; explained = explained_as None is }
   worked_helped (Err e) is plain silent = record { unexplained = plain; silent = tt; explained = explained_as (Some e) is }
+
+-- help, and behind it the lines of the refused events that are known
+module _ (asked : Asked) (bytes : List ℕ) (status : ℕ) (known : List RefusedEvent) (help events all : List ℕ) (explaining : asked.reading.explain ≡ true)
+    (helped : IsHelp asked (Some bytes) (Ok status) [] help) (are : all ≡ help ++ events) (named : (events ≡ []) ⊎ NamesRefused known events) where
+  no_false : (b : Bool) → b ≡ true → b ≡ false → ⊥
+  no_false b is not = cc
+
+  none_of : (es : List ℕ) → (es ≡ []) ⊎ NamesRefused [] es → es ≡ []
+  none_of es (inl none) = none
+  none_of es (inr none) = none
+
+  silent_of : unread_in (form_of asked.request) bytes ≡ None → known ≡ [] → all ≡ []
+  silent_of read clear =
+      let no_help = helped.silent read refl in
+      let no_events = none_of events (subst (λ (k : List RefusedEvent). (events ≡ []) ⊎ NamesRefused k events) clear named) in
+      are ∙ rw (no_help, no_events) refl
+
+  explained_of : (cause : Option InputFault) → IsExplainedWith asked.request bytes cause [] help → IsExplainedWith asked.request bytes cause known all
+  explained_of cause (front, before, split, explained, told) =
+      let same : help ≡ front = split ∙ (ap (λ (es : List ℕ). front ++ es) (none_of before told) ∙ append-nil front) in
+      (front, events, are ∙ ap (λ (xs : List ℕ). xs ++ events) same, explained, named)
+
+  pub known_helped : IsHelp asked (Some bytes) (Ok status) known all
+  known_helped = record {
+    unexplained = λ not. absurd (no_false asked.reading.explain explaining not);
+    silent = silent_of;
+    explained = explained_of _ helped.explained;
+  }
 
 ends_at : (A B : Type 0) (k : TextFault) → IsEndOf (HasFailed 0 0) B k → IsEndOf A B k
 ends_at A B (Input cause) end = end

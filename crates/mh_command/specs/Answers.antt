@@ -1,5 +1,5 @@
 -- What a request is answered with.
-use Rattle.std.specs.Prelude.{◌≡◌, ◌⊎◌, ℕ, true, false, List, [], ◌++◌, Option, Some, None, Result, Ok, Err, IfOk, IfSome}
+use Rattle.std.specs.Prelude.{◌≡◌, ◌⊎◌, ℕ, false, List, [], ◌++◌, Option, Some, None, Result, Ok, Err, IfOk, IfSome}
 use Rattle.std.specs.Io.KnownBytes.{Appends, Keeps}
 use Rattle.mh_core.specs.declared.event.Event.{Event}
 use Rattle.mh_text.specs.Checks.{IsClaimFault, IsVerdict, FailsCheck, verdict_line}
@@ -10,6 +10,8 @@ use Rattle.mh_text.specs.Planning.{IsPlanned, IsProblemFault, FailsPlan}
 use Rattle.mh_text.specs.declared.streams.planning.PlanOptions.{PlanOptions}
 use Rattle.mh_text.specs.declared.streams.run.RunOptions.{RunOptions}
 use Rattle.mh_text.specs.declared.json.script.Script.{Script}
+use Rattle.mh_text.specs.Refused.{refused_behind}
+use Rattle.mh_text.specs.declared.streams.refused.RefusedEvent.{RefusedEvent}
 use Rattle.mh_text.specs.Steps.{Told, Run}
 use Rattle.mh_text.specs.declared.lines.verdict.Verdict.{Verdict}
 use Rattle.mh_text.specs.declared.fault.TextFault.TheVariants.{NoReader, WriteFailed}
@@ -19,25 +21,30 @@ use Rattle.mh_profile.specs.Inputs.{IsProfileFault}
 use Rattle.mh_profile.specs.Claims as claim
 use Rattle.mh_profile.specs.Planning as profile
 use Rattle.mh_profile.specs.declared.planning.ProfileOptions.{ProfileOptions}
-use Rattle.mh_command.specs.Readings.{fault_explained, form_of, refused_at, unread_fault, unread_in, IsExplained, IsRefusal}
+use Rattle.mh_command.specs.Readings.{fault_explained, form_of, refused_at, unread_fault, unread_in, IsExplainedWith, IsRefusal}
 use Rattle.mh_command.specs.Statuses.{status_found}
 use Rattle.mh_command.specs.Streams.{IsCut, IsTold}
 use Rattle.mh_command.specs.declared.request.Asked.{Asked}
 use Rattle.mh_command.specs.declared.request.Request.{Request}
 use Rattle.mh_command.specs.declared.request.Request.TheVariants as request
 
--- the status, what is written to the output, and the fault whose line is written to the stream of errors
+-- the status, what is written to the output, the fault whose line is written to the stream of errors, and the events of a run
+-- that were refused
 pub record Answer : Type 0 where
   pub status : ℕ
   pub output : List ℕ
   pub fault : Option Fault
+  pub refused : List RefusedEvent
+
+abbrev pub answered : ℕ → List ℕ → List RefusedEvent → Answer
+answered status text refused = record { status = status; output = text; fault = None; refused = refused }
 
 abbrev pub output_alone : ℕ → List ℕ → Answer
-output_alone status text = record { status = status; output = text; fault = None }
+output_alone status text = answered status text []
 
 -- the line of a fault of the input
 abbrev pub turned_down : Fault → Answer
-turned_down e = record { status = 1; output = []; fault = Some e }
+turned_down e = record { status = 1; output = []; fault = Some e; refused = [] }
 
 -- the line of a fault, where there is one
 abbrev pub errors_of : Option Fault → List ℕ
@@ -48,7 +55,8 @@ errors_of (Some e) = fault_line e
 abbrev pub IsRunAnswer : RunOptions → List ℕ → Answer → Type 0
 IsRunAnswer options input answer =
     ((script : Script) × (replies : List Told) × (last : List Event) × (script_of_input input ≡ Ok script)
-    × Run (first script).setting (first script).history script.steps replies last × (answer ≡ output_alone 0 (run_text options (first script).setting replies last)))
+    × Run (first script).setting (first script).history script.steps replies last
+    × (answer ≡ answered 0 (run_text options (first script).setting replies last) (refused_behind 0 replies)))
     ⊎ ((e : Fault) × IsScriptFault input e × (answer ≡ turned_down e))
 
 -- a problem with a plan: the line of what is found of the plan; else the first fault
@@ -108,32 +116,40 @@ IsAnswerUnless None request input answer = IsAnswerOf request input answer
 abbrev pub IsAnswerTo : Asked → List ℕ → Answer → Type 0
 IsAnswerTo asked input answer = IsAnswerUnless (refused_at asked input) asked.request input answer
 
--- What `--explain` writes behind the fault of an answer: nothing where it is not asked for, nor where the input is accepted and
--- each of its keys is read; and else what explains that fault, with the notes of keys, unless memory ran out.
-pub record IsBeside (asked : Asked) (input : List ℕ) (fault : Option Fault) (help : List ℕ) : Type 0 where
+-- What `--explain` writes behind the fault of an answer: nothing where it is not asked for, nor where the input is accepted, each
+-- of its keys is read and no event is refused; and else what explains that fault, the notes of keys, and what explains the refused
+-- events, unless memory ran out.
+pub record IsBeside (asked : Asked) (input : List ℕ) (answer : Answer) (help : List ℕ) : Type 0 where
   pub unexplained : asked.reading.explain ≡ false → help ≡ []
-  pub silent : fault ≡ None → unread_in (form_of asked.request) input ≡ None → help ≡ []
-  pub explained : IsExplained asked.request input (fault_explained (refused_at asked input) fault) help
+  pub silent : answer.fault ≡ None → unread_in (form_of asked.request) input ≡ None → answer.refused ≡ [] → help ≡ []
+  pub explained : IsExplainedWith asked.request input (fault_explained (refused_at asked input) answer.fault) answer.refused help
 
 -- The status is that of such an answer to the input, and its texts were appended to both streams.
 abbrev pub Answers : Asked → Option (List ℕ) → ℕ → Option (List ℕ) → Option (List ℕ) → Option (List ℕ) → Option (List ℕ) → Type 0
 Answers asked input status output_old output_new errors_old errors_new =
-    IfSome input (λ bytes. (answer : Answer) × (help : List ℕ) × IsAnswerTo asked bytes answer × IsBeside asked bytes answer.fault help
+    IfSome input (λ bytes. (answer : Answer) × (help : List ℕ) × IsAnswerTo asked bytes answer × IsBeside asked bytes answer help
     × (answer.status ≡ status) × Appends output_old output_new answer.output × Appends errors_old errors_new (errors_of answer.fault ++ help))
 
 -- the input is turned down for something that is asked
 abbrev pub IsTurnedDown : List ℕ → Type 0
 IsTurnedDown bytes = (asked : Asked) × (answer : Answer) × IsAnswerTo asked bytes answer × (answer.status ≡ 1)
 
--- The work of a request gives this status and nothing for the stream of errors, and its text was appended to the output.
-abbrev pub WorksOn : Request → Option (List ℕ) → Option (List ℕ) → Option (List ℕ) → ℕ → Type 0
-WorksOn request input old new status =
-    IfSome input (λ bytes. (text : List ℕ) × IsAnswerOf request bytes (output_alone status text) × Appends old new text)
+-- all of the refused events are known, or none of them
+abbrev pub AreKnown : List RefusedEvent → List RefusedEvent → Type 0
+AreKnown refused known = (known ≡ []) ⊎ (known ≡ refused)
 
--- the same of what is asked
-abbrev pub Works : Asked → Option (List ℕ) → Option (List ℕ) → Option (List ℕ) → ℕ → Type 0
-Works asked input old new status =
-    IfSome input (λ bytes. (text : List ℕ) × IsAnswerTo asked bytes (output_alone status text) × Appends old new text)
+-- The work of a request gives this status and nothing for the stream of errors, its text was appended to the output, and these of
+-- its refused events are known.
+abbrev pub WorksOn : Request → Option (List ℕ) → List RefusedEvent → Option (List ℕ) → Option (List ℕ) → ℕ → Type 0
+WorksOn request input known old new status =
+    IfSome input (λ bytes. (text : List ℕ) × (refused : List RefusedEvent) × IsAnswerOf request bytes (answered status text refused)
+    × AreKnown refused known × Appends old new text)
+
+-- what is asked gives all this
+abbrev pub Works : Asked → Option (List ℕ) → List RefusedEvent → Option (List ℕ) → Option (List ℕ) → ℕ → Type 0
+Works asked input known old new status =
+    IfSome input (λ bytes. (text : List ℕ) × (refused : List RefusedEvent) × IsAnswerTo asked bytes (answered status text refused)
+    × AreKnown refused known × Appends old new text)
 
 -- What the output is left with where a stress ends in a fault; that no reader could be made is told of a script alone.
 abbrev pub FailsAsStress : StressOptions → Option (List ℕ) → Option (List ℕ) → Option (List ℕ) → Type 0 → Type 0 → Fault → Type 0
@@ -149,44 +165,45 @@ FailsOn (request.Plan options) = FailsPlan options
 FailsOn (request.Stress options) = FailsAsStress options
 FailsOn (request.Profile options) = profile.FailsPlan options
 
--- The same of what is asked: before the work, with nothing written; or in the work, for which the input is then not refused.
+-- What ends what is asked in a fault: before the work, with nothing written; or in the work, for which the input is then not refused.
 abbrev pub FailsIn : Asked → Option (List ℕ) → Option (List ℕ) → Option (List ℕ) → Type 0 → Type 0 → Fault → Type 0
 FailsIn asked input old new ReadHasFailed WriteHasFailed e =
     (Keeps old new × IsUnread (IsRefusal asked) input ReadHasFailed e)
     ⊎ (IfSome input (λ bytes. refused_at asked bytes ≡ None) × FailsOn asked.request input old new ReadHasFailed WriteHasFailed e)
 
--- What is asked ends in a fault: its own; or that of the last flush, and the whole answer is then written.
-abbrev pub EndsIn : Asked → Option (List ℕ) → Option (List ℕ) → Option (List ℕ) → Type 0 → Type 0 → Fault → Type 0
-EndsIn asked input old new ReadHasFailed WriteHasFailed e =
-    FailsIn asked input old new ReadHasFailed WriteHasFailed e
-    ⊎ ((e ≡ outside WriteFailed) × WriteHasFailed × ((status : ℕ) × Works asked input old new status))
+-- What is asked ends in a fault: its own, and no event is known to be refused; or that of the last flush, and the whole answer is
+-- then written.
+abbrev pub EndsIn : Asked → Option (List ℕ) → List RefusedEvent → Option (List ℕ) → Option (List ℕ) → Type 0 → Type 0 → Fault → Type 0
+EndsIn asked input known old new ReadHasFailed WriteHasFailed e =
+    (FailsIn asked input old new ReadHasFailed WriteHasFailed e × (known ≡ []))
+    ⊎ ((e ≡ outside WriteFailed) × WriteHasFailed × ((status : ℕ) × Works asked input known old new status))
 
 -- the fault of an end
 abbrev pub fault_at : Result ℕ Fault → Option Fault
 fault_at (Ok status) = None
 fault_at (Err e) = Some e
 
--- What is told beside an end over an input: nothing where nothing is explained, nor where the input is accepted and each of its
--- keys is read; and else what explains its fault.
-pub record IsHelp (asked : Asked) (input : Option (List ℕ)) (end : Result ℕ Fault) (help : List ℕ) : Type 0 where
+-- The help of an end over an input, of whose run these events are known to be refused: nothing where nothing is explained, nor
+-- where the input is accepted, each of its keys is read and there are none of these; and else what explains its fault and these.
+pub record IsHelp (asked : Asked) (input : Option (List ℕ)) (end : Result ℕ Fault) (known : List RefusedEvent) (help : List ℕ) : Type 0 where
   pub unexplained : asked.reading.explain ≡ false → help ≡ []
-  pub silent : IfOk end (λ status. IfSome input (λ bytes. unread_in (form_of asked.request) bytes ≡ None → help ≡ []))
-  pub explained : IfSome input (λ bytes. IsExplained asked.request bytes (fault_explained (refused_at asked bytes) (fault_at end)) help)
+  pub silent : IfOk end (λ status. IfSome input (λ bytes. unread_in (form_of asked.request) bytes ≡ None → known ≡ [] → help ≡ []))
+  pub explained : IfSome input (λ bytes. IsExplainedWith asked.request bytes (fault_explained (refused_at asked bytes) (fault_at end)) known help)
 
 -- What is asked over an input, from the output o to n and from the errors e to f. The numbers are the failures of the errors.
 module _ (asked : Asked) (input o n : Option (List ℕ)) (ReadHasFailed WriteHasFailed : Type 0) (e f : Option (List ℕ)) (failures_old failures_new : ℕ) where
   -- it ends in a fault, which is told with what explains it, or that was kept back
   abbrev pub IsTurnedAway : ℕ → Type 0
   IsTurnedAway status =
-      (fault : Fault) × EndsIn asked input o n ReadHasFailed WriteHasFailed fault
-      × ((help : List ℕ) × IsHelp asked input (Err fault) help × IsTold e f failures_old failures_new help status fault)
+      (fault : Fault) × (known : List RefusedEvent) × EndsIn asked input known o n ReadHasFailed WriteHasFailed fault
+      × ((help : List ℕ) × IsHelp asked input (Err fault) known help × IsTold e f failures_old failures_new help status fault)
 
-  -- its whole answer is written, and a part of what is told beside it was kept back
+  -- its whole answer is written, and a part of its help was kept back
   abbrev pub IsCutBeside : ℕ → Type 0
   IsCutBeside status =
-      (status ≡ 3) × ((found : ℕ) × Works asked input o n found
-      × ((help : List ℕ) × IsHelp asked input (Ok found) help × IsCut e f failures_old failures_new help))
+      (status ≡ 3) × ((found : ℕ) × (known : List RefusedEvent) × Works asked input known o n found
+      × ((help : List ℕ) × IsHelp asked input (Ok found) known help × IsCut e f failures_old failures_new help))
 
-  -- it has no answer: it ends in a fault that is told, or a part of what is told beside its answer was kept back
+  -- it has no answer: it ends in a fault that is told, or a part of the help of its answer was kept back
   abbrev pub IsStopped : ℕ → Type 0
   IsStopped status = IsTurnedAway status ⊎ IsCutBeside status

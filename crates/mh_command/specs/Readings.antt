@@ -7,7 +7,9 @@ use Rattle.mh_text.specs.declared.fault.InputFault.{InputFault}
 use Rattle.mh_text.specs.declared.fault.InputFault.TheVariants.{BadShape, UnknownPoint}
 use Rattle.mh_text.specs.declared.fault.TextFault.{TextFault}
 use Rattle.mh_text.specs.declared.fault.TextFault.TheVariants.{Input, ReadFailed, WriteFailed, NoReader}
+use Rattle.mh_text.specs.declared.streams.refused.RefusedEvent.{RefusedEvent}
 use Rattle.mh_explain.specs.Explanations.{Explains}
+use Rattle.mh_explain.specs.Refused.{NamesRefused}
 use Rattle.mh_explain.specs.Unread.{first_unread}
 use Rattle.mh_text.specs.declared.json.form.InputForm.{InputForm}
 use Rattle.mh_text.specs.declared.json.form.InputForm.TheVariants.{Script, Problem, Claim}
@@ -95,3 +97,8 @@ abbrev pub IsExplained : Request → List ℕ → Option InputFault → List ℕ
 IsExplained request input fault help =
     (help ≡ [])
     ⊎ ((lines notes : List ℕ) × (help ≡ lines ++ notes) × ExplainsFault request input fault lines × (unread_in (form_of request) input ≡ None → notes ≡ []))
+
+-- Such lines, and behind them those of the events of a run that were refused; or none of these, where memory ran out for them.
+abbrev pub IsExplainedWith : Request → List ℕ → Option InputFault → List RefusedEvent → List ℕ → Type 0
+IsExplainedWith request input fault refused help =
+    (front events : List ℕ) × (help ≡ front ++ events) × IsExplained request input fault front × ((events ≡ []) ⊎ NamesRefused refused events)

@@ -10,10 +10,10 @@ ghost use Rattle.mh_command.specs.Statuses.{status_answered};
 ghost use Rattle.mh_command.specs.Streams.{IsShown};
 ghost use Rattle.mh_command.specs.declared.request.Asked.{Asked};
 
-use crate::answering::{end, reply};
+use crate::answer::{end, reply};
 use crate::request::{Asked, parse};
 use crate::status::COMMAND_LINE;
-use crate::working::work_asked;
+use crate::work::work_asked;
 use mh_text::Watched;
 use std::alloc::Global;
 use std::convert::AsStr;
@@ -54,7 +54,7 @@ fn perform<T: Threads + Wait + Sync, R: Read, W: Write, E: Write>(
     end(alloc, &outcome, out, err)
 }
 
-/// Runs one command line, of which the first word is the program's name, and answers the status.
+/// Runs one command line, whose first word is the program's name, and returns the status.
 ///
 /// `mhlink run` reads a script from `reader`, and writes the line of each reply to `out`; it takes
 /// `--report`. `mhlink check` reads a problem and a plan, and writes to `out` whether the plan is
@@ -71,10 +71,11 @@ fn perform<T: Threads + Wait + Sync, R: Read, W: Write, E: Write>(
 /// read whole first, and the line of a fault is followed on `err` by lines that explain it. They
 /// say where it is and why (see `mh_explain::explanation`), and behind them stand those of the keys
 /// that nothing reads (see `mh_explain::unread_keys`), which are also written where the input is
-/// accepted. Of a profile they say what the line that has the fault has there and why it is one,
-/// and no key of it is looked at. With `--strict` an input with a key that nothing reads is refused
-/// before anything runs, by the fault `BadShape` in the event of the first one, or at 0; with
-/// `check --profile` it says nothing.
+/// accepted; and last, of a run that refuses events, those that say which of their tests failed (see
+/// `mh_explain::explanation_of_refused`). Of a profile they say what the line that has the fault has
+/// there and why it is one, and no key of it is looked at. With `--strict` an input with a key that
+/// nothing reads is refused before anything runs, by the fault `BadShape` in the event of the first
+/// one, or at 0; with `check --profile` it says nothing.
 ///
 /// The statuses: 0 done, also help and the version, which go to `out`; 1 the input is refused, or its
 /// plan; 2 the command line is wrong, and nothing is read; 3 a read, a write or a flush failed; 4

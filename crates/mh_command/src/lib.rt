@@ -6,19 +6,20 @@
 //! ```
 #![tactic(auto)]
 
-mod answering;
+mod answer;
 mod command_line;
+mod findings;
 mod flags;
 mod line_reasons;
-mod reading;
+mod options;
 mod request;
 mod status;
-mod working;
+mod work;
 
 pub use command_line::command;
 pub use mh_profile::ProfileOptions;
 pub use mh_stress::StressOptions;
 pub use mh_text::{PlanOptions, RunOptions, Watched};
-pub use reading::Reading;
+pub use options::Reading;
 pub use request::{Asked, Request};
 pub use status::{COMMAND_LINE, DONE, IO_FAILED, NO_MEMORY, REFUSED};

@@ -10,11 +10,11 @@ ghost use Rattle.mh_stress.specs.declared.stress.StressOptions.{StressOptions};
 ghost use Rattle.mh_command.specs.CommandLine.{root_app, plain_app, further_app, run_app, check_app, plan_app, stress_app, profile_app, program, workers_rule, callers_rule, rounds_rule, AreOptions, AreProfiled, AreStressed, AreWorkers, AsksFor, AsksNoExplanation, IsOfProfile, IsReadFor, IsReported, IsRequest, IsNamed, HasWorkers, SaysNoExplanation};
 ghost use Rattle.mh_command.specs.Readings.{form_of, refused_at};
 ghost use Rattle.mh_profile.specs.declared.planning.ProfileOptions.{ProfileOptions};
-ghost use Rattle.mh_command.specs.declared.reading.Reading.{Reading};
+ghost use Rattle.mh_command.specs.declared.options.Reading.{Reading};
 ghost use Rattle.mh_command.specs.declared.request.Asked.{Asked};
 
 use crate::flags::{flag, with_option};
-use crate::reading::{Reading, plain_reading_of, reading_of, with_explain, with_reading};
+use crate::options::{Reading, plain_reading_of, reading_of, with_explain, with_reading};
 use clap::{Arg, ArgMatches, Command, Error, value_parser};
 use mh_explain::InputForm;
 use mh_profile::ProfileOptions;
@@ -69,6 +69,19 @@ impl Asked {
     {
         !self.reading.is_plain()
     }
+
+    /// What its input is read as before the work, for its fault to be explained.
+    pub(crate) fn explained_form(self) -> Option<InputForm>
+        ensures form { IfSome result (λ form. form_of self.request ≡ Some form) }
+        ensures explained { IfSome result (λ _. self.reading.explain ≡ true) }
+        ensures none { result ≡ None → self.reading.explain ≡ true → form_of self.request ≡ None }
+    {
+        if self.reading.explain {
+            self.request.form()
+        } else {
+            None
+        }
+    }
 }
 
 /// What `mhlink --help` ends with.
@@ -93,7 +106,7 @@ const AFTER_RUN: &str = "\
 Reads a script from standard input: a JSON object with a definition (points, shared
 trees, sites), a number of workers, and events. Each event gets one line on standard
 output. A fault in the script runs nothing, and is one line on standard error, behind
-which --explain says where it is and why.
+which --explain says where it is and why, as it does of each event that is refused.
 
 Example:
   mhlink run --explain --report < examples/first-calls.json";
@@ -145,6 +158,7 @@ fn check_command<'a>(alloc: Global) -> Result<Command<'a>, AllocError>
 {
     let command = Command::new(alloc, "check")
         .about("Checks the plan on standard input beside its problem")
+        .override_usage("mhlink check [OPTIONS] < FILE")
         .after_help(AFTER_CHECK);
     let profile = flag(
         alloc,
@@ -174,6 +188,7 @@ fn run_command<'a>(alloc: Global) -> Result<Command<'a>, AllocError>
 {
     let command = Command::new(alloc, "run")
         .about("Runs the script on standard input, and writes a line for each event")
+        .override_usage("mhlink run [OPTIONS] < FILE")
         .after_help(AFTER_RUN);
     let command = with_reading(alloc, command)?;
     let report = flag(
@@ -190,6 +205,7 @@ fn plan_command<'a>(alloc: Global) -> Result<Command<'a>, AllocError>
 {
     let command = Command::new(alloc, "plan")
         .about("Plans the problem on standard input, and writes the line of its plan")
+        .override_usage("mhlink plan [OPTIONS] < FILE")
         .after_help(AFTER_PLAN);
     let certificate = flag(
         alloc,
@@ -239,6 +255,7 @@ fn stress_command<'a>(alloc: Global) -> Result<Command<'a>, AllocError>
 {
     let command = Command::new(alloc, "stress")
         .about("Runs the calls of the script on standard input in threads, and adds them up")
+        .override_usage("mhlink stress [OPTIONS] < FILE")
         .after_help(AFTER_STRESS);
     let report = flag(
         alloc,
@@ -258,6 +275,7 @@ fn profile_command<'a>(alloc: Global) -> Result<Command<'a>, AllocError>
 {
     let command = Command::new(alloc, "profile")
         .about("Plans the profile on standard input, and writes what becomes of each name")
+        .override_usage("mhlink profile [OPTIONS] < FILE")
         .after_help(AFTER_PROFILE);
     let certificate = flag(
         alloc,
@@ -461,8 +479,8 @@ fn asked_of(matches: &ArgMatches) -> Option<Asked>
     })
 }
 
-/// What the words ask for, of which the first is the program's name, or what they are answered
-/// with.
+/// What the words of a command line ask for, the first of which is the program's name, or what
+/// they are answered with.
 pub(crate) fn parse<S: AsStr>(alloc: Global, words: &[S]) -> Result<Option<Asked>, Error>
     ensures asked { IfOk result (λ found. (asked : Asked)
         → AsksFor asked (map S.text words.now) → found ≡ Some asked) }

@@ -2,14 +2,16 @@
 #![tactic(auto)]
 
 mod progress;
+mod prompt;
 
 use crate::progress::Progress;
+use crate::prompt::Prompt;
 use mh_command::{COMMAND_LINE, NO_MEMORY, Watched, command};
 use std::io::{BufWriter, ErrorKind, IsTerminal};
 use std::process::ExitCode;
 use std::{env, io};
 
-/// Whether the words ask for a profile, of which the first is the program's name.
+/// Whether the words, the first of which is the program's name, ask for a profile.
 fn asks_profile(words: &[String]) -> bool {
     matches!(words.get(1), Some(word) if word.as_str() == "profile")
 }
@@ -30,8 +32,10 @@ fn main(rt: HostRuntime) -> io::Result<ExitCode> {
         return Ok(ExitCode::from(NO_MEMORY));
     };
     let (input, errors) = (rt.stdin(), rt.stderr());
-    let shows = asks_profile(&words) && errors.is_terminal() && !input.is_terminal();
-    let mut reader = Watched::new(Progress::new(&rt, input, errors, shows));
+    let (is_typed, is_seen) = (input.is_terminal(), errors.is_terminal());
+    let shows = asks_profile(&words) && is_seen && !is_typed;
+    let progress = Progress::new(&rt, input, errors, shows);
+    let mut reader = Watched::new(Prompt::new(progress, rt.stderr(), is_seen && is_typed));
     let mut out = Watched::new(out);
     let mut err = Watched::new(rt.stderr());
     let status = command(

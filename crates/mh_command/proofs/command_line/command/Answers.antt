@@ -55,7 +55,7 @@ pub returns-in-Err-clause-stopped : goal.returns-in-Err-clause-stopped
 returns-in-Err-clause-stopped g c = λ asked is large.
     let memory = c.reply.ensures.memory (c.in-Err.ensures.taken asked is) in
     let told = nothing_told asked (g.R.Read.remaining c.args.reader.now.inner) (outside no_memory) in
-    rw (memory.1, memory.2) (inl (outside no_memory, inl (nothing_done asked _ _ _ _), ([], told, inr (inr (memory.0, (Keeps-refl _, refl))))))
+    rw (memory.1, memory.2) (inl (outside no_memory, [], inl (nothing_done asked _ _ _ _, refl), ([], told, inr (inr (memory.0, (Keeps-refl _, refl))))))
 
 pub returns-in-Err-clause-replied : goal.returns-in-Err-clause-replied
 returns-in-Err-clause-replied g c = λ kind faulty. (

@@ -1,6 +1,6 @@
 use Rattle.std.proofs.Common.{true, false, codes}
 use Rattle.clap.specs.Words.{found_of}
-use Rattle.mh_command.proofs.Options.{word_is}
+use Rattle.mh_command.proofs.OptionWords.{word_is}
 use Rattle.mh_command.proofs.request.check_of.Goals as goal
 
 pub returns-then-get_flag-clause-plan : goal.returns-then-get_flag-clause-plan

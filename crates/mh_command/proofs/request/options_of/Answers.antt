@@ -1,6 +1,6 @@
 use Rattle.std.proofs.Common.{◌≡◌, codes, refl}
 use Rattle.clap.specs.Words.{found_of}
-use Rattle.mh_command.proofs.Options.{word_is}
+use Rattle.mh_command.proofs.OptionWords.{word_is}
 use Rattle.mh_command.proofs.request.options_of.Goals as goal
 
 pub returns-in_err-workers_of-clause-value : goal.returns-in_err-workers_of-clause-value

@@ -1,6 +1,6 @@
 use Rattle.std.proofs.Common.{refl}
 use Rattle.clap.specs.Words.{found_of}
-use Rattle.mh_command.proofs.Options.{report_is}
+use Rattle.mh_command.proofs.OptionWords.{report_is}
 use Rattle.mh_command.proofs.request.run_options_of.Goals as goal
 
 pub returns : goal.returns

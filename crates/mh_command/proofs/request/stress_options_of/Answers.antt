@@ -3,7 +3,7 @@ use Rattle.std.specs.Str.Parse.{ParsesUnsigned, ExplainsUnsignedError, HasUnsign
 use Rattle.clap.specs.Words.{found_of}
 use Rattle.mh_stress.specs.Stress.{AreLawful}
 use Rattle.mh_stress.specs.declared.stress.StressOptions.{StressOptions}
-use Rattle.mh_command.proofs.Options.{callers_are, rounds_are, tables_are}
+use Rattle.mh_command.proofs.OptionWords.{callers_are, rounds_are, tables_are}
 use Rattle.mh_command.proofs.request.stress_options_of.Goals as goal
 
 pub returns-in_err-rounds-clause-value : goal.returns-in_err-rounds-clause-value

@@ -1,7 +1,7 @@
 use Rattle.std.proofs.Common.{◌≡◌, ◌∙◌, ap, inl, inr, arith, Some, ℕ}
 use Rattle.std.specs.Str.Parse.{ParsesUnsigned, ExplainsUnsignedError, HasUnsignedDigitsIfOk}
 use Rattle.clap.specs.Words.{found_of}
-use Rattle.mh_command.proofs.Options.{planners_are}
+use Rattle.mh_command.proofs.OptionWords.{planners_are}
 use Rattle.mh_command.proofs.request.workers_of.Goals as goal
 
 pub returns-in_err-workers-clause-value : goal.returns-in_err-workers-clause-value

@@ -1,0 +1,31 @@
+use Rattle.std.proofs.Common.{◌≡◌, ◌⊎◌, List, ℕ, Some, Result, Ok, Err, IfErr, [], subst, sym}
+use Rattle.std.specs.Prelude.{string_bytes}
+use Rattle.mh_text.specs.Bytes.{HasFailed}
+use Rattle.mh_text.specs.declared.fault.Fault.{Fault}
+use Rattle.mh_text.specs.declared.streams.refused.RefusedEvent.{RefusedEvent}
+use Rattle.mh_explain.specs.Refused.{NamesRefused}
+use Rattle.mh_command.specs.Answers.{FailsIn}
+use Rattle.mh_command.proofs.Found.{found_fails, none_helps}
+use Rattle.mh_command.proofs.Works.{known_helped}
+use Rattle.mh_command.proofs.work.work_explained.Goals as goal
+
+pub returns-in-Some-clause-fails : goal.returns-in-Some-clause-fails
+returns-in-Some-clause-fails g c =
+    let old = g.W.Write.contents c.args.out.now.inner in
+    let B = HasFailed c.args.out.now.failures c.args.out.now.failures in
+    subst (λ (r : Result ℕ Fault). IfErr r (FailsIn c.args.asked (Some c.args.input.now) old old ⊥ B)) (sym c.beside.ensures.end)
+    (found_fails c.args.asked c.args.input.now _ _ c.findings_of-fault.ensures.findings c.in-Some.fault old ⊥ B c.in-Some.is)
+
+pub returns-in-Ok-clause-help : goal.returns-in-Ok-clause-help
+returns-in-Ok-clause-help g c =
+    let bytes = c.args.input.now in
+    let refused = c.in-Ok.field-0.refused.items in
+    let helped = none_helps c.args.asked bytes _ _ c.findings_of-fault.ensures.findings (Ok c.in-Ok.field-0.status) c.in_default.is in
+    let (events, is, named) = c.with_refused.ensures.value in
+    let known = subst (λ (k : List RefusedEvent). (events ≡ []) ⊎ NamesRefused k events) c.as_slice.ensures.value named in
+    known_helped c.args.asked bytes c.in-Ok.field-0.status refused (string_bytes c.findings_of-fault.result.help) events (string_bytes c.with_refused.result) c.requires.explained helped is known
+
+pub returns-in-Err-clause-help : goal.returns-in-Err-clause-help
+returns-in-Err-clause-help g c =
+    let helped = none_helps c.args.asked c.args.input.now _ _ c.findings_of-fault.ensures.findings (Err c.in-Err.fault) c.in_default.is in
+    rw (c.beside-in-Err.ensures.end, c.beside-in-Err.ensures.clear, c.beside-in-Err.ensures.help) helped

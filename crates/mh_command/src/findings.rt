@@ -1,0 +1,217 @@
+//! What is found of an input before the work over it: its first fault, what explains that, and the
+//! keys that nothing reads.
+ghost use Rattle.std.specs.Prelude.{◌≡◌, ◌⊎◌, ◌≤◌, ◌^◌, [], List, ℕ, Ok, Some, if◌then◌else◌, length, nat_lt, None, option_map, string_bytes, true, IfOk};
+ghost use Rattle.serde_json.specs.View.{view};
+ghost use Rattle.mh_text.specs.Bytes.{most_bytes};
+ghost use Rattle.mh_text.specs.Gives.{no_memory};
+ghost use Rattle.mh_text.specs.Inputs.{json_of_input};
+ghost use Rattle.mh_text.specs.Output.{outside};
+ghost use Rattle.mh_text.specs.declared.fault.InputFault.TheVariants.{NoMemory as out_of_memory};
+ghost use Rattle.mh_text.specs.declared.fault.TextFault.TheVariants.{Input};
+ghost use Rattle.mh_explain.specs.Explanations.{misread_of};
+ghost use Rattle.mh_explain.specs.Unread.{first_unread_in};
+ghost use Rattle.mh_command.specs.Findings.{event_of as number_of_event, fault_in, first_refused, AreFindings, IsExplainedIn, IsFaultBefore};
+ghost use Rattle.mh_command.specs.Readings.{form_of, unread_fault as fault_unread};
+
+use crate::request::Asked;
+use mh_core::NoMemory;
+use mh_explain::{
+    FaultyPart, InputForm, UnreadKeys, explanation_of_part, explanation_of_text, faulty_part,
+    unread_keys_in,
+};
+use mh_text::readers::parse_json;
+use mh_text::{Fault, Field, InputFault, Key, Misread, TextFault};
+use serde_json::Value;
+use std::alloc::Global;
+
+/// What is found of an input before the work over it.
+#[derive(Drop)]
+pub(crate) struct Findings {
+    /// The fault for which the work is not begun, if there is one.
+    pub(crate) fault: Option<Fault>,
+    /// The lines that explain it, and then those of the keys that nothing reads.
+    pub(crate) help: String,
+}
+
+impl Findings {
+    /// Memory ran out.
+    fn out_of_memory(alloc: Global) -> Findings
+        ensures fault { result.fault ≡ Some (outside no_memory) }
+        ensures alone { string_bytes result.help ≡ [] }
+    {
+        Findings {
+            fault: Some(Fault::from(InputFault::NoMemory)),
+            help: String::new(alloc),
+        }
+    }
+}
+
+/// The fault of a key that nothing reads, in the event of this number, or outside the events at 0.
+pub(crate) fn unread_fault(at: u64) -> Fault
+    ensures value { result ≡ fault_unread at }
+{
+    Fault {
+        kind: TextFault::Input(InputFault::BadShape),
+        at,
+    }
+}
+
+/// The number of the event that keys lead into, from 1, or 0 where they lead into none; none where
+/// it is 2^64, which no list has.
+fn event_of(path: &[Key]) -> Option<u64>
+    ensures value { result ≡ (if nat_lt (number_of_event path.now) (2 ^ 64)
+        then Some (number_of_event path.now) else None) }
+{
+    match path {
+        [Key::Member(Field::Events), Key::Item(item), ..] => (*item as u64).checked_add(1),
+        _ => Some(0),
+    }
+}
+
+/// The fault of a part of an input, with the number of its event.
+fn fault_of(part: &FaultyPart) -> Fault
+    ensures value { (result ≡ outside no_memory) ⊎ (result ≡ fault_in (misread_of part.now)) }
+{
+    match event_of(part.path.as_slice()) {
+        Some(at) => Fault {
+            kind: TextFault::Input(part.fault),
+            at,
+        },
+        None => Fault::from(InputFault::NoMemory),
+    }
+}
+
+/// Where the first key stands that nothing reads, if the input is refused for it.
+fn refused_for(asked: Asked, unread: &UnreadKeys) -> Option<u64>
+    ensures value { result ≡ first_refused asked unread.now.first }
+{
+    if asked.reading.strict {
+        unread.first
+    } else {
+        None
+    }
+}
+
+/// The fault for which the work is not begun: that of a key that nothing reads, where the input is
+/// refused for it, and else that of a part that could not be read.
+fn fault_before(refused: Option<u64>, part: &Option<FaultyPart>) -> Option<Fault>
+    ensures value { IsFaultBefore refused (option_map misread_of part.now)
+        result }
+{
+    match (refused, part) {
+        (Some(at), _) => Some(unread_fault(at)),
+        (None, Some(part)) => Some(fault_of(part)),
+        (None, None) => None,
+    }
+}
+
+/// The lines of the keys that nothing reads.
+fn notes(unread: &UnreadKeys) -> &str
+    ensures silent { unread.now.first ≡ None → result.now ≡ [] }
+{
+    match unread.first {
+        Some(_) => unread.notes.as_str(),
+        None => "",
+    }
+}
+
+/// The lines that explain the fault of a part of an input, where one has a fault, and then those of
+/// the keys that nothing reads.
+fn explain(
+    alloc: Global,
+    form: InputForm,
+    value: &Value,
+    part: &Option<FaultyPart>,
+    unread: &UnreadKeys,
+) -> Result<String, NoMemory>
+    ensures explained { IfOk result (λ help. IsExplainedIn
+        (option_map misread_of part.now) unread.now.first
+        (string_bytes help)) }
+{
+    let mut help = explanation_of_part(alloc, form, value, part)?;
+    help.push_str(notes(unread))?;
+    Ok(help)
+}
+
+/// The same, and nothing where memory runs out.
+fn help_in(
+    alloc: Global,
+    form: InputForm,
+    value: &Value,
+    part: &Option<FaultyPart>,
+    unread: &UnreadKeys,
+) -> String
+    ensures explained { IsExplainedIn (option_map misread_of part.now)
+        unread.now.first (string_bytes result) }
+{
+    match explain(alloc, form, value, part, unread) {
+        Ok(help) => help,
+        Err(NoMemory) => String::new(alloc),
+    }
+}
+
+/// What is found of an input that is this value of JSON, in which these keys are read by nothing.
+fn findings_beside(
+    alloc: Global,
+    asked: Asked,
+    form: InputForm,
+    value: &Value,
+    unread: &UnreadKeys,
+) -> Findings
+    requires formed { form_of asked.request ≡ Some form }
+    requires explained { asked.reading.explain ≡ true }
+    requires unread { unread.now.first ≡ first_unread_in form (view value.now) }
+    ensures findings { (bytes : List ℕ) → json_of_input bytes ≡ Ok (view value.now)
+        → AreFindings asked bytes result.fault (string_bytes result.help) }
+{
+    match faulty_part(alloc, form, value) {
+        Ok(part) => Findings {
+            fault: fault_before(refused_for(asked, unread), &part),
+            help: help_in(alloc, form, value, &part, unread),
+        },
+        Err(NoMemory) => Findings::out_of_memory(alloc),
+    }
+}
+
+/// What is found of an input that is this value of JSON.
+fn findings_in(alloc: Global, asked: Asked, form: InputForm, value: &Value) -> Findings
+    requires formed { form_of asked.request ≡ Some form }
+    requires explained { asked.reading.explain ≡ true }
+    ensures findings { (bytes : List ℕ) → json_of_input bytes ≡ Ok (view value.now)
+        → AreFindings asked bytes result.fault (string_bytes result.help) }
+{
+    match unread_keys_in(alloc, form, value) {
+        Ok(unread) => findings_beside(alloc, asked, form, value, &unread),
+        Err(NoMemory) => Findings::out_of_memory(alloc),
+    }
+}
+
+/// What is found of an input that is no JSON, which was misread so.
+fn findings_of_text(alloc: Global, input: &[u8], misread: Misread) -> Findings
+    ensures fault { result.fault ≡ Some (outside (Input misread.fault)) }
+    ensures memory { misread.fault ≡ out_of_memory → string_bytes result.help ≡ [] }
+{
+    let fault = misread.fault();
+    let help = match explanation_of_text(alloc, input, misread) {
+        Ok(help) => help,
+        Err(NoMemory) => String::new(alloc),
+    };
+    Findings {
+        fault: Some(Fault::from(fault)),
+        help,
+    }
+}
+
+/// What is found of an input that is read as a form: it is parsed once, and then read once, up to
+/// its first fault.
+pub(crate) fn findings_of(alloc: Global, asked: Asked, form: InputForm, input: &[u8]) -> Findings
+    requires formed { form_of asked.request ≡ Some form }
+    requires explained { asked.reading.explain ≡ true }
+    requires short { length input.now ≤ most_bytes }
+    ensures findings { AreFindings asked input.now result.fault (string_bytes result.help) }
+{
+    match parse_json(alloc, input) {
+        Ok(value) => findings_in(alloc, asked, form, &value),
+        Err(misread) => findings_of_text(alloc, input, misread),
+    }
+}

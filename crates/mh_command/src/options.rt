@@ -1,0 +1,86 @@
+//! How the input of a command line is read.
+ghost use Rattle.std.specs.Prelude.{◌≡◌, false, IfOk, IsTrue};
+ghost use Rattle.clap.specs.Words.{app_of, found_of, rows_of};
+ghost use Rattle.clap.specs.declared.builder.command.Command.TheViews.{out-Command};
+ghost use Rattle.mh_command.specs.CommandLine.{with_explain as app_with_explain, with_reading as app_with_reading, IsRead, IsReadPlainly, IsUnexplained};
+ghost use Rattle.mh_command.specs.declared.options.Reading.{Reading};
+
+use crate::flags::{flag, with_option};
+use clap::{ArgMatches, Command};
+use std::alloc::{AllocError, Global};
+
+/// How the input of any subcommand is read.
+#[derive(Clone, Copy, Debug, PartialEq, Eq)]
+pub struct Reading {
+    /// Whether its fault is explained, and its keys that nothing reads are noted, which are not
+    /// looked for in a profile.
+    pub explain: bool,
+    /// Whether it is refused for a key that nothing reads.
+    pub strict: bool,
+}
+
+impl Reading {
+    /// Whether neither is asked for, so that an input need not be kept.
+    pub(crate) fn is_plain(self) -> bool
+        ensures explain { IsTrue result → self.explain ≡ false }
+        ensures strict { IsTrue result → self.strict ≡ false }
+    {
+        !self.explain && !self.strict
+    }
+}
+
+/// The command line with the option to explain, and what that says.
+pub(crate) fn with_explain<'a>(
+    alloc: Global,
+    command: Command<'a>,
+    help: &'a str,
+) -> Result<Command<'a>, AllocError>
+    ensures app { IfOk result (λ c. app_of c ≡ app_with_explain (app_of command.entry)) }
+    ensures local { IfOk result (λ c. (out-Command c).has_globals
+        ≡ (out-Command command.entry).has_globals) }
+{
+    with_option(command, flag(alloc, "explain", help))
+}
+
+/// The command line with both options of reading.
+pub(crate) fn with_reading<'a>(
+    alloc: Global,
+    command: Command<'a>,
+) -> Result<Command<'a>, AllocError>
+    ensures app { IfOk result (λ c. app_of c ≡ app_with_reading (app_of command.entry)) }
+    ensures local { IfOk result (λ c. (out-Command c).has_globals
+        ≡ (out-Command command.entry).has_globals) }
+{
+    let help = "Tells of a fault where it is and why, and of keys that nothing reads";
+    let strict = flag(
+        alloc,
+        "strict",
+        "Refuses an input that has a key that nothing reads",
+    );
+    let command = with_explain(alloc, command, help)?;
+    with_option(command, strict)
+}
+
+/// What the words after any subcommand but `profile` say of reading.
+pub(crate) fn reading_of(matches: &ArgMatches) -> Reading
+    ensures value { (reading : Reading) → IsRead reading (rows_of (found_of matches.now))
+        → result ≡ reading }
+    ensures unexplained { IsUnexplained (rows_of (found_of matches.now)) → result.explain ≡ false }
+{
+    Reading {
+        explain: matches.get_flag("explain"),
+        strict: matches.get_flag("strict"),
+    }
+}
+
+/// What the words after `profile` say of reading.
+pub(crate) fn plain_reading_of(matches: &ArgMatches) -> Reading
+    ensures value { (reading : Reading) → IsReadPlainly reading (rows_of (found_of matches.now))
+        → result ≡ reading }
+    ensures unexplained { IsUnexplained (rows_of (found_of matches.now)) → result.explain ≡ false }
+{
+    Reading {
+        explain: matches.get_flag("explain"),
+        strict: false,
+    }
+}

@@ -1,0 +1,487 @@
+//! Work for what is asked, over an input that is read whole first where the options of reading want
+//! it.
+ghost use Rattle.std.specs.Prelude.{◌≡◌, ◌≢◌, ◌<◌, ◌≤◌, ◌⊎◌, ◌++◌, ℕ, List, [], None, Some, false, length, string_bytes, true, IfOk, IfErr, IfSome, OnErr, OnOk};
+ghost use Rattle.std.specs.Io.KnownBytes.{IsAtEnd};
+ghost use Rattle.mh_text.specs.Bytes.{most_bytes, HasFailed};
+ghost use Rattle.mh_text.specs.Gives.{no_memory, IsHonest, IsHonestReading, NoOtherFailed};
+ghost use Rattle.mh_text.specs.Output.{outside, IsUnread};
+ghost use Rattle.mh_text.specs.declared.fault.TextFault.TheVariants.{ReadFailed, WriteFailed};
+ghost use Rattle.mh_explain.specs.Refused.{NamesRefused};
+ghost use Rattle.mh_command.specs.Answers.{fault_at, Works, WorksOn, FailsIn, FailsOn, IsFaultOf, IsHelp};
+ghost use Rattle.mh_command.specs.CommandLine.{HasWorkers};
+ghost use Rattle.mh_command.specs.Readings.{fault_told, form_of, refused_at, unread_in, IsExplained};
+
+use crate::findings::{Findings, findings_of, unread_fault};
+use crate::line_reasons::line_reasons;
+use crate::request::{Asked, Request};
+use crate::status::{DONE, status_of_verdict};
+use mh_core::NoMemory;
+use mh_explain::{InputForm, UnreadKeys, explanation_of_refused, unread_keys};
+use mh_profile::{check_profile, keep_claim, keep_profile, plan_profile};
+use mh_stress::stress_bytes;
+use mh_text::{
+    Fault, InputFault, RefusedEvent, TextFault, Watched, check_bytes, plan_bytes, read_input,
+    run_bytes, run_input,
+};
+use std::alloc::Global;
+use std::io::{Read, Write};
+use std::sync::Wait;
+use std::thread::Threads;
+
+/// What became of the work.
+#[derive(Drop)]
+pub(crate) struct Outcome {
+    /// The status, or the fault that ended the work.
+    pub(crate) end: Result<u8, Fault>,
+    /// The help: lines for the stream of errors, or nothing.
+    pub(crate) help: String,
+    /// The refused events of a run that the help speaks of.
+    pub(crate) refused: Vec<RefusedEvent>,
+}
+
+impl Outcome {
+    /// An end without help.
+    fn alone(alloc: Global, end: Result<u8, Fault>) -> Outcome
+        ensures end { result.end ≡ end }
+        ensures alone { string_bytes result.help ≡ [] }
+        ensures clear { result.refused.items ≡ [] }
+    {
+        Outcome::beside(alloc, end, String::new(alloc))
+    }
+
+    /// An end with help that speaks of no refused event.
+    fn beside(alloc: Global, end: Result<u8, Fault>, help: String) -> Outcome
+        ensures end { result.end ≡ end }
+        ensures help { result.help ≡ help }
+        ensures clear { result.refused.items ≡ [] }
+    {
+        Outcome {
+            end,
+            help,
+            refused: Vec::new(alloc),
+        }
+    }
+}
+
+/// Does what the request asks, up to the last flush, and gives its status.
+fn work<T: Threads + Wait + Sync, R: Read, W: Write>(
+    rt: &T,
+    alloc: Global,
+    request: Request,
+    reader: &mut Watched<R>,
+    out: &mut Watched<W>,
+) -> Result<u8, Fault>
+    requires workers { HasWorkers request }
+    ensures works { IfOk result (WorksOn request (R.remaining reader.old.inner) []
+        (W.contents out.old.inner) (W.contents out.new.inner)) }
+    ensures small { IfOk result (λ status. status < 2) }
+    ensures fails { IfErr result (FailsOn request (R.remaining reader.old.inner)
+        (W.contents out.old.inner) (W.contents out.new.inner)
+        (HasFailed reader.old.failures reader.new.failures)
+        (HasFailed out.old.failures out.new.failures)) }
+    ensures honest { IsHonest result reader.old.failures reader.new.failures
+        out.old.failures out.new.failures }
+    ensures others { IfErr result (λ e. NoOtherFailed e.kind reader.old.failures
+        reader.new.failures out.old.failures out.new.failures) }
+    ensures end { OnOk result (IsAtEnd (R.remaining reader.new.inner)) }
+{
+    match request {
+        Request::Run(options) => {
+            run_bytes(rt, alloc, options, reader, out)?;
+            Ok(DONE)
+        }
+        Request::Check => {
+            let verdict = check_bytes(alloc, reader, out)?;
+            Ok(status_of_verdict(verdict))
+        }
+        Request::CheckProfile => {
+            let verdict = check_profile(alloc, reader, out)?;
+            Ok(status_of_verdict(verdict))
+        }
+        Request::Plan(options) => {
+            plan_bytes(rt, alloc, options, reader, out)?;
+            Ok(DONE)
+        }
+        Request::Stress(options) => {
+            stress_bytes(rt, alloc, options, reader, out)?;
+            Ok(DONE)
+        }
+        Request::Profile(options) => {
+            plan_profile(rt, alloc, options, reader, out)?;
+            Ok(DONE)
+        }
+    }
+}
+
+/// A fault of the work over an input that was read. No read of that fails; so where one is
+/// reported, memory ran out.
+fn held(fault: Fault) -> Fault
+    ensures read { fault.kind ≡ ReadFailed → result ≡ outside no_memory }
+    ensures other { fault.kind ≢ ReadFailed → result ≡ fault }
+{
+    match fault.kind {
+        TextFault::ReadFailed => Fault::from(InputFault::NoMemory),
+        TextFault::Input(_) | TextFault::WriteFailed | TextFault::NoReader => fault,
+    }
+}
+
+/// Does the same over an input that was read.
+fn work_over<T: Threads + Wait + Sync, W: Write>(
+    rt: &T,
+    alloc: Global,
+    request: Request,
+    input: &[u8],
+    out: &mut Watched<W>,
+) -> Result<u8, Fault>
+    requires workers { HasWorkers request }
+    ensures works { IfOk result (WorksOn request (Some input.now) []
+        (W.contents out.old.inner) (W.contents out.new.inner)) }
+    ensures small { IfOk result (λ status. status < 2) }
+    ensures fails { IfErr result (FailsOn request (Some input.now)
+        (W.contents out.old.inner) (W.contents out.new.inner) ⊥
+        (HasFailed out.old.failures out.new.failures)) }
+    ensures honest { IsHonest result 0 0 out.old.failures out.new.failures }
+    ensures others { IfErr result (λ e. e.kind ≢ WriteFailed
+        → out.new.failures ≡ out.old.failures) }
+{
+    let mut reader = Watched::new(input);
+    match work(rt, alloc, request, &mut reader, out) {
+        Ok(status) => Ok(status),
+        Err(fault) => Err(held(fault)),
+    }
+}
+
+/// The keys of a request's input that nothing reads; none are looked for in a profile.
+fn unread(alloc: Global, request: Request, input: &[u8]) -> Result<UnreadKeys, NoMemory>
+    ensures first { IfOk result (λ unread. unread.first ≡ unread_in (form_of request) input.now) }
+{
+    match request.form() {
+        Some(form) => unread_keys(alloc, form, input),
+        None => Ok(UnreadKeys {
+            notes: String::new(alloc),
+            first: None,
+        }),
+    }
+}
+
+/// Where the first key stands that nothing reads, if the input is refused for it.
+fn refused(alloc: Global, asked: Asked, input: &[u8]) -> Result<Option<u64>, NoMemory>
+    ensures value { IfOk result (λ at. at ≡ refused_at asked input.now) }
+{
+    if !asked.reading.strict {
+        return Ok(None);
+    }
+    Ok(unread(alloc, asked.request, input)?.first)
+}
+
+/// The lines that explain a fault of the lines of a profile, where it is asked for and memory does
+/// not run out; else nothing.
+fn help_for(alloc: Global, asked: Asked, input: &[u8], fault: Option<InputFault>) -> String
+    requires formless { asked.reading.explain ≡ true → form_of asked.request ≡ None }
+    ensures unexplained { asked.reading.explain ≡ false → string_bytes result ≡ [] }
+    ensures silent { fault ≡ None → string_bytes result ≡ [] }
+    ensures explained { IsExplained asked.request input.now fault (string_bytes result) }
+{
+    if asked.reading.explain {
+        if let Some(fault) = fault {
+            if let Ok(lines) = line_reasons(alloc, asked.request, input, fault) {
+                return lines;
+            }
+        }
+    }
+    String::new(alloc)
+}
+
+/// The fault of the input that ended the work, where one did.
+fn fault_of(end: Result<u8, Fault>) -> Option<InputFault>
+    ensures ok { OnOk end (result ≡ None) }
+    ensures value { result ≡ fault_told (fault_at end) }
+{
+    match end {
+        Err(
+            Fault {
+                kind: TextFault::Input(fault),
+                ..
+            },
+        ) => Some(fault),
+        _ => None,
+    }
+}
+
+/// Does what is asked over an input that was read, with a fault of the lines of a profile explained.
+fn work_on<T: Threads + Wait + Sync, W: Write>(
+    rt: &T,
+    alloc: Global,
+    asked: Asked,
+    input: &[u8],
+    out: &mut Watched<W>,
+) -> Outcome
+    requires formless { asked.reading.explain ≡ true → form_of asked.request ≡ None }
+    requires workers { HasWorkers asked.request }
+    ensures works { IfOk result.end (Works asked (Some input.now) result.refused.items
+        (W.contents out.old.inner) (W.contents out.new.inner)) }
+    ensures small { IfOk result.end (λ status. status < 2) }
+    ensures clear { OnErr result.end (result.refused.items ≡ []) }
+    ensures fails { IfErr result.end (FailsIn asked (Some input.now)
+        (W.contents out.old.inner) (W.contents out.new.inner) ⊥
+        (HasFailed out.old.failures out.new.failures)) }
+    ensures honest { IsHonest result.end 0 0 out.old.failures out.new.failures }
+    ensures others { IfErr result.end (λ e. e.kind ≢ WriteFailed
+        → out.new.failures ≡ out.old.failures) }
+    ensures help { IsHelp asked (Some input.now) result.end result.refused.items
+        (string_bytes result.help) }
+{
+    match refused(alloc, asked, input) {
+        Ok(None) => {
+            let end = work_over(rt, alloc, asked.request, input, out);
+            Outcome::beside(alloc, end, help_for(alloc, asked, input, fault_of(end)))
+        }
+        Ok(Some(at)) => Outcome::alone(alloc, Err(unread_fault(at))),
+        Err(NoMemory) => Outcome::alone(alloc, Err(Fault::from(InputFault::NoMemory))),
+    }
+}
+
+/// What the work gives: its status, and the refused events of a run.
+#[derive(Drop)]
+struct Worked {
+    status: u8,
+    refused: Vec<RefusedEvent>,
+}
+
+/// Does what the request asks over an input that was read, and gives the refused events of a run.
+fn work_known<T: Threads + Wait + Sync, W: Write>(
+    rt: &T,
+    alloc: Global,
+    request: Request,
+    input: &[u8],
+    out: &mut Watched<W>,
+) -> Result<Worked, Fault>
+    requires workers { HasWorkers request }
+    ensures works { IfOk result (λ worked. WorksOn request (Some input.now) worked.refused.items
+        (W.contents out.old.inner) (W.contents out.new.inner) worked.status) }
+    ensures small { IfOk result (λ worked. worked.status < 2) }
+    ensures fails { IfErr result (FailsOn request (Some input.now)
+        (W.contents out.old.inner) (W.contents out.new.inner) ⊥
+        (HasFailed out.old.failures out.new.failures)) }
+    ensures honest { IsHonest result 0 0 out.old.failures out.new.failures }
+    ensures others { IfErr result (λ e. e.kind ≢ WriteFailed
+        → out.new.failures ≡ out.old.failures) }
+{
+    match request {
+        Request::Run(options) => Ok(Worked {
+            refused: run_input(rt, alloc, options, input, out)?,
+            status: DONE,
+        }),
+        _ => Ok(Worked {
+            status: work_over(rt, alloc, request, input, out)?,
+            refused: Vec::new(alloc),
+        }),
+    }
+}
+
+/// Help, and behind it the lines of refused events, where memory does not run out for them.
+fn with_refused(alloc: Global, help: String, input: &[u8], refused: &[RefusedEvent]) -> String
+    ensures value { (events : List ℕ) × (string_bytes result ≡ string_bytes help ++ events)
+        × ((events ≡ []) ⊎ NamesRefused refused.now events) }
+{
+    let mut help = help;
+    if let Ok(lines) = explanation_of_refused(alloc, input, refused) {
+        let _ = help.push_str(lines.as_str());
+    }
+    help
+}
+
+/// Does what is asked over an input that was read as a form before, unless it has a fault, which is
+/// explained then.
+fn work_explained<T: Threads + Wait + Sync, W: Write>(
+    rt: &T,
+    alloc: Global,
+    asked: Asked,
+    form: InputForm,
+    input: &[u8],
+    out: &mut Watched<W>,
+) -> Outcome
+    requires formed { form_of asked.request ≡ Some form }
+    requires explained { asked.reading.explain ≡ true }
+    requires short { length input.now ≤ most_bytes }
+    requires workers { HasWorkers asked.request }
+    ensures works { IfOk result.end (Works asked (Some input.now) result.refused.items
+        (W.contents out.old.inner) (W.contents out.new.inner)) }
+    ensures small { IfOk result.end (λ status. status < 2) }
+    ensures clear { OnErr result.end (result.refused.items ≡ []) }
+    ensures fails { IfErr result.end (FailsIn asked (Some input.now)
+        (W.contents out.old.inner) (W.contents out.new.inner) ⊥
+        (HasFailed out.old.failures out.new.failures)) }
+    ensures honest { IsHonest result.end 0 0 out.old.failures out.new.failures }
+    ensures others { IfErr result.end (λ e. e.kind ≢ WriteFailed
+        → out.new.failures ≡ out.old.failures) }
+    ensures help { IsHelp asked (Some input.now) result.end result.refused.items
+        (string_bytes result.help) }
+{
+    let Findings { fault, help } = findings_of(alloc, asked, form, input);
+    if let Some(fault) = fault {
+        return Outcome::beside(alloc, Err(fault), help);
+    }
+    match work_known(rt, alloc, asked.request, input, out) {
+        Ok(Worked { status, refused }) => Outcome {
+            end: Ok(status),
+            help: with_refused(alloc, help, input, refused.as_slice()),
+            refused,
+        },
+        Err(fault) => Outcome::beside(alloc, Err(fault), help),
+    }
+}
+
+/// Does what is asked over an input that was read and is read as a form.
+fn work_read<T: Threads + Wait + Sync, W: Write>(
+    rt: &T,
+    alloc: Global,
+    asked: Asked,
+    input: &[u8],
+    out: &mut Watched<W>,
+) -> Outcome
+    requires short { length input.now ≤ most_bytes }
+    requires workers { HasWorkers asked.request }
+    ensures works { IfOk result.end (Works asked (Some input.now) result.refused.items
+        (W.contents out.old.inner) (W.contents out.new.inner)) }
+    ensures small { IfOk result.end (λ status. status < 2) }
+    ensures clear { OnErr result.end (result.refused.items ≡ []) }
+    ensures fails { IfErr result.end (FailsIn asked (Some input.now)
+        (W.contents out.old.inner) (W.contents out.new.inner) ⊥
+        (HasFailed out.old.failures out.new.failures)) }
+    ensures honest { IsHonest result.end 0 0 out.old.failures out.new.failures }
+    ensures others { IfErr result.end (λ e. e.kind ≢ WriteFailed
+        → out.new.failures ≡ out.old.failures) }
+    ensures help { IsHelp asked (Some input.now) result.end result.refused.items
+        (string_bytes result.help) }
+{
+    match asked.explained_form() {
+        Some(form) => work_explained(rt, alloc, asked, form, input, out),
+        None => work_on(rt, alloc, asked, input, out),
+    }
+}
+
+/// Reads the input whole, and does what is asked over it.
+fn work_whole<T: Threads + Wait + Sync, R: Read, W: Write>(
+    rt: &T,
+    alloc: Global,
+    asked: Asked,
+    reader: &mut Watched<R>,
+    out: &mut Watched<W>,
+) -> Outcome
+    requires formed { form_of asked.request ≢ None }
+    requires workers { HasWorkers asked.request }
+    ensures works { IfOk result.end (Works asked (R.remaining reader.old.inner) result.refused.items
+        (W.contents out.old.inner) (W.contents out.new.inner)) }
+    ensures small { IfOk result.end (λ status. status < 2) }
+    ensures clear { OnErr result.end (result.refused.items ≡ []) }
+    ensures fails { IfErr result.end (FailsIn asked (R.remaining reader.old.inner)
+        (W.contents out.old.inner) (W.contents out.new.inner)
+        (HasFailed reader.old.failures reader.new.failures)
+        (HasFailed out.old.failures out.new.failures)) }
+    ensures honest { IsHonest result.end reader.old.failures reader.new.failures
+        out.old.failures out.new.failures }
+    ensures others { IfErr result.end (λ e. NoOtherFailed e.kind reader.old.failures
+        reader.new.failures out.old.failures out.new.failures) }
+    ensures end { OnOk result.end (IsAtEnd (R.remaining reader.new.inner)) }
+    ensures help { IsHelp asked (R.remaining reader.old.inner) result.end
+        result.refused.items (string_bytes result.help) }
+{
+    match read_input(alloc, reader) {
+        Ok(input) => work_read(rt, alloc, asked, &input, out),
+        Err(kind) => Outcome::alone(alloc, Err(Fault::from(kind))),
+    }
+}
+
+/// The lines of a profile, whole, with the plan behind them where that is checked.
+fn keep_lines<R: Read>(
+    alloc: Global,
+    request: Request,
+    reader: &mut Watched<R>,
+) -> Result<Vec<u8>, Fault>
+    requires formless { form_of request ≡ None }
+    ensures ok { IfOk result (λ input. IfSome (R.remaining reader.old.inner)
+        (λ bytes. input.items ≡ bytes)) }
+    ensures failed { IfErr result (IsUnread (IsFaultOf request) (R.remaining reader.old.inner)
+        (HasFailed reader.old.failures reader.new.failures)) }
+    ensures honest { IsHonestReading result reader.old.failures reader.new.failures }
+    ensures others { IfErr result (λ e. e.kind ≢ ReadFailed
+        → reader.new.failures ≡ reader.old.failures) }
+    ensures end { OnOk result (IsAtEnd (R.remaining reader.new.inner)) }
+{
+    match request {
+        Request::CheckProfile => keep_claim(alloc, reader),
+        // Of these only a profile has no form.
+        Request::Run(_)
+        | Request::Check
+        | Request::Plan(_)
+        | Request::Stress(_)
+        | Request::Profile(_) => keep_profile(alloc, reader),
+    }
+}
+
+/// Reads the lines of a profile whole, and does what is asked over them.
+fn work_lines<T: Threads + Wait + Sync, R: Read, W: Write>(
+    rt: &T,
+    alloc: Global,
+    asked: Asked,
+    reader: &mut Watched<R>,
+    out: &mut Watched<W>,
+) -> Outcome
+    requires formless { form_of asked.request ≡ None }
+    requires workers { HasWorkers asked.request }
+    ensures works { IfOk result.end (Works asked (R.remaining reader.old.inner) result.refused.items
+        (W.contents out.old.inner) (W.contents out.new.inner)) }
+    ensures small { IfOk result.end (λ status. status < 2) }
+    ensures clear { OnErr result.end (result.refused.items ≡ []) }
+    ensures fails { IfErr result.end (FailsIn asked (R.remaining reader.old.inner)
+        (W.contents out.old.inner) (W.contents out.new.inner)
+        (HasFailed reader.old.failures reader.new.failures)
+        (HasFailed out.old.failures out.new.failures)) }
+    ensures honest { IsHonest result.end reader.old.failures reader.new.failures
+        out.old.failures out.new.failures }
+    ensures others { IfErr result.end (λ e. NoOtherFailed e.kind reader.old.failures
+        reader.new.failures out.old.failures out.new.failures) }
+    ensures end { OnOk result.end (IsAtEnd (R.remaining reader.new.inner)) }
+    ensures help { IsHelp asked (R.remaining reader.old.inner) result.end
+        result.refused.items (string_bytes result.help) }
+{
+    match keep_lines(alloc, asked.request, reader) {
+        Ok(input) => work_on(rt, alloc, asked, &input, out),
+        Err(fault) => Outcome::alone(alloc, Err(fault)),
+    }
+}
+
+/// Does what is asked, up to the last flush.
+pub(crate) fn work_asked<T: Threads + Wait + Sync, R: Read, W: Write>(
+    rt: &T,
+    alloc: Global,
+    asked: Asked,
+    reader: &mut Watched<R>,
+    out: &mut Watched<W>,
+) -> Outcome
+    requires workers { HasWorkers asked.request }
+    ensures works { IfOk result.end (Works asked (R.remaining reader.old.inner) result.refused.items
+        (W.contents out.old.inner) (W.contents out.new.inner)) }
+    ensures small { IfOk result.end (λ status. status < 2) }
+    ensures clear { OnErr result.end (result.refused.items ≡ []) }
+    ensures fails { IfErr result.end (FailsIn asked (R.remaining reader.old.inner)
+        (W.contents out.old.inner) (W.contents out.new.inner)
+        (HasFailed reader.old.failures reader.new.failures)
+        (HasFailed out.old.failures out.new.failures)) }
+    ensures honest { IsHonest result.end reader.old.failures reader.new.failures
+        out.old.failures out.new.failures }
+    ensures others { IfErr result.end (λ e. NoOtherFailed e.kind reader.old.failures
+        reader.new.failures out.old.failures out.new.failures) }
+    ensures end { OnOk result.end (IsAtEnd (R.remaining reader.new.inner)) }
+    ensures help { IsHelp asked (R.remaining reader.old.inner) result.end
+        result.refused.items (string_bytes result.help) }
+{
+    if !asked.reads_whole() {
+        return Outcome::alone(alloc, work(rt, alloc, asked.request, reader, out));
+    }
+    match asked.request.form() {
+        Some(_) => work_whole(rt, alloc, asked, reader, out),
+        None => work_lines(rt, alloc, asked, reader, out),
+    }
+}
