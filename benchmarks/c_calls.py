@@ -1,5 +1,5 @@
 #!/usr/bin/env python3
-"""c_calls.py [PREFIX]: times ten million calls of f(1) from C through one machine, beside `run` of the same tree by mh_bench.
+"""c_calls.py [PREFIX]: times ten million calls of f(1) from C through one machine, beside `run` of the same tree by bench_calls.
 
 PREFIX is where tools/build_c put the library, out/c where none is named. It prints nanoseconds a call, the least of several runs
 of each, taken in turn: examples/c/many_calls.c makes a value, calls `mhlink_call`, whose arguments are tested and whose hit is
@@ -9,7 +9,7 @@ import re, subprocess, sys, tempfile
 from pathlib import Path
 
 ROOT = Path(__file__).resolve().parent.parent
-CRATE = ROOT / "crates/mh_bench"
+CRATE = ROOT / "crates/bench_calls"
 RUNS, CALLS, TARGET = 7, 10_000_000, 10
 
 
@@ -19,7 +19,7 @@ def said(*words):
 
 def main():
     prefix = Path(sys.argv[1]).resolve() if sys.argv[1:] else ROOT / "out/c"
-    bench = CRATE / "out/mh_bench"
+    bench = CRATE / "out/bench_calls"
     if not bench.is_file():
         subprocess.run(["rt", "run", "--", "run", "f1", "0"], cwd=CRATE, check=True, stdout=sys.stderr)
     with tempfile.TemporaryDirectory(prefix="mhlink-c-") as folder:

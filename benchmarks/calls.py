@@ -1,7 +1,7 @@
 #!/usr/bin/env python3
-"""calls.py [ROUNDS]: times calls by mh_bench, ten million where no number is named, and beside them the same trees by the JDK.
+"""calls.py [ROUNDS]: times calls by bench_calls, ten million where no number is named, and beside them the same trees by the JDK.
 
-It proves and builds crates/mh_bench where that was not done (`rt run`), and prints nanoseconds a call, the least of several
+It proves and builds crates/bench_calls where that was not done (`rt run`), and prints nanoseconds a call, the least of several
 runs: by `run` on a prepared tree, by `eval` on a plain handle, by `Machine::step`, and by `java.lang.invoke`, an exact call of a
 handle that is no constant, through a spreader, with boxed arguments. The sums of all answers have to be the same. Below stand
 a million calls through a machine with a flush after each 1,000, with the peak of memory, and the targets. Where there is no
@@ -10,8 +10,8 @@ import os, re, shutil, subprocess, sys
 from pathlib import Path
 
 HERE = Path(__file__).resolve().parent
-CRATE = HERE.parent / "crates/mh_bench"
-PROGRAM = CRATE / "out/mh_bench"
+CRATE = HERE.parent / "crates/bench_calls"
+PROGRAM = CRATE / "out/bench_calls"
 ROUNDS = int(sys.argv[1]) if sys.argv[1:] else 10_000_000
 RUNS = 7
 SUBJECTS = {

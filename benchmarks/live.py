@@ -3,7 +3,7 @@
 they call: not at all, 1,000 times a second, some 500,000 times, and as often as the office can. The workers call f(1) of the README's
 first example, which takes six steps and hits a link, and flush after each half million calls; f is always given an equal tree. For each
 it prints the nanoseconds a call of a worker, the retargetings a second as they were measured, and the mean and the longest retargeting in
-microseconds, of the run with the fastest calls. It wants the proved program, which `rt run` in crates/live_bench builds.
+microseconds, of the run with the fastest calls. It wants the proved program, which `rt run` in crates/bench_live builds.
 
 Beside them stand the same calls by `java.lang.invoke` of four threads, alone and beside 1,000 `setTarget` a second, once through a
 MutableCallSite with `syncAll` after each, and once through a VolatileCallSite (LiveCalls.java says more). Below stands how many times
@@ -15,7 +15,7 @@ import shutil, subprocess, sys
 from pathlib import Path
 
 HERE = Path(__file__).resolve().parent
-PROGRAM = HERE.parent / "crates/live_bench/out/live_bench"
+PROGRAM = HERE.parent / "crates/bench_live/out/bench_live"
 SECONDS, SECONDS_OF_JAVA = 1.5, 3
 # the history of an office has room for 2^20 retargetings and flushes
 MOST = 900_000
@@ -78,7 +78,7 @@ def row(name, rate, it):
 def main(words):
     runs = int(words[0]) if words else 5
     if not PROGRAM.exists():
-        sys.exit("there is no proved program: say `rt run` in crates/live_bench")
+        sys.exit("there is no proved program: say `rt run` in crates/bench_live")
     print("| | Workers | Retargetings | ns a call | a second | mean, us | longest, us |\n|---|---|---|---|---|---|---|")
     taken = {(workers, rate): row("mh_live", rate, by_program(workers, rate, runs)) for workers in (1, 2, 4) for rate in NAMES}
     if not shutil.which("java"):

@@ -1,7 +1,7 @@
 #!/usr/bin/env python3
 """planner.py [--large] [PROGRAM [FLOW_BENCH]]: times `mhlink plan`, and its greatest flow alone beside LEMON's, on the largest problems.
 
-PROGRAM is ../mhlink where none is named, and FLOW_BENCH is what `rt run` builds in ../crates/flow_bench. LEMON's flow wants
+PROGRAM is ../mhlink where none is named, and FLOW_BENCH is what `rt run` builds in ../crates/bench_flow. LEMON's flow wants
 g++ and LEMON (Debian's liblemon-dev); without them its column is empty. For each problem it prints the phases of the flow,
 part by part and over the whole, and in milliseconds, the least of several runs: the whole of `mhlink plan` on one worker, on
 two and on four; the reading of its input, which is `mhlink check` on the same problem with no plan beside it; planning, which
@@ -195,13 +195,13 @@ def done_alone(program, word, text, often, runs):
     return (min(it[0] for it in some) - none) * 1000 / often, max(it[1] for it in some), some[0][2]
 
 
-def large_row(name, given, flow_bench, lemon):
+def large_row(name, given, bench_flow, lemon):
     """A row of the second table."""
     links, needs = len(given["links"]), sum(len(link["needs"]) for link in given["links"])
     text, often = "\n".join(numbers(given)).encode(), max(1, ALL_LINKS // links)
     runs, turns = (RUNS, "7") if often > 1 else (3, "1")
-    plan, memory, _ = done_alone(flow_bench, "plan", text, often, runs)
-    flow, _, said = done_alone(flow_bench, "flow", text, often, runs)
+    plan, memory, _ = done_alone(bench_flow, "plan", text, often, runs)
+    flow, _, said = done_alone(bench_flow, "flow", text, often, runs)
     beside = used([lemon, turns], text) if lemon else None
     row = f"| {name} | {links:,} | {len(given['costs']):,} | {needs:,} | {plan:.2f} | {flow:.2f} | "
     if beside is None:
@@ -212,11 +212,11 @@ def large_row(name, given, flow_bench, lemon):
     return row + f"{took:.2f} | {took / flow:.1f} | {memory:.0f} | {beside[1]:.0f} | {beside[1] / memory:.1f} |"
 
 
-def large_table(flow_bench, lemon):
+def large_table(bench_flow, lemon):
     print("| Problem | links | points | needs | plan | max_flow | LEMON | LEMON / max_flow | MiB | LEMON's MiB | ratio |")
     print("|---|---|---|---|---|---|---|---|---|---|---|")
     for name, problem_of in LARGE.items():
-        print(large_row(name, problem_of(), flow_bench, lemon), flush=True)
+        print(large_row(name, problem_of(), bench_flow, lemon), flush=True)
 
 
 def lemon_in(room):
@@ -228,13 +228,13 @@ def lemon_in(room):
     return None if built.returncode else lemon
 
 
-def first_row(program, flow_bench, lemon, name, given):
+def first_row(program, bench_flow, lemon, name, given):
     """A row of the first table."""
     text = json.dumps(given, separators=(",", ":")).encode()
     whole, said = least([program, "plan", "--phases"], text)
     two, four = (least([program, "plan", "--workers", str(count)], text)[0] for count in (2, 4))
     reading, _ = least([program, "check"], b'{"problem":' + text + b"}")
-    alone, value, rounds = flow_alone(flow_bench, given)
+    alone, value, rounds = flow_alone(bench_flow, given)
     plan, phases = said.splitlines()
     assert plan.endswith(f" flow {value}"), f"{name}: max_flow gives {value}, and the plan is {plan[-60:]}"
     beside = "-"
@@ -247,25 +247,25 @@ def first_row(program, flow_bench, lemon, name, given):
     return f"| {name} | {count} | {bound} | {row} |"
 
 
-def first_table(program, flow_bench, lemon):
+def first_table(program, bench_flow, lemon):
     print("| Problem | phases | bound | plan | 2 workers | 4 workers | reading | planning | phases of the whole | max_flow | LEMON |")
     print("|---|---|---|---|---|---|---|---|---|---|---|")
     for name, given in PROBLEMS.items():
-        print(first_row(program, flow_bench, lemon, name, given), flush=True)
+        print(first_row(program, bench_flow, lemon, name, given), flush=True)
     print()
 
 
 def main():
     words = [it for it in sys.argv[1:] if it != "--large"]
     program = words[0] if words else str(HERE.parent / "mhlink")
-    flow_bench = words[1] if len(words) > 1 else str(HERE.parent / "crates/flow_bench/out/flow_bench")
-    if not Path(flow_bench).is_file():
-        sys.exit(f"{flow_bench} is not built: run `rt run -- flow <stdin` in crates/flow_bench")
+    bench_flow = words[1] if len(words) > 1 else str(HERE.parent / "crates/bench_flow/out/bench_flow")
+    if not Path(bench_flow).is_file():
+        sys.exit(f"{bench_flow} is not built: run `rt run -- flow <stdin` in crates/bench_flow")
     with tempfile.TemporaryDirectory() as room:
         lemon = lemon_in(room)
         if "--large" not in sys.argv[1:]:
-            first_table(program, flow_bench, lemon)
-        large_table(flow_bench, lemon)
+            first_table(program, bench_flow, lemon)
+        large_table(bench_flow, lemon)
 
 
 if __name__ == "__main__":

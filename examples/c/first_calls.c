@@ -1,4 +1,4 @@
-/* What crates/first_calls does, from C: a machine is opened, called, linked, and changed. It prints a line for each step. */
+/* What crates/example_calls does, from C: a machine is opened, called, linked, and changed. It prints a line for each step. */
 #include "mhlink.h"
 #include <inttypes.h>
 #include <stdio.h>
