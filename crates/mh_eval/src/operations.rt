@@ -1,6 +1,7 @@
 //! The results of the leaf operations on two values, of which some read the first alone.
 
-ghost use Rattle.std.specs.Prelude.{◌≡◌, ◌∷◌, [], pos, length as list_length, IfSome};
+ghost use Rattle.std.specs.Prelude.{◌≡◌, ◌∷◌, ◌⊎◌, [], pos, length as list_length, true, IfSome};
+ghost use Rattle.std.specs.Option.{is_some};
 ghost use Rattle.std.specs.Int.{int_wrap, int_wrapping_div, w32, w64};
 ghost use Rattle.std.specs.Int.RustNames.{int_rem};
 ghost use Rattle.mh_type.specs.Operations.{operate as outcome_of, divided, joined};
@@ -101,11 +102,15 @@ fn text_equal(first: &Value, second: &Value) -> bool
     }
 }
 
-/// The truth of an operation that compares two numbers, where both have its kind.
+/// The truth of an operation that compares two numbers, where both have its kind, and otherwise nothing.
 #[inline(always)]
 pub fn truth(op: Op, first: &Value, second: &Value) -> Option<bool>
     ensures value { IfSome result (λ b. outcome_of op (first.now ∷ second.now ∷ [])
         ≡ Outcome.Value (Value.Boolean b)) }
+    ensures ints { (op ≡ Op.Ieq) ⊎ (op ≡ Op.Ilt) → kind_of first.now ≡ Kind.Int
+        → kind_of second.now ≡ Kind.Int → is_some result ≡ true }
+    ensures longs { (op ≡ Op.Leq) ⊎ (op ≡ Op.Llt) → kind_of first.now ≡ Kind.Long
+        → kind_of second.now ≡ Kind.Long → is_some result ≡ true }
 {
     match (first, second) {
         (Value::Int(_), Value::Int(_)) => int_truth(op, first, second),
@@ -119,6 +124,7 @@ pub fn truth(op: Op, first: &Value, second: &Value) -> Option<bool>
 fn int_truth(op: Op, first: &Value, second: &Value) -> Option<bool>
     ensures value { IfSome result (λ b. outcome_of op (first.now ∷ second.now ∷ [])
         ≡ Outcome.Value (Value.Boolean b)) }
+    ensures some { (op ≡ Op.Ieq) ⊎ (op ≡ Op.Ilt) → is_some result ≡ true }
 {
     match op {
         Op::Ieq => Some(int_equal(first, second)),
@@ -132,6 +138,7 @@ fn int_truth(op: Op, first: &Value, second: &Value) -> Option<bool>
 fn long_truth(op: Op, first: &Value, second: &Value) -> Option<bool>
     ensures value { IfSome result (λ b. outcome_of op (first.now ∷ second.now ∷ [])
         ≡ Outcome.Value (Value.Boolean b)) }
+    ensures some { (op ≡ Op.Leq) ⊎ (op ≡ Op.Llt) → is_some result ≡ true }
 {
     match op {
         Op::Leq => Some(long_equal(first, second)),
@@ -271,10 +278,12 @@ fn concat(alloc: Global, some: &Text, more: &Text) -> Answer
     }
 }
 
-/// A number as the outcome that it is.
+/// A number as the outcome that it is; of another value nothing.
 #[inline(always)]
 pub fn outcome_of_number(value: &Value) -> Option<Outcome>
     ensures value { IfSome result (λ o. o ≡ Outcome.Value value.now) }
+    ensures number { (kind_of value.now ≡ Kind.Int) ⊎ (kind_of value.now ≡ Kind.Long)
+        → is_some result ≡ true }
 {
     match value {
         Value::Int(number) => Some(Outcome::Value(Value::Int(*number))),
