@@ -50,7 +50,10 @@ module _ (valid : List Bool) (ts : List TypedTree) (h : TypedTree) (a : List Val
   handle_own = omega (arith, weighs 0 (handle_code h) 0 0 answer, call_weighs (env v) h a (handle_code h) refl sound count 0, steps_at 0 h.tree sound.small)
 
   -- what is told of the piece that is reached is told of the handle
-  module _ {E : Type 0} (x : Result (Outcome × ℕ) E) (w : Setting) (b : List Value) (q : Routine) (n : ℕ) (on : GoesOn v a (handle_routine h) 0 w b q n) (told : Told x w b q n) where
+  module _ {E : Type 0} (x : Result (Outcome × ℕ) E) (r : Routine) (is : r ≡ handle_routine h) (w : Setting) (b : List Value) (q : Routine) (n : ℕ) (goes : GoesOn v a r 0 w b q n) (told : Told x w b q n) where
+    on : GoesOn v a (handle_routine h) 0 w b q n
+    on = subst (λ r. GoesOn v a r 0 w b q n) is goes
+
     pub handle_outcome : IfOk x (λ y. y.0 ≡ mean (env v) h.tree a)
     handle_outcome =
         subst (λ o. IfOk x (λ y. y.0 ≡ o)) (on.outcome ∙ alone_means v (MayCall 4 ts (length valid)) (length valid) a (handle_code h) inside ∙ call_means (env v) h a (handle_code h) refl sound count) told.outcome

@@ -1,12 +1,12 @@
 //! Calls of prepared handles.
 
-ghost use Rattle.std.specs.Prelude.{◌≡◌, ◌-◌, ◌≤◌, ℕ, List, [], length, IfOk, IsOk};
+ghost use Rattle.std.specs.Prelude.{◌≡◌, ◌-◌, ◌≤◌, ℕ, List, [], length, Ok, IfOk, IfSome, IsOk};
 ghost use Rattle.mh_code.specs.PieceOf.{routine_of};
 ghost use Rattle.mh_run.specs.Runs.{Ends, MayGo, Told};
 ghost use Rattle.mh_eval.specs.Entered.{EntersPlain};
 ghost use Rattle.mh_tree.specs.Limits.{point_bound};
 ghost use Rattle.mh_tree.specs.Meaning.{mean, steps};
-ghost use Rattle.mh_tree.specs.Sites.{IsLawful, HavePoints, with_sites, setting, sites, greatest_steps};
+ghost use Rattle.mh_tree.specs.Sites.{IsLawful, HavePoints, Setting, with_sites, setting, sites, greatest_steps};
 ghost use Rattle.mh_type.specs.Fits.{Fits};
 
 use crate::forwarding::{Reached, reach};
@@ -30,11 +30,11 @@ use mh_type::{Outcome, Value};
 /// with `NoMemory`, and not where no node that is entered, in the trees of sites too, has String in
 /// its type; the stack is as before.
 #[inline(always)]
-pub fn run(
+pub fn run<'a>(
     stack: &mut Stack,
-    here: &Here<'_>,
-    handle: &Prepared,
-    arguments: &[Value],
+    here: &Here<'a>,
+    handle: &'a Prepared,
+    arguments: &'a [Value],
 ) -> Result<(Outcome, u128), NoMemory>
     requires fits { Fits handle.now.signature arguments.now }
     requires known { point_bound handle.now.tree ≤ length here.now.valid.now }
@@ -51,57 +51,33 @@ pub fn run(
         arguments.now
         → IsOk result }
 {
-    let reached = reach(here, handle.code().entry(), arguments);
-    run_piece(stack, here, reached)
-}
-
-// Runs the piece that was reached. Whether this is inlined is left to the compiler, which then
-// simplifies it first, so that the result is written by few stores.
-#[inline]
-fn run_piece(
-    stack: &mut Stack,
-    here: &Here<'_>,
-    reached: Reached<'_>,
-) -> Result<(Outcome, u128), NoMemory>
-    requires deep { reached.depth ≤ 4 }
-    requires may { MayGo (setting (4 - reached.depth) here.now.valid.now here.now.targets.now)
-        reached.arguments.now [] (routine_of reached.piece.now) reached.total }
-    ensures told { Told result (setting (4 - reached.entry.depth) here.now.valid.now
-        here.now.targets.now) reached.entry.arguments.now (routine_of reached.entry.piece.now)
-        reached.entry.total }
-    ensures stack { stack.new ≡ stack.old }
-{
-    if let Piece::Leaf { operand, steps } = reached.piece {
-        let value = read(reached.arguments, &[], operand);
-        if let Some(outcome) = outcome_of_number(value) {
-            return Ok((outcome, u128::from(reached.total + u64::from(*steps))));
-        }
-    }
-    run_by_call(stack, here, reached)
-}
-
-// Runs it by a call. Kept apart so that its result slot is zeroed only when it is called.
-#[inline(always)]
-fn run_by_call(
-    stack: &mut Stack,
-    here: &Here<'_>,
-    reached: Reached<'_>,
-) -> Result<(Outcome, u128), NoMemory>
-    requires deep { reached.depth ≤ 4 }
-    requires may { MayGo (setting (4 - reached.depth) here.now.valid.now here.now.targets.now)
-        reached.arguments.now [] (routine_of reached.piece.now) reached.total }
-    ensures told { Told result (setting (4 - reached.entry.depth) here.now.valid.now
-        here.now.targets.now) reached.entry.arguments.now (routine_of reached.entry.piece.now)
-        reached.entry.total }
-    ensures stack { stack.new ≡ stack.old }
-{
     let Reached {
         depth,
         piece,
         arguments,
         total,
-    } = reached;
-    run_any(stack, here, piece, arguments, total, depth)
+    } = reach(here, handle.code().entry(), arguments);
+    if let Some(found) = leaf_outcome(piece, arguments, total) {
+        return Ok(found);
+    }
+    // In a closure, so that its result slot is zeroed only when it is called.
+    let mut by_call = || run_any(stack, here, piece, arguments, total, depth);
+    by_call()
+}
+
+// The outcome of a leaf that is a number, and the steps. Whether this is inlined is left to the
+// compiler, which then simplifies it first, so that the result is written by few stores.
+#[inline]
+fn leaf_outcome(piece: &Piece, arguments: &[Value], before: u64) -> Option<(Outcome, u128)>
+    requires may { (v : Setting) × MayGo v arguments.now [] (routine_of piece.now) before }
+    ensures told { (v : Setting) → IfSome result (λ found. Told {E = ⊥} (Ok found) v arguments.now
+        (routine_of piece.now) before) }
+{
+    let Piece::Leaf { operand, steps } = piece else {
+        return None;
+    };
+    let outcome = outcome_of_number(read(arguments, &[], operand))?;
+    Some((outcome, u128::from(before + u64::from(*steps))))
 }
 
 // Runs any piece. An operation's int returns first, with no result slot zeroed for other answers.
@@ -137,52 +113,16 @@ fn run_any(
         }
         return outcome_of(answer, total);
     }
-    run_other(stack, here, piece, arguments, before, depth)
-}
-
-// Runs a piece that is no operation. Kept apart as above.
-#[inline(always)]
-fn run_other(
-    stack: &mut Stack,
-    here: &Here<'_>,
-    piece: &Piece,
-    arguments: &[Value],
-    before: u64,
-    depth: u8,
-) -> Result<(Outcome, u128), NoMemory>
-    requires deep { depth ≤ 4 }
-    requires may { MayGo (setting (4 - depth) here.now.valid.now here.now.targets.now)
-        arguments.now [] (routine_of piece.now) before }
-    ensures told { Told result (setting (4 - depth) here.now.valid.now here.now.targets.now)
-        arguments.now (routine_of piece.now) before }
-    ensures stack { stack.new ≡ stack.old }
-{
-    run_whole(stack, here, piece, arguments, before, depth)
-}
-
-// Runs a piece on the level of its tree.
-#[inline(never)]
-fn run_whole(
-    stack: &mut Stack,
-    here: &Here<'_>,
-    piece: &Piece,
-    arguments: &[Value],
-    before: u64,
-    depth: u8,
-) -> Result<(Outcome, u128), NoMemory>
-    requires deep { depth ≤ 4 }
-    requires may { MayGo (setting (4 - depth) here.now.valid.now here.now.targets.now)
-        arguments.now [] (routine_of piece.now) before }
-    ensures told { Told result (setting (4 - depth) here.now.valid.now here.now.targets.now)
-        arguments.now (routine_of piece.now) before }
-    ensures stack { stack.new ≡ stack.old }
-{
-    let (answer, steps) = run_at(stack, here, piece, arguments, before, depth);
-    outcome_of(answer, steps)
+    // In a closure, as in `run`.
+    let mut on_level = || {
+        let (answer, steps) = run_at(stack, here, piece, arguments, before, depth);
+        outcome_of(answer, steps)
+    };
+    on_level()
 }
 
 // The answer of a piece on the level of its tree, and the steps.
-#[inline(always)]
+#[inline(never)]
 fn run_at(
     stack: &mut Stack,
     here: &Here<'_>,
