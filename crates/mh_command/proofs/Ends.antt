@@ -1,4 +1,4 @@
--- How what is asked ends: its work, the last flush, and what is told.
+-- How what is asked ends: its work, the last flush, and what is written of it.
 use Rattle.std.proofs.Common.{◌≡◌, ◌≢◌, ◌⊎◌, ◌<◌, ◌≤◌, inl, inr, refl, sym, ap, ◌∙◌, subst, ℕ, false, List, [], ◌∷◌, ◌++◌, append-nil, Option, Some, None, Result, Ok, Err, IfOk, IfErr, IfSome, OnErr, OnOk, arith}
 use Rattle.std.proofs.KnownBytes.{Appends-kept, Keeps-refl, Keeps-trans}
 use Rattle.std.specs.Io.KnownBytes.{Appends, Keeps}
@@ -216,7 +216,7 @@ help_of_flush asked (Some bytes) status known help helped = record {
   explained = subst (λ cause. IsExplainedWith asked.request bytes cause known help) (not_explained (refused_at asked bytes)) helped.explained;
 }
 
--- a fault may be told with nothing behind it
+-- a fault may be written with nothing behind it
 pub nothing_told : (asked : Asked) (input : Option (List ℕ)) (e : Fault) → IsHelp asked input (Err e) [] []
 nothing_told asked input e = none_helped asked input (Err e) [] refl
 
@@ -238,7 +238,7 @@ module _ (asked : Asked) (bytes : List ℕ) (refused known : List RefusedEvent) 
     | inr all ↦ all ∙ clear
   ]
 
--- The work of what is asked from the output o to m, a flush to n, and what is told from the errors e to f.
+-- The work of what is asked from the output o to m, a flush to n, and what is written from the errors e to f.
 -- The numbers are the failures of the input, of the output and of the errors.
 module _ (asked : Asked) (input o m n e f : Option (List ℕ)) (in_old in_new out_old out_mid out_new err_old err_new result : ℕ) (help : List ℕ) (known : List RefusedEvent) (kept : Keeps m n) where
   abbrev pub A : Type 0

@@ -46,7 +46,7 @@ rows_outside d =
     both_outside (member_of field.Costs (counts_of 9223372036854775807) d) _ (member_outside field.Costs (λ rest. refl) (counts_of 9223372036854775807) (get (field_name field.Costs) d)) (λ costs.
     both_outside (member_of field.Links (row_list_of version) d) _ (member_outside field.Links (λ rest. refl) (row_list_of version) (get (field_name field.Links) d)) (λ links. ok_outside _)))
 
--- A problem that links and costs do not make: its fault, or want of memory.
+-- A problem that links and costs do not make: its fault, or out of memory.
 abbrev IsRefused : ProblemRows → Fault → Type 0
 IsRefused rows e = (e ≡ outside no_memory) ⊎ IsNotMade rows e
 

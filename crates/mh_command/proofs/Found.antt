@@ -1,7 +1,7 @@
 -- What is found of an input before the work over it.
 use Rattle.std.proofs.Common.{◌≡◌, ◌⊎◌, ◌≤◌, ◌∙◌, inl, inr, refl, sym, ap, subst, append-nil, ℕ, Bool, true, false, List, [], length, Option, Some, None, Result, Ok, Err, codes}
 use Rattle.std.proofs.lemmas.Bool.{le-leb}
-use Rattle.std.specs.Prelude.{if◌then◌else◌}
+use Rattle.std.specs.Prelude.{if◌then◌else◌, option_map}
 use Rattle.std.proofs.KnownBytes.{Keeps-refl}
 use Rattle.serde_json.specs.Data.{Data}
 use Rattle.mh_text.specs.Bytes.{most_bytes}
@@ -176,6 +176,17 @@ found_by_parts asked form bytes d refused misread first fault help formed explai
     let explained_as = subst (λ (o : Option MisreadData). IsExplainedIn o (first_unread_in form d) help) same (subst (λ (o : Option ℕ). IsExplainedIn misread o help) read explained) in
     found_in asked form bytes d fault help formed explaining json before_as explained_as
 
+-- the same where nothing is explained
+pub unexplained_found : (asked : Asked) (form : InputForm) (bytes : List ℕ) (d : Data) (first : Option ℕ) (fault : Option Fault) (help : List ℕ) → form_of asked.request ≡ Some form
+    → json_of_input bytes ≡ Ok d → first ≡ first_unread_in form d → fault ≡ option_map unread_fault (first_refused asked first) → help ≡ [] → AreFindings asked bytes fault help
+unexplained_found asked form bytes d first fault help formed json read is none =
+    subst (λ (o : Option Fault). AreFindings asked bytes o help) (sym is)
+    (found (first_refused asked first) (refused_is asked form bytes d formed json ∙ ap (λ (o : Option ℕ). first_refused asked o) (sym read)))
+  where
+    found : (refused : Option ℕ) → refused_at asked bytes ≡ refused → AreFindings asked bytes (option_map unread_fault refused) help
+    found (Some at) same = (inr (inl (at, same, refl)), none_helped asked (Some bytes) (Err (unread_fault at)) help none)
+    found None same = (same, λ end. none_helped asked (Some bytes) end help none)
+
 -- memory ran out before anything was found
 pub memory_found : (asked : Asked) (bytes : List ℕ) (fault : Option Fault) (help : List ℕ) → fault ≡ Some (outside no_memory) → help ≡ [] → AreFindings asked bytes fault help
 memory_found asked bytes fault help is none =
@@ -220,16 +231,16 @@ module _ (asked : Asked) (bytes : List ℕ) (e : Fault) (cause : InputFault) (is
   told_as : fault_explained (refused_at asked bytes) (Some e) ≡ Some cause
   told_as = ap (λ (o : Option ℕ). fault_explained o (Some e)) none_refused ∙ ap (λ (k : TextFault). fault_told (Some (record { kind = k; at = 0 }))) is
 
-  text_helped : (form : InputForm) → form_of asked.request ≡ Some form → asked.reading.explain ≡ true → (help : List ℕ) → IsHelp asked (Some bytes) (Err e) [] help
-  text_helped form formed explaining help =
+  text_helped : (form : InputForm) → form_of asked.request ≡ Some form → (help : List ℕ) → (asked.reading.explain ≡ false → help ≡ []) → IsHelp asked (Some bytes) (Err e) [] help
+  text_helped form formed help plain =
       record {
-        unexplained = λ not. absurd (false_is_no_true asked.reading.explain explaining not);
+        unexplained = plain;
         silent = tt;
         explained = subst (λ (f : Option InputFault). IsExplainedWith asked.request bytes f [] help) (sym told_as) (plain_help asked.request bytes (Some cause) help (text_explained form formed help));
       }
 
-  text_found : (form : InputForm) → form_of asked.request ≡ Some form → asked.reading.explain ≡ true → (help : List ℕ) → AreFindings asked bytes (Some e) help
-  text_found form formed explaining help = (inr (inr (none_refused, cause, is, text_fault asked.request form formed)), text_helped form formed explaining help)
+  text_found : (form : InputForm) → form_of asked.request ≡ Some form → (help : List ℕ) → (asked.reading.explain ≡ false → help ≡ []) → AreFindings asked bytes (Some e) help
+  text_found form formed help plain = (inr (inr (none_refused, cause, is, text_fault asked.request form formed)), text_helped form formed help plain)
 
 within : (bytes : List ℕ) → length bytes ≤ most_bytes → json_of_input bytes ≡ at_place 0 (json_in bytes)
 within bytes short = rw (le-leb (length bytes) most_bytes short) refl
@@ -239,14 +250,13 @@ pub value_of_input : (bytes : List ℕ) (d : Data) → length bytes ≤ most_byt
 value_of_input bytes d short json = within bytes short ∙ ap (λ (r : Result Data MisreadData). at_place 0 r) json
 
 -- what is found of an input that was misread as JSON
-pub misread_found : (asked : Asked) (form : InputForm) (bytes : List ℕ) (m : MisreadData) (fault : Option Fault) (help : List ℕ) → form_of asked.request ≡ Some form
-    → asked.reading.explain ≡ true → length bytes ≤ most_bytes → (m.fault ≡ NoMemory) ⊎ (json_in bytes ≡ Err m)
-    → fault ≡ Some (outside (Input m.fault)) → (m.fault ≡ NoMemory → help ≡ []) → AreFindings asked bytes fault help
-misread_found asked form bytes m fault help formed explaining short (inl memory) is none =
-    memory_found asked bytes fault help (is ∙ ap (λ (k : InputFault). Some (outside (Input k))) memory) (none memory)
-misread_found asked form bytes m fault help formed explaining short (inr unread) is none =
-    subst (λ (o : Option Fault). AreFindings asked bytes o help) (sym is)
-    (text_found asked bytes (outside (Input m.fault)) m.fault refl (within bytes short ∙ ap (λ (r : Result Data MisreadData). at_place 0 r) unread) form formed explaining help)
+pub misread_found : (asked : Asked) (form : InputForm) (bytes : List ℕ) (m : MisreadData) (help : List ℕ) → form_of asked.request ≡ Some form
+    → length bytes ≤ most_bytes → (m.fault ≡ NoMemory) ⊎ (json_in bytes ≡ Err m) → (asked.reading.explain ≡ false → help ≡ []) → (m.fault ≡ NoMemory → help ≡ [])
+    → AreFindings asked bytes (Some (outside (Input m.fault))) help
+misread_found asked form bytes m help formed short (inl memory) plain none =
+    memory_found asked bytes _ help (ap (λ (k : InputFault). Some (outside (Input k))) memory) (none memory)
+misread_found asked form bytes m help formed short (inr unread) plain none =
+    text_found asked bytes (outside (Input m.fault)) m.fault refl (within bytes short ∙ ap (λ (r : Result Data MisreadData). at_place 0 r) unread) form formed help plain
 
 -- ---- what is found, at the work
 module _ (asked : Asked) (bytes : List ℕ) (fault : Option Fault) (help : List ℕ) (found : AreFindings asked bytes fault help) where

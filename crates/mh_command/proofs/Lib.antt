@@ -4,5 +4,6 @@ mod Ends
 mod FirstFaults
 mod Found
 mod OptionWords
+mod Parsed
 mod Placed
 mod Works

@@ -81,7 +81,7 @@ preamble_outside d =
 abbrev among_events : MisreadData → Fault
 among_events m = fault_in (behind (Member field.Events) m)
 
--- The first fault of items, told by its path, is the same that is told by the number of its item.
+-- The first fault of items by its path is the same as by the number of its item.
 module _ {A : Type 0} (f : Data → Result A MisreadData) where
   abbrev by_path : ℕ → List Data → Result (List A) MisreadData
   by_path n ds = each_from (λ i d. under (Item i) (f d)) n ds

@@ -1,5 +1,5 @@
 -- Work over an input that was read, and the same of what is left in a reader.
-use Rattle.std.proofs.Common.{◌≡◌, ◌≢◌, ◌⊎◌, ◌<◌, inl, inr, refl, sym, ap, ◌∙◌, subst, ℕ, Bool, true, false, List, [], ◌++◌, append-nil, length, Option, Some, None, Result, Ok, Err, IfErr, IfSome, codes}
+use Rattle.std.proofs.Common.{◌≡◌, ◌≢◌, ◌⊎◌, ◌<◌, inl, inr, refl, sym, ap, ◌∙◌, subst, ℕ, Bool, true, false, List, [], ◌++◌, append-nil, length, Option, Some, None, Result, Ok, Err, IfErr, IfOk, IfSome, codes}
 use Rattle.std.proofs.lemmas.Bool.{lt-leb}
 use Rattle.std.specs.Prelude.{if◌then◌else◌}
 use Rattle.std.proofs.KnownBytes.{Keeps-refl}
@@ -112,7 +112,7 @@ is_read_failed ReadFailed = inl refl
 is_read_failed WriteFailed = inr (λ is. cc)
 is_read_failed NoReader = inr (λ is. cc)
 
--- A fault of a read is told as want of memory, and any other as it is.
+-- A fault of a read comes as out of memory, and any other as it is.
 module _ (e told : Fault) (read : e.kind ≡ ReadFailed → told ≡ outside no_memory) (other : e.kind ≢ ReadFailed → told ≡ e) where
   pub fails_held : (request : Request) (bytes : List ℕ) (old new : Option (List ℕ)) (A B : Type 0)
       → FailsOn request (Some bytes) old new A B e → FailsOn request (Some bytes) old new ⊥ B told
@@ -135,7 +135,7 @@ module _ (e told : Fault) (read : e.kind ≡ ReadFailed → told ≡ outside no_
     | inr not ↦ subst (λ (f : Fault). IsEndOf C B f.kind) (sym (other not)) (end_by A C B e.kind not end)
   ]
 
-  -- where it is told as no failed write, none failed
+  -- where it is no failed write, none failed
   pub others_held : (old new : ℕ) → (e.kind ≢ WriteFailed → new ≡ old) → told.kind ≢ WriteFailed → new ≡ old
   others_held old new quiet not = elim (is_read_failed e.kind) [
     | inl is ↦ quiet (λ write. cc)
@@ -273,11 +273,8 @@ module _ (asked : Asked) (bytes : List ℕ) (fault : Option InputFault) (help : 
   worked_helped (Err e) is plain silent = record { unexplained = plain; silent = tt; explained = explained_as (Some e) is }
 
 -- help, and behind it the lines of the refused events that are known
-module _ (asked : Asked) (bytes : List ℕ) (status : ℕ) (known : List RefusedEvent) (help events all : List ℕ) (explaining : asked.reading.explain ≡ true)
+module _ (asked : Asked) (bytes : List ℕ) (status : ℕ) (known : List RefusedEvent) (help events all : List ℕ) (plain : asked.reading.explain ≡ false → all ≡ help)
     (helped : IsHelp asked (Some bytes) (Ok status) [] help) (are : all ≡ help ++ events) (named : (events ≡ []) ⊎ NamesRefused known events) where
-  no_false : (b : Bool) → b ≡ true → b ≡ false → ⊥
-  no_false b is not = cc
-
   none_of : (es : List ℕ) → (es ≡ []) ⊎ NamesRefused [] es → es ≡ []
   none_of es (inl none) = none
   none_of es (inr none) = none
@@ -295,7 +292,7 @@ module _ (asked : Asked) (bytes : List ℕ) (status : ℕ) (known : List Refused
 
   pub known_helped : IsHelp asked (Some bytes) (Ok status) known all
   known_helped = record {
-    unexplained = λ not. absurd (no_false asked.reading.explain explaining not);
+    unexplained = λ not. plain not ∙ helped.unexplained not;
     silent = silent_of;
     explained = explained_of _ helped.explained;
   }
@@ -373,3 +370,22 @@ pub lines_fail : (asked : Asked) (input old : Option (List ℕ)) (A B : Type 0) 
 lines_fail asked input old A B e formless unread =
     fails_plain asked (λ bytes. formless_unread asked.reading.strict (form_of asked.request) bytes formless) input old old A B e
     (formless_fails asked.request input old A B e formless unread)
+
+-- The work over the lines of a profile, of which none is refused for a key.
+module _ (asked : Asked) (bytes : List ℕ) (formless : form_of asked.request ≡ None) where
+  formless_unrefused : refused_at asked bytes ≡ None
+  formless_unrefused = formless_unread asked.reading.strict (form_of asked.request) bytes formless
+
+  pub formless_works : (known : List RefusedEvent) (old new : Option (List ℕ)) (end : Result ℕ Fault) → IfOk end (WorksOn asked.request (Some bytes) known old new)
+      → IfOk end (Works asked (Some bytes) known old new)
+  formless_works known old new (Ok status) works = works_unrefused asked bytes known old new status formless_unrefused works
+  formless_works known old new (Err e) works = tt
+
+  pub formless_ends : (old new : Option (List ℕ)) (A B : Type 0) (end : Result ℕ Fault) → IfErr end (FailsOn asked.request (Some bytes) old new A B)
+      → IfErr end (FailsIn asked (Some bytes) old new A B)
+  formless_ends old new A B (Ok status) fails = tt
+  formless_ends old new A B (Err e) fails = inr (formless_unrefused, fails)
+
+  pub formless_helped : (end : Result ℕ Fault) (fault : Option InputFault) (help : List ℕ) → fault ≡ fault_told (fault_at end) → IsExplained asked.request bytes fault help
+      → (asked.reading.explain ≡ false → help ≡ []) → (fault ≡ None → help ≡ []) → IsHelp asked (Some bytes) end [] help
+  formless_helped end fault help is explained plain silent = worked_helped asked bytes fault help formless_unrefused explained end is plain (λ none read. silent none)

@@ -151,7 +151,7 @@ Works asked input known old new status =
     IfSome input (λ bytes. (text : List ℕ) × (refused : List RefusedEvent) × IsAnswerTo asked bytes (answered status text refused)
     × AreKnown refused known × Appends old new text)
 
--- What the output is left with where a stress ends in a fault; that no reader could be made is told of a script alone.
+-- What the output is left with where a stress ends in a fault; that no reader could be made comes of a script alone.
 abbrev pub FailsAsStress : StressOptions → Option (List ℕ) → Option (List ℕ) → Option (List ℕ) → Type 0 → Type 0 → Fault → Type 0
 FailsAsStress options input old new ReadHasFailed WriteHasFailed e =
     FailsStress options input old new ReadHasFailed WriteHasFailed e × (e ≡ outside NoReader → IfSome input IsScript)
@@ -192,7 +192,7 @@ pub record IsHelp (asked : Asked) (input : Option (List ℕ)) (end : Result ℕ 
 
 -- What is asked over an input, from the output o to n and from the errors e to f. The numbers are the failures of the errors.
 module _ (asked : Asked) (input o n : Option (List ℕ)) (ReadHasFailed WriteHasFailed : Type 0) (e f : Option (List ℕ)) (failures_old failures_new : ℕ) where
-  -- it ends in a fault, which is told with what explains it, or that was kept back
+  -- it ends in a fault, which is written with what explains it, or that was kept back
   abbrev pub IsTurnedAway : ℕ → Type 0
   IsTurnedAway status =
       (fault : Fault) × (known : List RefusedEvent) × EndsIn asked input known o n ReadHasFailed WriteHasFailed fault
@@ -204,6 +204,6 @@ module _ (asked : Asked) (input o n : Option (List ℕ)) (ReadHasFailed WriteHas
       (status ≡ 3) × ((found : ℕ) × (known : List RefusedEvent) × Works asked input known o n found
       × ((help : List ℕ) × IsHelp asked input (Ok found) known help × IsCut e f failures_old failures_new help))
 
-  -- it has no answer: it ends in a fault that is told, or a part of the help of its answer was kept back
+  -- it has no answer: it ends in a fault that is written, or a part of the help of its answer was kept back
   abbrev pub IsStopped : ℕ → Type 0
   IsStopped status = IsTurnedAway status ⊎ IsCutBeside status

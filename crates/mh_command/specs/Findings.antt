@@ -1,5 +1,5 @@
 -- What is found of an input before the work over it.
-use Rattle.std.specs.Prelude.{◌≡◌, ◌⊎◌, ◌+◌, ℕ, List, [], ◌∷◌, ◌++◌, Option, Some, None, Result, Err, if◌then◌else◌}
+use Rattle.std.specs.Prelude.{◌≡◌, ◌⊎◌, ◌+◌, ◌^◌, ℕ, List, [], ◌∷◌, ◌++◌, Option, Some, None, Result, Err, if◌then◌else◌}
 use Rattle.mh_text.specs.Gives.{no_memory}
 use Rattle.mh_text.specs.Misreads.{MisreadData}
 use Rattle.mh_text.specs.Output.{outside}
@@ -19,6 +19,10 @@ abbrev pub event_of : List Key → ℕ
 event_of (Member field.Events ∷ Item i ∷ rest) = i + 1
 event_of _ = 0
 
+-- past the number of each event of an input
+abbrev pub event_bound : ℕ
+event_bound = 2 ^ 64
+
 -- the fault of a part that could not be read, with the number of its event
 abbrev pub fault_in : MisreadData → Fault
 fault_in m = record { kind = Input m.fault; at = event_of m.path }
@@ -27,7 +31,7 @@ fault_in m = record { kind = Input m.fault; at = event_of m.path }
 abbrev pub first_refused : Asked → Option ℕ → Option ℕ
 first_refused asked first = if asked.reading.strict then first else None
 
--- The fault for which no work is begun: that of such a key; and else that of a part that could not be read, or want of memory.
+-- The fault for which no work is begun: that of such a key; and else that of a part that could not be read, or out of memory.
 abbrev pub IsFaultBefore : Option ℕ → Option MisreadData → Option Fault → Type 0
 IsFaultBefore (Some at) misread fault = fault ≡ Some (unread_fault at)
 IsFaultBefore None (Some m) fault = (fault ≡ Some (outside no_memory)) ⊎ (fault ≡ Some (fault_in m))
@@ -38,7 +42,7 @@ abbrev pub IsExplainedIn : Option MisreadData → Option ℕ → List ℕ → Ty
 IsExplainedIn misread first help =
     (help ≡ []) ⊎ ((lines notes : List ℕ) × (help ≡ lines ++ notes) × ExplainsMisread misread lines × (first ≡ None → notes ≡ []))
 
--- A fault for which the work over an input is not begun: want of memory; that of a key for which the input is refused; or its first fault.
+-- A fault for which the work over an input is not begun: out of memory; that of a key for which the input is refused; or its first fault.
 abbrev pub EndsBefore : Asked → List ℕ → Fault → Type 0
 EndsBefore asked input e =
     (e ≡ outside no_memory)

@@ -37,6 +37,6 @@ module _ (old new : Option (List ℕ)) (failures_old failures_new : ℕ) where
   abbrev pub IsShown : ℕ → ℕ → Type 0
   IsShown status wanted = (text : List ℕ) × (text ≢ []) × (((status ≡ wanted) × IsWritten text) ⊎ IsKeptBack text status)
 
-  -- there was no fault to tell, and the rest stands written; or a part of it was kept back
+  -- there was no fault to write, and the rest stands written; or a part of it was kept back
   abbrev pub IsDone : List ℕ → ℕ → ℕ → Type 0
   IsDone help status wanted = ((status ≡ wanted) × IsWritten help) ⊎ ((help ≢ []) × (status ≡ 3) × IsCut help)

@@ -1,8 +1,7 @@
 //! What is found of an input before the work over it: its first fault, what explains that, and the
 //! keys that nothing reads.
-ghost use Rattle.std.specs.Prelude.{◌≡◌, ◌⊎◌, ◌≤◌, ◌^◌, [], List, ℕ, Ok, Some, if◌then◌else◌, length, nat_lt, None, option_map, string_bytes, true, IfOk};
+ghost use Rattle.std.specs.Prelude.{◌≡◌, ◌⊎◌, [], List, ℕ, Ok, Some, false, if◌then◌else◌, nat_lt, None, option_map, string_bytes, IfOk};
 ghost use Rattle.serde_json.specs.View.{view};
-ghost use Rattle.mh_text.specs.Bytes.{most_bytes};
 ghost use Rattle.mh_text.specs.Gives.{no_memory};
 ghost use Rattle.mh_text.specs.Inputs.{json_of_input};
 ghost use Rattle.mh_text.specs.Output.{outside};
@@ -10,16 +9,15 @@ ghost use Rattle.mh_text.specs.declared.fault.InputFault.TheVariants.{NoMemory a
 ghost use Rattle.mh_text.specs.declared.fault.TextFault.TheVariants.{Input};
 ghost use Rattle.mh_explain.specs.Explanations.{misread_of};
 ghost use Rattle.mh_explain.specs.Unread.{first_unread_in};
-ghost use Rattle.mh_command.specs.Findings.{event_of as number_of_event, fault_in, first_refused, AreFindings, IsExplainedIn, IsFaultBefore};
+ghost use Rattle.mh_command.specs.Findings.{event_bound, event_of as number_of_event, fault_in, first_refused, AreFindings, IsExplainedIn, IsFaultBefore};
 ghost use Rattle.mh_command.specs.Readings.{form_of, unread_fault as fault_unread};
 
 use crate::request::Asked;
 use mh_core::NoMemory;
 use mh_explain::{
     FaultyPart, InputForm, UnreadKeys, explanation_of_part, explanation_of_text, faulty_part,
-    unread_keys_in,
+    unread_keys,
 };
-use mh_text::readers::parse_json;
 use mh_text::{Fault, Field, InputFault, Key, Misread, TextFault};
 use serde_json::Value;
 use std::alloc::Global;
@@ -57,9 +55,9 @@ pub(crate) fn unread_fault(at: u64) -> Fault
 }
 
 /// The number of the event that keys lead into, from 1, or 0 where they lead into none; none where
-/// it is 2^64, which no list has.
+/// it would be 2^64, past that of each event.
 fn event_of(path: &[Key]) -> Option<u64>
-    ensures value { result ≡ (if nat_lt (number_of_event path.now) (2 ^ 64)
+    ensures value { result ≡ (if nat_lt (number_of_event path.now) event_bound
         then Some (number_of_event path.now) else None) }
 {
     match path {
@@ -150,6 +148,17 @@ fn help_in(
     }
 }
 
+/// What is found of an input whose fault is not to be explained: the key for which it is refused.
+fn findings_unexplained(alloc: Global, asked: Asked, unread: &UnreadKeys) -> Findings
+    ensures fault { result.fault ≡ option_map fault_unread (first_refused asked unread.now.first) }
+    ensures alone { string_bytes result.help ≡ [] }
+{
+    Findings {
+        fault: refused_for(asked, unread).map(unread_fault),
+        help: String::new(alloc),
+    }
+}
+
 /// What is found of an input that is this value of JSON, in which these keys are read by nothing.
 fn findings_beside(
     alloc: Global,
@@ -159,11 +168,13 @@ fn findings_beside(
     unread: &UnreadKeys,
 ) -> Findings
     requires formed { form_of asked.request ≡ Some form }
-    requires explained { asked.reading.explain ≡ true }
     requires unread { unread.now.first ≡ first_unread_in form (view value.now) }
     ensures findings { (bytes : List ℕ) → json_of_input bytes ≡ Ok (view value.now)
         → AreFindings asked bytes result.fault (string_bytes result.help) }
 {
+    if !asked.reading.explain {
+        return findings_unexplained(alloc, asked, unread);
+    }
     match faulty_part(alloc, form, value) {
         Ok(part) => Findings {
             fault: fault_before(refused_for(asked, unread), &part),
@@ -174,44 +185,27 @@ fn findings_beside(
 }
 
 /// What is found of an input that is this value of JSON.
-fn findings_in(alloc: Global, asked: Asked, form: InputForm, value: &Value) -> Findings
+pub(crate) fn findings_in(alloc: Global, asked: Asked, form: InputForm, value: &Value) -> Findings
     requires formed { form_of asked.request ≡ Some form }
-    requires explained { asked.reading.explain ≡ true }
     ensures findings { (bytes : List ℕ) → json_of_input bytes ≡ Ok (view value.now)
         → AreFindings asked bytes result.fault (string_bytes result.help) }
 {
-    match unread_keys_in(alloc, form, value) {
+    match unread_keys(alloc, form, value) {
         Ok(unread) => findings_beside(alloc, asked, form, value, &unread),
         Err(NoMemory) => Findings::out_of_memory(alloc),
     }
 }
 
-/// What is found of an input that is no JSON, which was misread so.
-fn findings_of_text(alloc: Global, input: &[u8], misread: Misread) -> Findings
-    ensures fault { result.fault ≡ Some (outside (Input misread.fault)) }
-    ensures memory { misread.fault ≡ out_of_memory → string_bytes result.help ≡ [] }
+/// The lines that explain why an input is no JSON, where that is asked for and memory does not run
+/// out for them.
+pub(crate) fn help_for_text(alloc: Global, asked: Asked, input: &[u8], misread: Misread) -> String
+    ensures unexplained { asked.reading.explain ≡ false → string_bytes result ≡ [] }
+    ensures memory { misread.fault ≡ out_of_memory → string_bytes result ≡ [] }
 {
-    let fault = misread.fault();
-    let help = match explanation_of_text(alloc, input, misread) {
-        Ok(help) => help,
-        Err(NoMemory) => String::new(alloc),
-    };
-    Findings {
-        fault: Some(Fault::from(fault)),
-        help,
+    if asked.reading.explain {
+        if let Ok(help) = explanation_of_text(alloc, input, misread) {
+            return help;
+        }
     }
-}
-
-/// What is found of an input that is read as a form: it is parsed once, and then read once, up to
-/// its first fault.
-pub(crate) fn findings_of(alloc: Global, asked: Asked, form: InputForm, input: &[u8]) -> Findings
-    requires formed { form_of asked.request ≡ Some form }
-    requires explained { asked.reading.explain ≡ true }
-    requires short { length input.now ≤ most_bytes }
-    ensures findings { AreFindings asked input.now result.fault (string_bytes result.help) }
-{
-    match parse_json(alloc, input) {
-        Ok(value) => findings_in(alloc, asked, form, &value),
-        Err(misread) => findings_of_text(alloc, input, misread),
-    }
+    String::new(alloc)
 }

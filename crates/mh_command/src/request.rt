@@ -69,19 +69,6 @@ impl Asked {
     {
         !self.reading.is_plain()
     }
-
-    /// What its input is read as before the work, for its fault to be explained.
-    pub(crate) fn explained_form(self) -> Option<InputForm>
-        ensures form { IfSome result (λ form. form_of self.request ≡ Some form) }
-        ensures explained { IfSome result (λ _. self.reading.explain ≡ true) }
-        ensures none { result ≡ None → self.reading.explain ≡ true → form_of self.request ≡ None }
-    {
-        if self.reading.explain {
-            self.request.form()
-        } else {
-            None
-        }
-    }
 }
 
 /// What `mhlink --help` ends with.

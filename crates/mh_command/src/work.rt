@@ -1,28 +1,31 @@
 //! Work for what is asked, over an input that is read whole first where the options of reading want
 //! it.
-ghost use Rattle.std.specs.Prelude.{◌≡◌, ◌≢◌, ◌<◌, ◌≤◌, ◌⊎◌, ◌++◌, ℕ, List, [], None, Some, false, length, string_bytes, true, IfOk, IfErr, IfSome, OnErr, OnOk};
+ghost use Rattle.std.specs.Prelude.{◌≡◌, ◌≢◌, ◌<◌, ◌≤◌, ◌⊎◌, ◌++◌, ℕ, List, [], None, Some, Ok, false, length, string_bytes, true, IfOk, IfErr, IfSome, OnErr, OnOk};
 ghost use Rattle.std.specs.Io.KnownBytes.{IsAtEnd};
+ghost use Rattle.serde_json.specs.View.{view};
 ghost use Rattle.mh_text.specs.Bytes.{most_bytes, HasFailed};
 ghost use Rattle.mh_text.specs.Gives.{no_memory, IsHonest, IsHonestReading, NoOtherFailed};
+ghost use Rattle.mh_text.specs.Inputs.{json_of_input};
 ghost use Rattle.mh_text.specs.Output.{outside, IsUnread};
 ghost use Rattle.mh_text.specs.declared.fault.TextFault.TheVariants.{ReadFailed, WriteFailed};
 ghost use Rattle.mh_explain.specs.Refused.{NamesRefused};
 ghost use Rattle.mh_command.specs.Answers.{fault_at, Works, WorksOn, FailsIn, FailsOn, IsFaultOf, IsHelp};
 ghost use Rattle.mh_command.specs.CommandLine.{HasWorkers};
-ghost use Rattle.mh_command.specs.Readings.{fault_told, form_of, refused_at, unread_in, IsExplained};
+ghost use Rattle.mh_command.specs.Readings.{fault_told, form_of, IsExplained};
 
-use crate::findings::{Findings, findings_of, unread_fault};
+use crate::findings::{Findings, findings_in, help_for_text};
 use crate::line_reasons::line_reasons;
 use crate::request::{Asked, Request};
 use crate::status::{DONE, status_of_verdict};
-use mh_core::NoMemory;
-use mh_explain::{InputForm, UnreadKeys, explanation_of_refused, unread_keys};
+use mh_explain::{InputForm, explanation_of_refused};
 use mh_profile::{check_profile, keep_claim, keep_profile, plan_profile};
-use mh_stress::stress_bytes;
+use mh_stress::{stress_bytes, stress_value};
+use mh_text::readers::parse_json;
 use mh_text::{
-    Fault, InputFault, RefusedEvent, TextFault, Watched, check_bytes, plan_bytes, read_input,
-    run_bytes, run_input,
+    Fault, InputFault, RefusedEvent, TextFault, Watched, check_bytes, check_value, plan_bytes,
+    plan_value, read_input, run_bytes, run_value,
 };
+use serde_json::Value;
 use std::alloc::Global;
 use std::io::{Read, Write};
 use std::sync::Wait;
@@ -151,33 +154,10 @@ fn work_over<T: Threads + Wait + Sync, W: Write>(
     }
 }
 
-/// The keys of a request's input that nothing reads; none are looked for in a profile.
-fn unread(alloc: Global, request: Request, input: &[u8]) -> Result<UnreadKeys, NoMemory>
-    ensures first { IfOk result (λ unread. unread.first ≡ unread_in (form_of request) input.now) }
-{
-    match request.form() {
-        Some(form) => unread_keys(alloc, form, input),
-        None => Ok(UnreadKeys {
-            notes: String::new(alloc),
-            first: None,
-        }),
-    }
-}
-
-/// Where the first key stands that nothing reads, if the input is refused for it.
-fn refused(alloc: Global, asked: Asked, input: &[u8]) -> Result<Option<u64>, NoMemory>
-    ensures value { IfOk result (λ at. at ≡ refused_at asked input.now) }
-{
-    if !asked.reading.strict {
-        return Ok(None);
-    }
-    Ok(unread(alloc, asked.request, input)?.first)
-}
-
 /// The lines that explain a fault of the lines of a profile, where it is asked for and memory does
 /// not run out; else nothing.
 fn help_for(alloc: Global, asked: Asked, input: &[u8], fault: Option<InputFault>) -> String
-    requires formless { asked.reading.explain ≡ true → form_of asked.request ≡ None }
+    requires formless { form_of asked.request ≡ None }
     ensures unexplained { asked.reading.explain ≡ false → string_bytes result ≡ [] }
     ensures silent { fault ≡ None → string_bytes result ≡ [] }
     ensures explained { IsExplained asked.request input.now fault (string_bytes result) }
@@ -208,7 +188,7 @@ fn fault_of(end: Result<u8, Fault>) -> Option<InputFault>
     }
 }
 
-/// Does what is asked over an input that was read, with a fault of the lines of a profile explained.
+/// Does what is asked over the lines of a profile that were read, with a fault of them explained.
 fn work_on<T: Threads + Wait + Sync, W: Write>(
     rt: &T,
     alloc: Global,
@@ -216,7 +196,7 @@ fn work_on<T: Threads + Wait + Sync, W: Write>(
     input: &[u8],
     out: &mut Watched<W>,
 ) -> Outcome
-    requires formless { asked.reading.explain ≡ true → form_of asked.request ≡ None }
+    requires formless { form_of asked.request ≡ None }
     requires workers { HasWorkers asked.request }
     ensures works { IfOk result.end (Works asked (Some input.now) result.refused.items
         (W.contents out.old.inner) (W.contents out.new.inner)) }
@@ -231,14 +211,8 @@ fn work_on<T: Threads + Wait + Sync, W: Write>(
     ensures help { IsHelp asked (Some input.now) result.end result.refused.items
         (string_bytes result.help) }
 {
-    match refused(alloc, asked, input) {
-        Ok(None) => {
-            let end = work_over(rt, alloc, asked.request, input, out);
-            Outcome::beside(alloc, end, help_for(alloc, asked, input, fault_of(end)))
-        }
-        Ok(Some(at)) => Outcome::alone(alloc, Err(unread_fault(at))),
-        Err(NoMemory) => Outcome::alone(alloc, Err(Fault::from(InputFault::NoMemory))),
-    }
+    let end = work_over(rt, alloc, asked.request, input, out);
+    Outcome::beside(alloc, end, help_for(alloc, asked, input, fault_of(end)))
 }
 
 /// What the work gives: its status, and the refused events of a run.
@@ -248,52 +222,136 @@ struct Worked {
     refused: Vec<RefusedEvent>,
 }
 
-/// Does what the request asks over an input that was read, and gives the refused events of a run.
-fn work_known<T: Threads + Wait + Sync, W: Write>(
+impl Worked {
+    /// The status of work in which no event was refused.
+    fn of(alloc: Global, status: u8) -> Worked
+        ensures status { result.status ≡ status }
+        ensures clear { result.refused.items ≡ [] }
+    {
+        Worked {
+            status,
+            refused: Vec::new(alloc),
+        }
+    }
+}
+
+/// An input that was read, its JSON value, and the form that it is read as.
+#[derive(Clone, Copy)]
+struct Parsed<'a> {
+    input: &'a [u8],
+    value: &'a Value,
+    form: InputForm,
+}
+
+/// Does what the request asks over an input that was parsed, and gives the refused events of a run.
+fn work_parsed<T: Threads + Wait + Sync, W: Write>(
     rt: &T,
     alloc: Global,
     request: Request,
-    input: &[u8],
+    parsed: Parsed<'_>,
     out: &mut Watched<W>,
 ) -> Result<Worked, Fault>
+    requires parsed { json_of_input parsed.input.now ≡ Ok (view parsed.value.now) }
     requires workers { HasWorkers request }
-    ensures works { IfOk result (λ worked. WorksOn request (Some input.now) worked.refused.items
-        (W.contents out.old.inner) (W.contents out.new.inner) worked.status) }
+    ensures works { IfOk result (λ worked. WorksOn request (Some parsed.entry.input.now)
+        worked.refused.items (W.contents out.old.inner) (W.contents out.new.inner) worked.status) }
     ensures small { IfOk result (λ worked. worked.status < 2) }
-    ensures fails { IfErr result (FailsOn request (Some input.now)
+    ensures fails { IfErr result (FailsOn request (Some parsed.entry.input.now)
         (W.contents out.old.inner) (W.contents out.new.inner) ⊥
         (HasFailed out.old.failures out.new.failures)) }
     ensures honest { IsHonest result 0 0 out.old.failures out.new.failures }
     ensures others { IfErr result (λ e. e.kind ≢ WriteFailed
         → out.new.failures ≡ out.old.failures) }
 {
+    let value = parsed.value;
     match request {
         Request::Run(options) => Ok(Worked {
-            refused: run_input(rt, alloc, options, input, out)?,
+            refused: run_value(rt, alloc, options, value, out)?,
             status: DONE,
         }),
-        _ => Ok(Worked {
-            status: work_over(rt, alloc, request, input, out)?,
-            refused: Vec::new(alloc),
-        }),
+        Request::Check => {
+            let verdict = check_value(alloc, value, out)?;
+            Ok(Worked::of(alloc, status_of_verdict(verdict)))
+        }
+        Request::Plan(options) => {
+            plan_value(rt, alloc, options, value, out)?;
+            Ok(Worked::of(alloc, DONE))
+        }
+        Request::Stress(options) => {
+            stress_value(rt, alloc, options, value, out)?;
+            Ok(Worked::of(alloc, DONE))
+        }
+        // A profile is read by its lines.
+        Request::CheckProfile | Request::Profile(_) => {
+            let status = work_over(rt, alloc, request, parsed.input, out)?;
+            Ok(Worked::of(alloc, status))
+        }
     }
 }
 
-/// Help, and behind it the lines of refused events, where memory does not run out for them.
-fn with_refused(alloc: Global, help: String, input: &[u8], refused: &[RefusedEvent]) -> String
+/// Help, and behind it the lines of refused events, where they are asked for and memory does not run
+/// out for them.
+fn with_refused(
+    alloc: Global,
+    asked: Asked,
+    help: String,
+    script: &Value,
+    refused: &[RefusedEvent],
+) -> String
+    ensures unexplained { asked.reading.explain ≡ false
+        → string_bytes result ≡ string_bytes help }
     ensures value { (events : List ℕ) × (string_bytes result ≡ string_bytes help ++ events)
         × ((events ≡ []) ⊎ NamesRefused refused.now events) }
 {
     let mut help = help;
-    if let Ok(lines) = explanation_of_refused(alloc, input, refused) {
-        let _ = help.push_str(lines.as_str());
+    if asked.reading.explain {
+        if let Ok(lines) = explanation_of_refused(alloc, script, refused) {
+            let _ = help.push_str(lines.as_str());
+        }
     }
     help
 }
 
-/// Does what is asked over an input that was read as a form before, unless it has a fault, which is
-/// explained then.
-fn work_explained<T: Threads + Wait + Sync, W: Write>(
+/// Does what is asked over an input that was parsed, unless something is found of it before.
+fn work_or_refuse<T: Threads + Wait + Sync, W: Write>(
+    rt: &T,
+    alloc: Global,
+    asked: Asked,
+    parsed: Parsed<'_>,
+    out: &mut Watched<W>,
+) -> Outcome
+    requires formed { form_of asked.request ≡ Some parsed.form }
+    requires parsed { json_of_input parsed.input.now ≡ Ok (view parsed.value.now) }
+    requires workers { HasWorkers asked.request }
+    ensures works { IfOk result.end (Works asked (Some parsed.entry.input.now)
+        result.refused.items (W.contents out.old.inner) (W.contents out.new.inner)) }
+    ensures small { IfOk result.end (λ status. status < 2) }
+    ensures clear { OnErr result.end (result.refused.items ≡ []) }
+    ensures fails { IfErr result.end (FailsIn asked (Some parsed.entry.input.now)
+        (W.contents out.old.inner) (W.contents out.new.inner) ⊥
+        (HasFailed out.old.failures out.new.failures)) }
+    ensures honest { IsHonest result.end 0 0 out.old.failures out.new.failures }
+    ensures others { IfErr result.end (λ e. e.kind ≢ WriteFailed
+        → out.new.failures ≡ out.old.failures) }
+    ensures help { IsHelp asked (Some parsed.entry.input.now) result.end result.refused.items
+        (string_bytes result.help) }
+{
+    let Findings { fault, help } = findings_in(alloc, asked, parsed.form, parsed.value);
+    if let Some(fault) = fault {
+        return Outcome::beside(alloc, Err(fault), help);
+    }
+    match work_parsed(rt, alloc, asked.request, parsed, out) {
+        Ok(Worked { status, refused }) => Outcome {
+            end: Ok(status),
+            help: with_refused(alloc, asked, help, parsed.value, refused.as_slice()),
+            refused,
+        },
+        Err(fault) => Outcome::beside(alloc, Err(fault), help),
+    }
+}
+
+/// Parses an input that was read, and does what is asked over it.
+fn work_read<T: Threads + Wait + Sync, W: Write>(
     rt: &T,
     alloc: Global,
     asked: Asked,
@@ -302,7 +360,6 @@ fn work_explained<T: Threads + Wait + Sync, W: Write>(
     out: &mut Watched<W>,
 ) -> Outcome
     requires formed { form_of asked.request ≡ Some form }
-    requires explained { asked.reading.explain ≡ true }
     requires short { length input.now ≤ most_bytes }
     requires workers { HasWorkers asked.request }
     ensures works { IfOk result.end (Works asked (Some input.now) result.refused.items
@@ -318,46 +375,20 @@ fn work_explained<T: Threads + Wait + Sync, W: Write>(
     ensures help { IsHelp asked (Some input.now) result.end result.refused.items
         (string_bytes result.help) }
 {
-    let Findings { fault, help } = findings_of(alloc, asked, form, input);
-    if let Some(fault) = fault {
-        return Outcome::beside(alloc, Err(fault), help);
-    }
-    match work_known(rt, alloc, asked.request, input, out) {
-        Ok(Worked { status, refused }) => Outcome {
-            end: Ok(status),
-            help: with_refused(alloc, help, input, refused.as_slice()),
-            refused,
-        },
-        Err(fault) => Outcome::beside(alloc, Err(fault), help),
-    }
-}
-
-/// Does what is asked over an input that was read and is read as a form.
-fn work_read<T: Threads + Wait + Sync, W: Write>(
-    rt: &T,
-    alloc: Global,
-    asked: Asked,
-    input: &[u8],
-    out: &mut Watched<W>,
-) -> Outcome
-    requires short { length input.now ≤ most_bytes }
-    requires workers { HasWorkers asked.request }
-    ensures works { IfOk result.end (Works asked (Some input.now) result.refused.items
-        (W.contents out.old.inner) (W.contents out.new.inner)) }
-    ensures small { IfOk result.end (λ status. status < 2) }
-    ensures clear { OnErr result.end (result.refused.items ≡ []) }
-    ensures fails { IfErr result.end (FailsIn asked (Some input.now)
-        (W.contents out.old.inner) (W.contents out.new.inner) ⊥
-        (HasFailed out.old.failures out.new.failures)) }
-    ensures honest { IsHonest result.end 0 0 out.old.failures out.new.failures }
-    ensures others { IfErr result.end (λ e. e.kind ≢ WriteFailed
-        → out.new.failures ≡ out.old.failures) }
-    ensures help { IsHelp asked (Some input.now) result.end result.refused.items
-        (string_bytes result.help) }
-{
-    match asked.explained_form() {
-        Some(form) => work_explained(rt, alloc, asked, form, input, out),
-        None => work_on(rt, alloc, asked, input, out),
+    match parse_json(alloc, input) {
+        Ok(value) => {
+            let parsed = Parsed {
+                input,
+                value: &value,
+                form,
+            };
+            work_or_refuse(rt, alloc, asked, parsed, out)
+        }
+        Err(misread) => {
+            let fault = Fault::from(misread.fault());
+            let help = help_for_text(alloc, asked, input, misread);
+            Outcome::beside(alloc, Err(fault), help)
+        }
     }
 }
 
@@ -366,10 +397,11 @@ fn work_whole<T: Threads + Wait + Sync, R: Read, W: Write>(
     rt: &T,
     alloc: Global,
     asked: Asked,
+    form: InputForm,
     reader: &mut Watched<R>,
     out: &mut Watched<W>,
 ) -> Outcome
-    requires formed { form_of asked.request ≢ None }
+    requires formed { form_of asked.request ≡ Some form }
     requires workers { HasWorkers asked.request }
     ensures works { IfOk result.end (Works asked (R.remaining reader.old.inner) result.refused.items
         (W.contents out.old.inner) (W.contents out.new.inner)) }
@@ -388,7 +420,7 @@ fn work_whole<T: Threads + Wait + Sync, R: Read, W: Write>(
         result.refused.items (string_bytes result.help) }
 {
     match read_input(alloc, reader) {
-        Ok(input) => work_read(rt, alloc, asked, &input, out),
+        Ok(input) => work_read(rt, alloc, asked, form, &input, out),
         Err(kind) => Outcome::alone(alloc, Err(Fault::from(kind))),
     }
 }
@@ -481,7 +513,7 @@ pub(crate) fn work_asked<T: Threads + Wait + Sync, R: Read, W: Write>(
         return Outcome::alone(alloc, work(rt, alloc, asked.request, reader, out));
     }
     match asked.request.form() {
-        Some(_) => work_whole(rt, alloc, asked, reader, out),
+        Some(form) => work_whole(rt, alloc, asked, form, reader, out),
         None => work_lines(rt, alloc, asked, reader, out),
     }
 }

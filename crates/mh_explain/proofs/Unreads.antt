@@ -1,18 +1,7 @@
 -- The first key that nothing reads, piece by piece.
-use Rattle.std.proofs.Common.{◌≡◌, ℕ, ◌∷◌, [], Option, Some, None, List, Ok, Err, refl, ap, sym, ◌∙◌}
+use Rattle.std.proofs.Common.{◌≡◌, ℕ, ◌∷◌, [], Option, Some, None, List, refl, ap, sym, ◌∙◌}
 use Rattle.serde_json.specs.Data.{Data}
-use Rattle.mh_text.specs.declared.fault.Fault.{Fault}
-use Rattle.mh_text.specs.Inputs.{json_of_input}
-use Rattle.mh_text.specs.declared.json.form.InputForm.{InputForm}
-use Rattle.mh_explain.specs.Unread.{Objects, first_along, first_of, first_of_read, first_unread, first_unread_in, or_later}
-
-pub unread_of_json : (form : InputForm) (bytes : List ℕ) (d : Data) → json_of_input bytes ≡ Ok d → first_unread form bytes ≡ first_unread_in form d
-unfolding first_unread
-unread_of_json form bytes d e = ap (first_of_read form) e
-
-pub unread_of_none : (form : InputForm) (bytes : List ℕ) (e : Fault) → json_of_input bytes ≡ Err e → first_unread form bytes ≡ None
-unfolding first_unread
-unread_of_none form bytes e same = ap (first_of_read form) same
+use Rattle.mh_explain.specs.Unread.{Objects, first_along, first_of, or_later}
 
 -- what is found first does not depend on how the looks are joined
 pub or_later_assoc : (a b c : Option ℕ) → or_later (or_later a b) c ≡ or_later a (or_later b c)

@@ -1,4 +1,4 @@
--- What an explanation of a fault tells of its place.
+-- What an explanation of a fault says of its place.
 use Rattle.std.specs.Prelude.{ℕ, ◌≡◌, Bool, true, false, List, [], ◌∷◌, ◌++◌, Option, Some, None, Result, Ok, Err, codes, ⊤}
 use Rattle.serde_json.specs.Data.{Data, array, member, no_items, no_members, number, object, unsigned}
 use Rattle.mh_text.specs.Forms.{misread_by}

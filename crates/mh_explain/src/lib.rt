@@ -32,5 +32,5 @@ pub use lines::{definition_explanation, explanation, explanation_of_part, explan
 pub use mh_text::{InputFault, InputForm};
 pub use near::nearest;
 pub use refused::explanation_of_refused;
-pub use unread::{UnreadKeys, unread_keys, unread_keys_in};
+pub use unread::{UnreadKeys, unread_keys};
 pub use words::quoted;

@@ -2,12 +2,10 @@
 ghost use Rattle.std.specs.Prelude.{◌≡◌, ◌++◌, ℕ, List, string_bytes, IfOk};
 ghost use Rattle.mh_explain.specs.Refused.{NamesRefused, refused_line};
 
-use crate::values::known;
 use crate::why::reasons_of_event;
 use mh_base::NoMemory;
 use mh_core::Refusal;
 use mh_text::RefusedEvent;
-use mh_text::readers::parse_json;
 use serde_json::Value;
 use std::alloc::Global;
 
@@ -45,23 +43,22 @@ fn of_event(
     Ok(format!(in alloc; "event {event}: refused {refusal}\n{reasons}")?)
 }
 
-/// The lines that explain why events of the script in an input were refused: for each, in order, the
-/// line `event N: refused REFUSAL`, and behind that of the first 100 which part failed which test.
+/// The lines that explain why events of a script were refused: for each, in order, the line
+/// `event N: refused REFUSAL`, and behind that of the first 100 which part failed which test.
 ///
 /// Lines behind that begin with two spaces and a word, `where:`, `found:` or `why:`, and each ends
 /// with a newline. Fails only if memory runs out.
 pub fn explanation_of_refused(
     alloc: Global,
-    input: &[u8],
+    script: &Value,
     refused: &[RefusedEvent],
 ) -> Result<String, NoMemory>
     ensures names { IfOk result (λ lines. NamesRefused refused.now (string_bytes lines)) }
 {
-    let script = known(parse_json(alloc, input))?.unwrap_or(Value::Null);
     let mut lines = String::new(alloc);
     let mut left = MOST_EXPLAINED;
     for event in refused {
-        lines.push_str(of_event(alloc, left > 0, &script, *event)?.as_str())?;
+        lines.push_str(of_event(alloc, left > 0, script, *event)?.as_str())?;
         left = left.saturating_sub(1);
     }
     Ok(lines)

@@ -2,7 +2,7 @@
 ghost use Rattle.std.specs.Prelude.{◌≡◌, ◌∷◌, [], map, option_map, Some, None, if◌then◌else◌, IfOk, OnOk};
 ghost use Rattle.serde_json.specs.View.{view, members_view};
 ghost use Rattle.mh_explain.specs.declared.unread.Step.TheVariants.{At};
-ghost use Rattle.mh_explain.specs.Unread.{first_along, first_in, first_of, first_unread, first_unread_in, first_where, has_other, is_read as is_among, offered_in, or_later, version_in, objects_of, script_objects, problem_objects, claim_objects};
+ghost use Rattle.mh_explain.specs.Unread.{first_along, first_in, first_of, first_unread_in, first_where, has_other, is_read as is_among, offered_in, or_later, version_in, objects_of, script_objects, problem_objects, claim_objects};
 
 use crate::near::nearest;
 use crate::objects::{
@@ -13,8 +13,7 @@ use crate::path::{Path, longer};
 use crate::values::{items, version_of};
 use mh_base::NoMemory;
 use mh_site::Version;
-use mh_text::readers::read_json;
-use mh_text::{Field, InputFault, InputForm, Key, TextFault};
+use mh_text::{Field, InputForm, Key};
 use serde_json::{Map, Value};
 use std::alloc::Global;
 
@@ -389,33 +388,15 @@ impl UnreadKeys {
     }
 }
 
-/// The keys of a value of JSON that nothing reads, as `unread_keys` has them.
+/// The keys of a JSON value that nothing reads, where it is read as a form.
 ///
-/// Fails only if memory runs out.
-pub fn unread_keys_in(alloc: Global, form: InputForm, value: &Value) -> Result<UnreadKeys, NoMemory>
+/// A part of it that is of another form than the one that is read there has none. Fails only if
+/// memory runs out.
+pub fn unread_keys(alloc: Global, form: InputForm, value: &Value) -> Result<UnreadKeys, NoMemory>
     ensures first { IfOk result (λ unread. unread.first ≡ first_unread_in form (view value.now)) }
 {
     let version = version_of_input(form, value)?;
     let mut unread = UnreadKeys::new(alloc);
     unread.add_input(alloc, form, version, value)?;
     Ok(unread)
-}
-
-/// The keys of an input that nothing reads.
-///
-/// An input that is no JSON, or too long, has none; nor has a part of it that is of another form
-/// than the one that is read there. Fails only if memory runs out.
-#[tactic(auto, using(crate::proofs::Unreads::unread_of_json, crate::proofs::Unreads::unread_of_none))]
-pub fn unread_keys(alloc: Global, form: InputForm, input: &[u8]) -> Result<UnreadKeys, NoMemory>
-    ensures first { IfOk result (λ unread. unread.first ≡ first_unread form input.now) }
-{
-    match read_json(alloc, input) {
-        Ok(value) => unread_keys_in(alloc, form, &value),
-        Err(fault) => {
-            if fault.kind == TextFault::Input(InputFault::NoMemory) {
-                return Err(NoMemory);
-            }
-            Ok(UnreadKeys::new(alloc))
-        }
-    }
 }

@@ -1,8 +1,9 @@
 -- What a stress of a script writes.
-use Rattle.std.specs.Prelude.{ℕ, ◌≡◌, ◌⊎◌, ◌+◌, ◌*◌, ◌<◌, ◌≤◌, ◌^◌, Bool, List, [], ◌∷◌, ◌++◌, Option, Some, None, Ok, codes, cond, length, max, min, IfSome}
+use Rattle.std.specs.Prelude.{ℕ, ◌≡◌, ◌⊎◌, ◌+◌, ◌*◌, ◌<◌, ◌≤◌, ◌^◌, Bool, List, [], ◌∷◌, ◌++◌, Option, Some, None, Result, Ok, codes, cond, length, max, min, IfSome}
 use Rattle.std.specs.Fmt.{decimal}
 use Rattle.std.specs.Io.KnownBytes.{Keeps}
 use Rattle.std.specs.List.{range_with_len, sum_by}
+use Rattle.serde_json.specs.Data.{Data}
 use Rattle.mh_site.specs.Defined.{DefinitionData}
 use Rattle.mh_site.specs.Links.{links}
 use Rattle.mh_core.specs.Books.{Legal}
@@ -13,7 +14,8 @@ use Rattle.mh_ledger.specs.Ledgers.{at}
 use Rattle.mh_live.specs.Limits.{most_workers}
 use Rattle.mh_live.specs.declared.open_fault.OpenFault.{OpenFault}
 use Rattle.mh_live.specs.declared.open_fault.OpenFault.TheVariants as opening
-use Rattle.mh_text.specs.Output.{EndsReading, IsUnread, outside, script_of_input}
+use Rattle.mh_text.specs.Inputs.{json_of_input}
+use Rattle.mh_text.specs.Output.{EndsReadingBy, IsUnread, outside, script_by}
 use Rattle.mh_text.specs.Planning.{IsCutShort}
 use Rattle.mh_text.specs.Report.{tables_text}
 use Rattle.mh_text.specs.declared.fault.Fault.{Fault}
@@ -100,16 +102,28 @@ abbrev pub IsSettledTextOf : StressOptions → Script → List ℕ → Type 0
 IsSettledTextOf options script =
     IsSettledText options.report script.definition script.limits (calls_in script.steps) (workers_of options.workers script.workers) options.rounds
 
+-- the same of the script of a source that has a JSON value or a fault
+abbrev pub IsStressedBy : {A : Type 0} → (A → Result Data Fault) → StressOptions → A → List ℕ → Type 0
+IsStressedBy json options source text = (script : Script) × (script_by json source ≡ Ok script) × IsSettledTextOf options script text
+
 -- the same of the script of an input
 abbrev pub IsStressed : StressOptions → List ℕ → List ℕ → Type 0
-IsStressed options input text = (script : Script) × (script_of_input input ≡ Ok script) × IsSettledTextOf options script text
+IsStressed = IsStressedBy json_of_input
+
+-- a source is a script
+abbrev pub IsScriptBy : {A : Type 0} → (A → Result Data Fault) → A → Type 0
+IsScriptBy json source = (script : Script) × (script_by json source ≡ Ok script)
 
 -- an input is a script
 abbrev pub IsScript : List ℕ → Type 0
-IsScript input = (script : Script) × (script_of_input input ≡ Ok script)
+IsScript = IsScriptBy json_of_input
 
 -- Where a fault leaves the writer: as it was, or with a beginning of the line.
+abbrev pub FailsStressBy : {A : Type 0} → (A → Result Data Fault) → StressOptions → Option A → Option (List ℕ) → Option (List ℕ) → Type 0 → Type 0 → Fault → Type 0
+FailsStressBy json options source old new ReadHasFailed WriteHasFailed e =
+    (Keeps old new × (IsUnread (EndsReadingBy json) source ReadHasFailed e ⊎ (e ≡ outside NoReader)))
+    ⊎ ((text : List ℕ) × IfSome source (λ it. IsStressedBy json options it text) × IsCutShort old new WriteHasFailed e text)
+
+-- where a fault leaves the writer of a stress of an input
 abbrev pub FailsStress : StressOptions → Option (List ℕ) → Option (List ℕ) → Option (List ℕ) → Type 0 → Type 0 → Fault → Type 0
-FailsStress options input old new ReadHasFailed WriteHasFailed e =
-    (Keeps old new × (IsUnread EndsReading input ReadHasFailed e ⊎ (e ≡ outside NoReader)))
-    ⊎ ((text : List ℕ) × IfSome input (λ bytes. IsStressed options bytes text) × IsCutShort old new WriteHasFailed e text)
+FailsStress = FailsStressBy json_of_input

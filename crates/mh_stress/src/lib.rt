@@ -16,4 +16,4 @@ mod sums;
 mod threads;
 
 pub use mh_text::{Fault, InputFault, TextFault, Watched};
-pub use stress::{MOST_ROUNDS, StressOptions, stress_bytes};
+pub use stress::{MOST_ROUNDS, StressOptions, stress_bytes, stress_value};

@@ -1,19 +1,22 @@
 //! A script in, the sums of its workers out.
-ghost use Rattle.std.specs.Prelude.{◌≡◌, ◌⊎◌, ◌<◌, ◌≤◌, ◌+◌, ℕ, List, string_bytes, length, IfOk, IfErr, IfSome, IsErrOf, OnOk};
+ghost use Rattle.std.specs.Prelude.{◌≡◌, ◌≢◌, ◌⊎◌, ◌<◌, ◌≤◌, ◌+◌, ℕ, List, Ok, Some, string_bytes, length, IfOk, IfErr, IfSome, IsErrOf, OnOk};
 ghost use Rattle.std.specs.Io.KnownBytes.{Appends, IsAtEnd};
+ghost use Rattle.serde_json.specs.View.{view};
 ghost use Rattle.mh_text.specs.Bytes.{HasFailed, LosesAtMost, most_bytes};
 ghost use Rattle.mh_text.specs.Gives.{no_memory, IsHonest, NoOtherFailed};
 ghost use Rattle.mh_text.specs.Output.{outside};
-ghost use Rattle.mh_text.specs.declared.fault.TextFault.TheVariants.{NoReader};
+ghost use Rattle.mh_text.specs.declared.fault.TextFault.TheVariants.{NoReader, WriteFailed};
 ghost use Rattle.mh_live.specs.Limits.{most_workers};
-ghost use Rattle.mh_stress.specs.Stress.{AreLawful, FailsStress, cause_of, IsSettledText, IsScript, IsSettledTextOf, IsStressed, workers_of};
+ghost use Rattle.mh_stress.specs.Stress.{AreLawful, FailsStress, FailsStressBy, cause_of, IsSettledText, IsScript, IsScriptBy, IsSettledTextOf, IsStressed, IsStressedBy, workers_of};
 ghost use Rattle.mh_stress.specs.Rounds.{AreFresh};
 
 use crate::division::{Division, divide};
 use crate::settled::settled_lines;
 use crate::threads::work_beside;
 use mh_live::{Live, MOST_WORKERS, Name, OpenFault, Opening, Pass};
+use mh_text::readers::read_script_value;
 use mh_text::{Fault, InputFault, Script, TextFault, Watched, read_script_from, write_lines};
+use serde_json::Value;
 use std::alloc::Global;
 use std::io::{Read, Write};
 use std::marker::Brand;
@@ -146,8 +149,8 @@ fn stress_script<T: Threads + Wait + Sync>(
 /// that was made is added up.
 ///
 /// The input is read to its end, or to the first byte past 1,048,576. A fault in it, of memory or
-/// of readers of the published world (`NoReader`, which is told of a script alone) writes nothing.
-/// A failing write leaves a beginning of the line, and is told at 0.
+/// of readers of the published world (`NoReader`, which comes of a script alone) writes nothing.
+/// A failing write leaves a beginning of the line, and is reported at 0.
 pub fn stress_bytes<T: Threads + Wait + Sync, R: Read, W: Write>(
     rt: &T,
     alloc: Global,
@@ -174,6 +177,30 @@ pub fn stress_bytes<T: Threads + Wait + Sync, R: Read, W: Write>(
         (R.remaining reader.new.inner) }
 {
     let script = read_script_from(alloc, reader)?;
+    let lines = stress_script(rt, alloc, options, script)?;
+    write_lines(lines, writer)
+}
+
+/// Stresses the script that a JSON value is, and writes its lines, as `stress_bytes` does.
+pub fn stress_value<T: Threads + Wait + Sync, W: Write>(
+    rt: &T,
+    alloc: Global,
+    options: StressOptions,
+    value: &Value,
+    writer: &mut Watched<W>,
+) -> Result<(), Fault>
+    requires options { AreLawful options }
+    ensures ok { OnOk result ((text : List ℕ) × IsStressedBy Ok options (view value.now) text
+        × Appends (W.contents writer.old.inner) (W.contents writer.new.inner) text) }
+    ensures failed { IfErr result (λ e. FailsStressBy Ok options (Some (view value.now))
+        (W.contents writer.old.inner) (W.contents writer.new.inner)
+        ⊥ (HasFailed writer.old.failures writer.new.failures) e) }
+    ensures script { IsErrOf result (outside NoReader) → IsScriptBy Ok (view value.now) }
+    ensures honest { IsHonest result 0 0 writer.old.failures writer.new.failures }
+    ensures others { IfErr result (λ e. e.kind ≢ WriteFailed
+        → writer.new.failures ≡ writer.old.failures) }
+{
+    let script = read_script_value(alloc, value)?;
     let lines = stress_script(rt, alloc, options, script)?;
     write_lines(lines, writer)
 }

@@ -1,12 +1,13 @@
 -- A problem and then a plan, as they are read and checked.
 use Rattle.std.proofs.Common.{◌≡◌, ◌⊎◌, inl, inr, refl, sym, ap, Result, Ok, Err, IfSome, List, ℕ, Option, Some, None}
 use Rattle.std.specs.Io.KnownBytes.{Keeps}
+use Rattle.serde_json.specs.Data.{Data}
 use Rattle.mh_network.specs.Problems.{ProblemData}
 use Rattle.mh_cert.specs.declared.plan.Plan.{Plan}
 use Rattle.mh_text.specs.declared.fault.Fault.{Fault}
 use Rattle.mh_text.specs.declared.json.problem.ProblemRows.{ProblemRows}
 use Rattle.mh_text.specs.declared.lines.verdict.Verdict.{Verdict}
-use Rattle.mh_text.specs.Checks.{IsFirstOf, IsClaim, IsFound, IsVerdict, IsCutOff, FailsCheck}
+use Rattle.mh_text.specs.Checks.{IsFirstOf, IsClaim, IsFound, IsVerdict, IsVerdictBy, IsCutOff, FailsCheckBy}
 use Rattle.mh_text.specs.Gives.{no_memory}
 use Rattle.mh_text.specs.Output.{outside}
 use Rattle.mh_text.specs.Problems.{MakesProblem}
@@ -31,8 +32,8 @@ found_in None p plan verdict known found = known
 found_in (Some bytes) p plan verdict claim found = (p, plan, claim, found)
 
 -- a line that was not written to its end
-pub unwritten : (input old new : Option (List ℕ)) (ReadHasFailed WriteHasFailed : Type 0) (e : Fault) (verdict : Verdict)
-    → IfSome input (λ bytes. IsVerdict bytes verdict) → (Keeps old new × (e ≡ outside no_memory)) ⊎ IsCutOff old new WriteHasFailed e verdict
-    → FailsCheck input old new ReadHasFailed WriteHasFailed e
-unwritten input old new ReadHasFailed WriteHasFailed e verdict found (inl (kept, memory)) = inl (kept, inl memory)
-unwritten input old new ReadHasFailed WriteHasFailed e verdict found (inr cut) = inr (verdict, found, cut)
+pub unwritten : {A : Type 0} (json : A → Result Data Fault) (source : Option A) (old new : Option (List ℕ)) (ReadHasFailed WriteHasFailed : Type 0) (e : Fault) (verdict : Verdict)
+    → IfSome source (λ it. IsVerdictBy json it verdict) → (Keeps old new × (e ≡ outside no_memory)) ⊎ IsCutOff old new WriteHasFailed e verdict
+    → FailsCheckBy json source old new ReadHasFailed WriteHasFailed e
+unwritten json source old new ReadHasFailed WriteHasFailed e verdict found (inl (kept, memory)) = inl (kept, inl memory)
+unwritten json source old new ReadHasFailed WriteHasFailed e verdict found (inr cut) = inr (verdict, found, cut)

@@ -13,3 +13,4 @@ mod Runs
 mod Shapes
 mod SharedPairs
 mod SitesInOrder
+pub mod Values

@@ -1,14 +1,15 @@
--- A problem that was read is that of the input, or its first fault was told; and what is written of its plan.
+-- A problem that was read is that of the input, or the fault is its first; and what is written of its plan.
 use Rattle.std.proofs.Common.{◌≡◌, ◌⊎◌, inl, inr, refl, sym, ap, ℕ, List, Option, Some, None, Result, Ok, Err, IfOk, IfErr, IfSome}
 use Rattle.std.specs.Io.KnownBytes.{Appends}
+use Rattle.serde_json.specs.Data.{Data}
 use Rattle.mh_network.specs.Problems.{ProblemData}
 use Rattle.mh_text.specs.declared.fault.Fault.{Fault}
 use Rattle.mh_text.specs.declared.json.problem.ProblemRows.{ProblemRows}
 use Rattle.mh_text.specs.Gives.{no_memory}
 use Rattle.mh_text.specs.Output.{outside}
 use Rattle.mh_text.specs.declared.streams.planning.PlanOptions.{PlanOptions}
-use Rattle.mh_text.specs.Planning.{IsProblemInput, IsProblemFault, IsPlanOf, IsPlanned}
-use Rattle.mh_text.specs.Problems.{rows_of_input, IsMade, IsNotMade, MakesProblem}
+use Rattle.mh_text.specs.Planning.{IsProblemBy, IsProblemFaultBy, IsProblemInput, IsPlanOf, IsPlanned}
+use Rattle.mh_text.specs.Problems.{rows_by, IsMade, IsNotMade, MakesProblem}
 
 made_of : (rows : Result ProblemRows Fault) (p : ProblemData) → MakesProblem rows (Ok p) → (r : ProblemRows) × (rows ≡ Ok r) × IsMade r p
 made_of (Ok rows) p made = (rows, refl, made)
@@ -20,13 +21,14 @@ fault_of (Ok rows) e (inr fails) = inr (inr (rows, refl, fails))
 fault_of (Err first) e (inl memory) = inl memory
 fault_of (Err first) e (inr same) = inr (inl (ap Err (sym same)))
 
-pub is_input : (input : List ℕ) (r : Result ProblemData Fault) → MakesProblem (rows_of_input None input) r → IfOk r (λ p. IsProblemInput input p)
-is_input input (Ok p) made = made_of (rows_of_input None input) p made
-is_input input (Err e) made = tt
+module _ {A : Type 0} (json : A → Result Data Fault) (source : A) where
+  pub is_problem : (r : Result ProblemData Fault) → MakesProblem (rows_by json None source) r → IfOk r (IsProblemBy json source)
+  is_problem (Ok p) made = made_of (rows_by json None source) p made
+  is_problem (Err e) made = tt
 
-pub is_fault : (input : List ℕ) (r : Result ProblemData Fault) → MakesProblem (rows_of_input None input) r → IfErr r (λ e. (e ≡ outside no_memory) ⊎ IsProblemFault input e)
-is_fault input (Ok p) made = tt
-is_fault input (Err e) made = fault_of (rows_of_input None input) e made
+  pub is_fault : (r : Result ProblemData Fault) → MakesProblem (rows_by json None source) r → IfErr r (λ e. (e ≡ outside no_memory) ⊎ IsProblemFaultBy json source e)
+  is_fault (Ok p) made = tt
+  is_fault (Err e) made = fault_of (rows_by json None source) e made
 
 -- the lines of a plan are those of the input's problem
 pub planned_in : (options : PlanOptions) (input : Option (List ℕ)) (p : ProblemData) (text : List ℕ)

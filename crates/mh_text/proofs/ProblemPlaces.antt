@@ -54,7 +54,7 @@ module _ (passes : LinkRow → Bool) (Fact : LinkRow → Type 0) (each : (r : Li
           | inr last ↦ let e : a ≡ k = omega (arith, below, last) in subst (λ i. passes (at i) ≡ true) e ((each (at a)).1 there.0)
         ]) there.1
 
-    -- it is told of the first link that fails, or later
+    -- it is of the first link that fails, or comes later
     pub first_or_later : Refuses (tests_of_needs Fact fault links later) m → IsTold ⊎ Refuses later m
     first_or_later h = walk 0 (length links) (omega arith) (λ k below. absurd (omega (arith, below))) h
 

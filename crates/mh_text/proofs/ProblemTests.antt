@@ -1,4 +1,4 @@
--- The decided tests of a problem tell what `version_tests` tell.
+-- The decided tests of a problem refuse what `version_tests` refuse.
 use Rattle.std.proofs.Common.{◌≡◌, ℕ, zero, suc, ◌+◌, ◌<◌, ◌≤◌, List, [], ◌∷◌, Bool, true, false, Some, None, inl, inr, refl, sym, subst, ap, arith, length}
 use Rattle.std.specs.Prelude.{nat_le, nat_lt, ◌&&◌}
 use Rattle.std.specs.Bool.{Decides}
@@ -13,7 +13,7 @@ use Rattle.mh_text.specs.declared.json.problem.ProblemRows.{ProblemRows}
 use Rattle.mh_text.specs.Versions.{version_tests}
 use Rattle.mh_text.specs.Problems.{ascend, ascend_from, decided_tests, needs_known}
 
--- What tests refuse is what the first failing of the decided ones tells, and they pass where none fails.
+-- What tests refuse is the cause of the first decided one that fails, and they pass where none fails.
 pub record Tell {E : Type 0} (tests : Tests E) (decided : Decided E) : Type 0 where
   pub refuses : (told : E) → Refuses tests told → first_failing decided ≡ Some told
   pub passes : Passes tests → first_failing decided ≡ None

@@ -49,7 +49,7 @@ module _ (d : Data) (rows : ProblemRows) where
       let made : problem_made rows ≡ Ok problem = ap (made_unless problem) ((decided rows).passes is.0) in
       rw (read, made, is.1) refl
 
-  -- and else the first test that fails is told, where its fault stands
+  -- and else the fault is that of the first test that fails, at its place
   pub problem_is_refused : (misfit : ProblemMisfit) (m : MisreadData) → rows_of d ≡ Ok rows → IsCause rows misfit.fault
       → (misfit.fault ≡ NoMemory) ⊎ (keys_in_problem misfit.place ≡ place_in rows.links rows.costs misfit.fault)
       → (m.fault ≡ input.NoMemory) ⊎ (m ≡ of_problem_misfit misfit) → (m.fault ≡ input.NoMemory) ⊎ (problem_read d ≡ Err m)

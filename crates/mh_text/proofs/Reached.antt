@@ -65,7 +65,7 @@ module _ (declared : Declarations) (values : List Value) (i at : ℕ) (before : 
   front_length : at ≡ 1 + length front
   front_length = let few : i ≤ length values = omega (arith, inside) in omega (arith, number, length-map (take i values) view, length-take-le i values few)
 
-  -- it may be told by number
+  -- its fault may have the number
   pub is_next : IsNext declared (map view values) at
   is_next =
       let place : at - 1 ≡ i = omega (arith, number) in
@@ -86,7 +86,7 @@ module _ (declared : Declarations) (values : List Value) (i at : ℕ) (before : 
       ∙ map-append view (take i values) (v ∷ drop (i + 1) values) in
       ap (steps_of declared) split ∙ each_fails read_at 1 at front rest (view v) before e so_far front_length here
 
-  -- and is told, or memory ran out at its number
+  -- and has it, or memory ran out at its number
   pub step_fails : (e : Fault) → (e ≡ record { kind = no_memory; at = at }) ⊎ (read_at at (view v) ≡ Err e)
       → GivesUpTo {X = List Step} (IsNext declared (map view values)) (Err e) (steps_of declared (map view values))
   step_fails e (inl memory) = inr (inl (ap (λ f. f.kind) memory, subst (IsNext declared (map view values)) (sym (ap (λ f. f.at) memory)) is_next))

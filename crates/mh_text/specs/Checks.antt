@@ -15,8 +15,9 @@ use Rattle.mh_text.specs.Bytes.{AppendsFront}
 use Rattle.mh_text.specs.Output.{IsUnread, outside}
 use Rattle.mh_text.specs.Gives.{◌>>=◌}
 use Rattle.mh_text.specs.Misreads.{MisreadData}
-use Rattle.mh_text.specs.Plans.{plan_of, plan_of_input}
-use Rattle.mh_text.specs.Problems.{problem_read, rows_of_input, IsMade, IsNotMade}
+use Rattle.mh_text.specs.Inputs.{json_of_input}
+use Rattle.mh_text.specs.Plans.{plan_of, plan_by}
+use Rattle.mh_text.specs.Problems.{problem_read, rows_by, IsMade, IsNotMade}
 use Rattle.mh_text.specs.Shape.{member_of}
 use Rattle.mh_text.specs.declared.key.Field.TheVariants as field
 use Rattle.mh_text.specs.declared.streams.claim.Claim.{Claim}
@@ -33,13 +34,21 @@ IsFirstOf problem read e =
     (problem ≡ Err e)
     ⊎ ((rows : ProblemRows) × (problem ≡ Ok rows) × (IsNotMade rows e ⊎ (Passes (version_tests rows.version rows.links rows.costs) × (read ≡ Err e))))
 
--- an input of a check has its problem at one key, and the plan at another
-abbrev pub IsClaim : List ℕ → ProblemData → Plan → Type 0
-IsClaim input p plan = Holds (rows_of_input (Some (codes "problem")) input) (plan_of_input (Some (codes "plan")) input) p plan
+-- a source of a check has its problem at one key, and the plan at another
+abbrev pub IsClaimBy : {A : Type 0} → (A → Result Data Fault) → A → ProblemData → Plan → Type 0
+IsClaimBy json source p plan = Holds (rows_by json (Some (codes "problem")) source) (plan_by json (Some (codes "plan")) source) p plan
 
--- the first fault of such an input
+-- an input of a check has both
+abbrev pub IsClaim : List ℕ → ProblemData → Plan → Type 0
+IsClaim = IsClaimBy json_of_input
+
+-- the first fault of such a source
+abbrev pub IsClaimFaultBy : {A : Type 0} → (A → Result Data Fault) → A → Fault → Type 0
+IsClaimFaultBy json source e = IsFirstOf (rows_by json (Some (codes "problem")) source) (plan_by json (Some (codes "plan")) source) e
+
+-- the first fault of an input of a check
 abbrev pub IsClaimFault : List ℕ → Fault → Type 0
-IsClaimFault input e = IsFirstOf (rows_of_input (Some (codes "problem")) input) (plan_of_input (Some (codes "plan")) input) e
+IsClaimFault = IsClaimFaultBy json_of_input
 
 -- a problem at one key, which is read and made, and then a plan at another: their fault knows its place
 abbrev pub claim_read : Data → Result Claim MisreadData
@@ -48,14 +57,18 @@ claim_read d = do
   plan ← member_of field.Plan plan_of d
   Ok (record { problem = problem; plan = plan })
 
--- A plan is accepted where it matches its problem, and its links are then best; else its first part that is wrong is told.
+-- A plan is accepted where it matches its problem, and its links are then best; else the verdict names its first part that is wrong.
 abbrev pub IsFound : ProblemData → Plan → Verdict → Type 0
 IsFound p plan Accepted = Matches p plan × IsBest p (member plan.links)
 IsFound p plan (Refused cause) = Refuses (plan_tests p plan) cause × (Matches p plan → ⊥)
 
+-- what a check of a source finds
+abbrev pub IsVerdictBy : {A : Type 0} → (A → Result Data Fault) → A → Verdict → Type 0
+IsVerdictBy json source verdict = (p : ProblemData) × (plan : Plan) × IsClaimBy json source p plan × IsFound p plan verdict
+
 -- what a check of an input finds
 abbrev pub IsVerdict : List ℕ → Verdict → Type 0
-IsVerdict input verdict = (p : ProblemData) × (plan : Plan) × IsClaim input p plan × IsFound p plan verdict
+IsVerdict = IsVerdictBy json_of_input
 
 -- what is found, and the byte 0x0A
 abbrev pub verdict_line : Verdict → List ℕ
@@ -68,7 +81,11 @@ IsCutOff old new WriteHasFailed e verdict =
     (e ≡ outside WriteFailed) × WriteHasFailed × AppendsFront old new (verdict_line verdict)
 
 -- Where a fault leaves the writer: as it was, or with a beginning of the line.
+abbrev pub FailsCheckBy : {A : Type 0} → (A → Result Data Fault) → Option A → Option (List ℕ) → Option (List ℕ) → Type 0 → Type 0 → Fault → Type 0
+FailsCheckBy json source old new ReadHasFailed WriteHasFailed e =
+    (Keeps old new × IsUnread (IsClaimFaultBy json) source ReadHasFailed e)
+    ⊎ ((verdict : Verdict) × IfSome source (λ it. IsVerdictBy json it verdict) × IsCutOff old new WriteHasFailed e verdict)
+
+-- where a fault leaves the writer of a check of an input
 abbrev pub FailsCheck : Option (List ℕ) → Option (List ℕ) → Option (List ℕ) → Type 0 → Type 0 → Fault → Type 0
-FailsCheck input old new ReadHasFailed WriteHasFailed e =
-    (Keeps old new × IsUnread IsClaimFault input ReadHasFailed e)
-    ⊎ ((verdict : Verdict) × IfSome input (λ bytes. IsVerdict bytes verdict) × IsCutOff old new WriteHasFailed e verdict)
+FailsCheck = FailsCheckBy json_of_input

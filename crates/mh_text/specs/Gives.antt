@@ -56,7 +56,7 @@ abbrev pub caused : {A C : Type 0} → (C → InputFault) → Result A C → Res
 caused fault (Ok x) = Ok x
 caused fault (Err cause) = Err (here (fault cause))
 
--- want of memory, as a fault of the whole run
+-- out of memory, as a fault of the whole run
 abbrev pub no_memory : TextFault
 no_memory = text.Input NoMemory
 
@@ -69,12 +69,12 @@ abbrev pub at_place : {A : Type 0} → ℕ → Result A MisreadData → Result A
 at_place place (Ok x) = Ok x
 at_place place (Err e) = Err (record { kind = text.Input e.fault; at = place })
 
--- the same as Gives where the fault has its place, and want of memory the place 0
+-- the same as Gives where the fault has its place, and out of memory the place 0
 abbrev pub GivesAt : {X Y : Type 0} → (X → Y) → Result X Fault → Result Y Fault → Type 0
 GivesAt view (Ok x) read = read ≡ Ok (view x)
 GivesAt view (Err e) read = (e ≡ record { kind = no_memory; at = 0 }) ⊎ (read ≡ Err e)
 
--- the same where want of memory may also be told at a place that is reached
+-- the same where memory may also run out at a place that is reached
 abbrev pub GivesUpTo : {X : Type 0} → (ℕ → Type 0) → Result X Fault → Result X Fault → Type 0
 GivesUpTo IsReached (Ok x) read = read ≡ Ok x
 GivesUpTo IsReached (Err e) read =
@@ -85,13 +85,13 @@ abbrev pub GivesNumbered : {X : Type 0} → ℕ → Result X Fault → Result X 
 GivesNumbered place (Ok x) read = read ≡ Ok x
 GivesNumbered place (Err e) read = (e ≡ record { kind = no_memory; at = place }) ⊎ (at_place place read ≡ Err e)
 
--- a fault of a stream is told only where that stream failed
+-- a fault of a stream comes only where that stream failed
 abbrev pub IsEndOf : Type 0 → Type 0 → TextFault → Type 0
 IsEndOf ReadHasFailed WriteHasFailed text.ReadFailed = ReadHasFailed
 IsEndOf ReadHasFailed WriteHasFailed text.WriteFailed = WriteHasFailed
 IsEndOf ReadHasFailed WriteHasFailed _ = ⊤
 
--- a fault of a stream is told only where that stream failed, and success only where neither did
+-- a fault of a stream comes only where that stream failed, and success only where neither did
 abbrev pub IsHonest : {A : Type 0} → Result A Fault → ℕ → ℕ → ℕ → ℕ → Type 0
 IsHonest (Ok x) reads_old reads_new writes_old writes_new = (reads_new ≡ reads_old) × (writes_new ≡ writes_old)
 IsHonest (Err e) reads_old reads_new writes_old writes_new = IsEndOf (HasFailed reads_old reads_new) (HasFailed writes_old writes_new) e.kind
@@ -106,6 +106,6 @@ abbrev pub NoOtherFailed : TextFault → ℕ → ℕ → ℕ → ℕ → Type 0
 NoOtherFailed kind reads_old reads_new writes_old writes_new =
     (kind ≢ text.ReadFailed → reads_new ≡ reads_old) × (kind ≢ text.WriteFailed → writes_new ≡ writes_old)
 
--- a fault that an input may have, or want of memory, and not that of a stream
+-- a fault that an input may have, or out of memory, and not that of a stream
 abbrev pub IsOfInput : TextFault → Type 0
 IsOfInput = IsEndOf ⊥ ⊥

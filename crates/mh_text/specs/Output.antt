@@ -23,11 +23,15 @@ use Rattle.mh_core.specs.Legal.{MachineState, Setting, opened_machine}
 use Rattle.mh_text.specs.Report.{report_text}
 use Rattle.mh_text.specs.Script.{script_of, IsReached}
 
+-- the script of a source that has a JSON value or a fault: an input has it by `json_of_input`, and a value by `Ok`
+abbrev pub script_by : {A : Type 0} → (A → Result Data Fault) → A → Result Script Fault
+script_by json source = do
+  value ← json source
+  script_of value
+
 -- the script of an input
 abbrev pub script_of_input : List ℕ → Result Script Fault
-script_of_input input = do
-  value ← json_of_input input
-  script_of value
+script_of_input = script_by json_of_input
 
 -- the report of a machine, where it is asked for
 abbrev pub report_where : Bool → MachineState → List ℕ
@@ -39,7 +43,7 @@ abbrev pub with_report : Bool → List ℕ → MachineState → List ℕ
 with_report true lines m = lines ++ report_text m
 with_report false lines m = lines
 
--- what is written of a run that tells this and ends with this history
+-- what is written of a run that replies so and ends with this history
 abbrev pub run_text : RunOptions → Setting → List Told → List Event → List ℕ
 run_text options x replies last = with_report options.report (lines_of x.definition replies) (record { setting = x; history = last })
 
@@ -85,18 +89,26 @@ outside kind = record { kind = kind; at = 0 }
 abbrev pub IsScriptFault : List ℕ → Fault → Type 0
 IsScriptFault input e = script_of_input input ≡ Err e
 
--- event n of an input stands there, and nothing before it has a fault
+-- event n of a source is reached: it stands there, and nothing before it has a fault
+abbrev pub IsReachedBy : {A : Type 0} → (A → Result Data Fault) → A → ℕ → Type 0
+IsReachedBy json source n = (d : Data) × (json source ≡ Ok d) × IsReached d n
+
+-- event n of an input is reached
 abbrev pub IsReachedIn : List ℕ → ℕ → Type 0
-IsReachedIn input n = (d : Data) × (json_of_input input ≡ Ok d) × IsReached d n
+IsReachedIn = IsReachedBy json_of_input
 
--- what ends the reading of a script: its first fault, or want of memory at an event that is reached
+-- what ends the reading of a script: its first fault, or memory that runs out at an event that is reached
+abbrev pub EndsReadingBy : {A : Type 0} → (A → Result Data Fault) → A → Fault → Type 0
+EndsReadingBy json source e = (script_by json source ≡ Err e) ⊎ ((e.kind ≡ no_memory) × IsReachedBy json source e.at)
+
+-- what ends the reading of an input as a script
 abbrev pub EndsReading : List ℕ → Fault → Type 0
-EndsReading input e = IsScriptFault input e ⊎ ((e.kind ≡ no_memory) × IsReachedIn input e.at)
+EndsReading = EndsReadingBy json_of_input
 
--- A fault before anything is written: want of memory outside the events, a read that failed, or a fault of the input.
-abbrev pub IsUnread : (List ℕ → Fault → Type 0) → Option (List ℕ) → Type 0 → Fault → Type 0
-IsUnread IsFault input ReadHasFailed e =
-    (e ≡ outside no_memory) ⊎ ((e ≡ outside fault.ReadFailed) × ReadHasFailed) ⊎ IfSome input (λ bytes. IsFault bytes e)
+-- A fault before anything is written: memory that runs out outside the events, a read that failed, or a fault of what is read.
+abbrev pub IsUnread : {A : Type 0} → (A → Fault → Type 0) → Option A → Type 0 → Fault → Type 0
+IsUnread IsFault source ReadHasFailed e =
+    (e ≡ outside no_memory) ⊎ ((e ≡ outside fault.ReadFailed) × ReadHasFailed) ⊎ IfSome source (λ it. IsFault it e)
 
 -- a report that is asked for fails: memory ran out before it, or a write failed after a beginning of it
 abbrev pub FailsReport : RunOptions → MachineState → Option (List ℕ) → Option (List ℕ) → Type 0 → Fault → Type 0
@@ -118,7 +130,11 @@ EndsEarly options script old new WriteHasFailed e =
     ⊎ EndsInReport options (first script) script.steps old new WriteHasFailed e
 
 -- Where a fault leaves the writer: as it was, where the script was not read, and else where its run ended.
+abbrev pub FailedBy : {A : Type 0} → (A → Result Data Fault) → RunOptions → Option A → Option (List ℕ) → Option (List ℕ) → Type 0 → Type 0 → Fault → Type 0
+FailedBy json options source old new ReadHasFailed WriteHasFailed e =
+    (Keeps old new × IsUnread (EndsReadingBy json) source ReadHasFailed e)
+    ⊎ IfSome source (λ it. (script : Script) × (script_by json it ≡ Ok script) × EndsEarly options script old new WriteHasFailed e)
+
+-- where a fault leaves the writer of a run of an input
 abbrev pub Failed : RunOptions → Option (List ℕ) → Option (List ℕ) → Option (List ℕ) → Type 0 → Type 0 → Fault → Type 0
-Failed options input old new ReadHasFailed WriteHasFailed e =
-    (Keeps old new × IsUnread EndsReading input ReadHasFailed e)
-    ⊎ IfSome input (λ bytes. (script : Script) × (script_of_input bytes ≡ Ok script) × EndsEarly options script old new WriteHasFailed e)
+Failed = FailedBy json_of_input

@@ -1,6 +1,7 @@
 -- What planning reads, and what it writes.
-use Rattle.std.specs.Prelude.{ℕ, ◌≡◌, ◌⊎◌, Bool, true, false, List, [], ◌∷◌, ◌++◌, Option, None, Ok, Err, IfSome}
+use Rattle.std.specs.Prelude.{ℕ, ◌≡◌, ◌⊎◌, Bool, true, false, List, [], ◌∷◌, ◌++◌, Option, None, Result, Ok, Err, IfSome}
 use Rattle.std.specs.Io.KnownBytes.{Keeps}
+use Rattle.serde_json.specs.Data.{Data}
 use Rattle.mh_network.specs.Problems.{ProblemData}
 use Rattle.mh_network.specs.Selection.{IsLeast, member}
 use Rattle.mh_cert.specs.declared.plan.Plan.{Plan}
@@ -14,15 +15,25 @@ use Rattle.mh_text.specs.Bytes.{AppendsFront}
 use Rattle.mh_text.specs.Output.{IsUnread, outside}
 use Rattle.mh_cert.specs.Display.{plan_text}
 use Rattle.mh_text.specs.PlanLines.{plan_json, phases_text}
-use Rattle.mh_text.specs.Problems.{rows_of_input, IsMade, IsNotMade}
+use Rattle.mh_text.specs.Inputs.{json_of_input}
+use Rattle.mh_text.specs.Problems.{rows_by, IsMade, IsNotMade}
+
+-- a source is this problem
+abbrev pub IsProblemBy : {A : Type 0} → (A → Result Data Fault) → A → ProblemData → Type 0
+IsProblemBy json source p = (rows : ProblemRows) × (rows_by json None source ≡ Ok rows) × IsMade rows p
 
 -- an input is this problem
 abbrev pub IsProblemInput : List ℕ → ProblemData → Type 0
-IsProblemInput input p = (rows : ProblemRows) × (rows_of_input None input ≡ Ok rows) × IsMade rows p
+IsProblemInput = IsProblemBy json_of_input
+
+-- the first fault of a source that is no problem
+abbrev pub IsProblemFaultBy : {A : Type 0} → (A → Result Data Fault) → A → Fault → Type 0
+IsProblemFaultBy json source e =
+    (rows_by json None source ≡ Err e) ⊎ ((rows : ProblemRows) × (rows_by json None source ≡ Ok rows) × IsNotMade rows e)
 
 -- the first fault of an input that is no problem
 abbrev pub IsProblemFault : List ℕ → Fault → Type 0
-IsProblemFault input e = (rows_of_input None input ≡ Err e) ⊎ ((rows : ProblemRows) × (rows_of_input None input ≡ Ok rows) × IsNotMade rows e)
+IsProblemFault = IsProblemFaultBy json_of_input
 
 -- a text with the byte 0x0A where it is asked for
 abbrev pub line_where : Bool → List ℕ → List ℕ
@@ -39,16 +50,24 @@ abbrev pub IsPlanOf : PlanOptions → ProblemData → List ℕ → Type 0
 IsPlanOf options p text =
     (plan : Plan) × (phases : List ℕ) × Matches p plan × IsLeast p (member plan.links) × ArePhases p plan.flow phases × (text ≡ lines_for options p plan phases)
 
+-- the same of the problem of a source
+abbrev pub IsPlannedBy : {A : Type 0} → (A → Result Data Fault) → PlanOptions → A → List ℕ → Type 0
+IsPlannedBy json options source text = (p : ProblemData) × IsProblemBy json source p × IsPlanOf options p text
+
 -- the same of the problem of an input
 abbrev pub IsPlanned : PlanOptions → List ℕ → List ℕ → Type 0
-IsPlanned options input text = (p : ProblemData) × IsProblemInput input p × IsPlanOf options p text
+IsPlanned = IsPlannedBy json_of_input
 
 -- a write failed after a beginning of a text
 abbrev pub IsCutShort : Option (List ℕ) → Option (List ℕ) → Type 0 → Fault → List ℕ → Type 0
 IsCutShort old new WriteHasFailed e text = (e ≡ outside WriteFailed) × WriteHasFailed × AppendsFront old new text
 
 -- Where a fault leaves the writer: as it was, or with a beginning of the lines.
+abbrev pub FailsPlanBy : {A : Type 0} → (A → Result Data Fault) → PlanOptions → Option A → Option (List ℕ) → Option (List ℕ) → Type 0 → Type 0 → Fault → Type 0
+FailsPlanBy json options source old new ReadHasFailed WriteHasFailed e =
+    (Keeps old new × IsUnread (IsProblemFaultBy json) source ReadHasFailed e)
+    ⊎ ((text : List ℕ) × IfSome source (λ it. IsPlannedBy json options it text) × IsCutShort old new WriteHasFailed e text)
+
+-- where a fault leaves the writer of the plan of an input
 abbrev pub FailsPlan : PlanOptions → Option (List ℕ) → Option (List ℕ) → Option (List ℕ) → Type 0 → Type 0 → Fault → Type 0
-FailsPlan options input old new ReadHasFailed WriteHasFailed e =
-    (Keeps old new × IsUnread IsProblemFault input ReadHasFailed e)
-    ⊎ ((text : List ℕ) × IfSome input (λ bytes. IsPlanned options bytes text) × IsCutShort old new WriteHasFailed e text)
+FailsPlan = FailsPlanBy json_of_input

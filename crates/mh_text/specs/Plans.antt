@@ -66,8 +66,12 @@ plan_at key d = do
   part ← part_at key d
   plan_of part
 
--- the same of an input
-abbrev pub plan_of_input : Option (List ℕ) → List ℕ → Result Plan Fault
-plan_of_input key input = do
-  value ← json_of_input input
+-- the same of a source that has a JSON value or a fault
+abbrev pub plan_by : {A : Type 0} → (A → Result Data Fault) → Option (List ℕ) → A → Result Plan Fault
+plan_by json key source = do
+  value ← json source
   at_place 0 (plan_at key value)
+
+-- the plan of an input
+abbrev pub plan_of_input : Option (List ℕ) → List ℕ → Result Plan Fault
+plan_of_input = plan_by json_of_input

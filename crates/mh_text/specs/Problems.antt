@@ -59,17 +59,21 @@ rows_at key d = do
   part ← part_at key d
   rows_of part
 
--- the same of an input
-abbrev pub rows_of_input : Option (List ℕ) → List ℕ → Result ProblemRows Fault
-rows_of_input key input = do
-  value ← json_of_input input
+-- the same of a source that has a JSON value or a fault
+abbrev pub rows_by : {A : Type 0} → (A → Result Data Fault) → Option (List ℕ) → A → Result ProblemRows Fault
+rows_by json key source = do
+  value ← json source
   at_place 0 (rows_at key value)
+
+-- the links and costs of an input
+abbrev pub rows_of_input : Option (List ℕ) → List ℕ → Result ProblemRows Fault
+rows_of_input = rows_by json_of_input
 
 -- links and costs make their problem, if they pass its tests
 abbrev pub IsMade : ProblemRows → ProblemData → Type 0
 IsMade rows p = Passes (version_tests rows.version rows.links rows.costs) × (p ≡ problem_of rows.links rows.costs)
 
--- and are else told the first test that fails
+-- and else they have the fault of the first test that fails
 abbrev pub IsNotMade : ProblemRows → Fault → Type 0
 IsNotMade rows e = (cause : ProblemFault) × Refuses (version_tests rows.version rows.links rows.costs) cause × (e ≡ record { kind = Input (Problem cause); at = 0 })
 

@@ -1,4 +1,4 @@
--- The parts of a JSON value, each with the fault that is told where it is not of its form.
+-- The parts of a JSON value, each with its fault where it is not of its form.
 use Rattle.std.specs.Prelude.{ℕ, ◌+◌, List, [], ◌∷◌, Option, Some, None, Result, Ok, Err, option_and_then, nat_le, if◌then◌else◌}
 use Rattle.serde_json.specs.Data.{Data, null, boolean, number, string, array, object, Items, no_items, item}
 use Rattle.serde_json.specs.Find.{get, as_number, as_str, as_u64}

@@ -54,7 +54,7 @@ module _ (x : Setting) where
       (IsUnplanned h n reply × (new ≡ h))
       ⊎ ((plan : Plan) × IsBestFor h n plan × legal.Step x h (Publish n plan) reply new)
 
-  -- a step and what is told of it
+  -- a step and its reply
   abbrev pub Takes : List Event → Step → Told → List Event → Type 0
   Takes h step told new = (told.0 ≡ number_named step) × Answers h step told.1 new
 

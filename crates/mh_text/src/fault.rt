@@ -13,7 +13,7 @@ use std::alloc::{AllocError, AllocFailed};
 use std::error::Error;
 use std::fmt;
 
-/// What is wrong with an input, or want of memory.
+/// What is wrong with an input, or that memory ran out.
 #[derive(Clone, Copy, Debug, PartialEq, Eq)]
 pub enum InputFault {
     /// Memory ran out.
@@ -151,7 +151,7 @@ impl From<TypeFault> for InputFault {
     }
 }
 
-/// Why a run ended early: a fault of the input or want of memory, or a fault of a stream.
+/// Why a run ended early: a fault of the input, memory that ran out, or a fault of a stream.
 #[derive(Clone, Copy, Debug, PartialEq, Eq)]
 pub enum TextFault {
     /// The input has a fault, or memory ran out.

@@ -7,7 +7,7 @@ pub use crate::json::plan::read_plan_value;
 pub use crate::json::points::{point_names, read_points};
 pub use crate::json::problem::{ProblemRows, read_rows};
 pub use crate::json::scope::{Scope, Shared};
-pub use crate::json::script::read_definition;
+pub use crate::json::script::{read_definition, read_script_value};
 pub use crate::json::shape::{count, each, list, member, part, place, text};
 pub use crate::json::shared::{read_shared, read_shared_trees};
 pub use crate::json::sites::{Sited, read_site, read_site_list};

@@ -2,6 +2,7 @@
 
 use crate::case::Case;
 use mh_explain::{InputForm, explanation, unread_keys};
+use mh_text::readers::read_json;
 use mh_text::{Fault, InputFault, TextFault, read_plan, read_problem, read_script};
 use std::alloc::Global;
 
@@ -79,7 +80,9 @@ fn explained(alloc: Global, form: InputForm, input: &[u8]) -> anyhow::Result<Str
         Some(fault) => explanation(alloc, form, input, fault)?,
         None => String::new(alloc),
     };
-    let unread = unread_keys(alloc, form, input)?;
-    text.push_str(unread.notes.as_str())?;
+    if let Ok(value) = read_json(alloc, input) {
+        let unread = unread_keys(alloc, form, &value)?;
+        text.push_str(unread.notes.as_str())?;
+    }
     Ok(text)
 }

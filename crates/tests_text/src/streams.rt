@@ -1,7 +1,8 @@
 //! Readers and writers that fail in mid-stream.
 use mh_command::command;
 use mh_core::Refusal;
-use mh_text::{Fault, RefusedEvent, RunOptions, TextFault, Watched, run_bytes, run_input};
+use mh_text::readers::read_json;
+use mh_text::{Fault, RefusedEvent, RunOptions, TextFault, Watched, run_bytes, run_value};
 use std::alloc::Global;
 use std::io::{self, ErrorKind, Read, Write};
 use std::sync::Wait;
@@ -113,7 +114,10 @@ const REFUSED: &str = "{\"definition\":{\"version\":1,\"points\":[],\"sites\":[]
 fn refused_events_are_known_by_their_numbers(rt: HostRuntime) -> Result<(), Fail> {
     let alloc = rt.alloc();
     let mut writer = Watched::new(Vec::new(alloc));
-    let answer = run_input(&rt, alloc, PLAIN, REFUSED.as_bytes(), &mut writer);
+    let Ok(script) = read_json(alloc, REFUSED.as_bytes()) else {
+        return Err(Fail::from("the script is no JSON"));
+    };
+    let answer = run_value(&rt, alloc, PLAIN, &script, &mut writer);
     let wanted = [
         RefusedEvent {
             event: 2,

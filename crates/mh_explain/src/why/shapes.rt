@@ -200,7 +200,7 @@ fn why_no_tree_word(alloc: Global, value: &Value) -> Result<String, NoMemory> {
     }
 }
 
-/// Why what heads a list heads nothing. It is told of the list where a word heads it, and else of
+/// Why what heads a list heads nothing. It is said of the list where a word heads it, and else of
 /// what stands in the place of a word.
 fn why_no_head(alloc: Global, noun: &str, words: &str, value: &Value) -> Result<String, NoMemory> {
     let known = words_of(alloc, words)?;

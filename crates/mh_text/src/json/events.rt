@@ -221,7 +221,7 @@ fn push_step(steps: &mut Vec<Step>, step: Step, at: u64) -> Result<(), Fault>
     }
 }
 
-/// The steps, the first fault of which is told with its step's number from 1.
+/// The steps; the first fault of one has its step's number, from 1.
 pub(crate) fn read_steps(
     alloc: Global,
     declared: &Declarations,

@@ -148,8 +148,9 @@ fn read_step_list(
     read_steps(alloc, declared, events)
 }
 
-/// The script that a JSON value holds, or its first fault in the order of reading.
-fn read_script_value(alloc: Global, value: &Value) -> Result<Script, Fault>
+/// The script that a JSON value is, or its first fault in the order of reading: what it says before
+/// its events, and then the events.
+pub fn read_script_value(alloc: Global, value: &Value) -> Result<Script, Fault>
     ensures value { GivesUpTo (IsReached (view value.now)) result (script_of (view value.now)) }
     ensures kind { IfErr result (λ e. IsOfInput e.kind) }
 {

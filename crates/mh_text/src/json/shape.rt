@@ -1,4 +1,4 @@
-//! The parts of a JSON value, each with the fault that is told where it is not of its form.
+//! The parts of a JSON value, each with its fault where it is not of its form.
 ghost use Rattle.std.specs.Prelude.{◌≡◌, ◌^◌, ◌-◌, map, option_map, Result};
 ghost use Rattle.std.specs.Fn.{FnReturnsAt};
 ghost use Rattle.serde_json.specs.Data.{Data};

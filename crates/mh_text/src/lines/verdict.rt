@@ -19,7 +19,7 @@ pub enum Verdict {
 
 /// What is found of a plan of a problem.
 ///
-/// Fails only if memory runs out, which is told at 0.
+/// Fails only if memory runs out, which is reported at 0.
 pub fn judge(alloc: Global, problem: &Problem, plan: &Plan) -> Result<Verdict, Fault>
     ensures found { IfOk result (IsFound problem.now plan.now) }
     ensures memory { IfErr result (λ e. e ≡ record { kind = no_memory; at = 0 }) }

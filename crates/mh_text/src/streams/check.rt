@@ -1,16 +1,18 @@
 //! Checks of plans: bytes in, a line out.
-ghost use Rattle.std.specs.Prelude.{◌≡◌, ◌≢◌, ◌+◌, ◌⊎◌, IfOk, IfErr, OnOk, IfSome, MatchResult};
+ghost use Rattle.std.specs.Prelude.{◌≡◌, ◌≢◌, ◌+◌, ◌⊎◌, ℕ, List, Ok, Some, IfOk, IfErr, OnOk, IfSome, MatchResult};
+ghost use Rattle.serde_json.specs.View.{view};
 ghost use Rattle.std.specs.Io.KnownBytes.{Appends, IsAtEnd, Keeps};
 ghost use Rattle.mh_text.specs.Bytes.{HasFailed, LosesAtMost, most_bytes};
 ghost use Rattle.mh_text.specs.Gives.{no_memory, IsHonest, NoOtherFailed};
 ghost use Rattle.mh_text.specs.Output.{outside};
 ghost use Rattle.mh_text.specs.declared.fault.TextFault.TheVariants.{WriteFailed};
-ghost use Rattle.mh_text.specs.Checks.{IsVerdict, IsCutOff, FailsCheck, verdict_line};
+ghost use Rattle.mh_text.specs.Checks.{IsVerdict, IsVerdictBy, IsCutOff, FailsCheck, FailsCheckBy, verdict_line};
 
 use crate::fault::Fault;
 use crate::lines::verdict::{Verdict, judge, line};
-use crate::streams::claim::read_whole;
+use crate::streams::claim::{read_value, read_whole};
 use crate::streams::watched::Watched;
+use serde_json::Value;
 use std::alloc::Global;
 use std::io::{Read, Write};
 
@@ -18,7 +20,7 @@ use std::io::{Read, Write};
 /// that is wrong, with its end.
 ///
 /// Fails if a write fails, which leaves a beginning of the line, or if memory runs out, which writes
-/// nothing; both are told at 0.
+/// nothing; both are reported at 0.
 pub fn write_verdict<W: Write>(
     alloc: Global,
     verdict: Verdict,
@@ -46,7 +48,7 @@ pub fn write_verdict<W: Write>(
 /// The input is a JSON object with a problem at the key `problem` (see `read_problem`) and a plan
 /// at the key `plan` (see `read_plan`). It is read to its end, or to the first byte past 1,048,576.
 /// The problem is read and made before the plan is looked at. A fault in the input, or of memory,
-/// writes nothing. A failing write leaves a beginning of the line, and is told at 0.
+/// writes nothing. A failing write leaves a beginning of the line, and is reported at 0.
 pub fn check_bytes<R: Read, W: Write>(
     alloc: Global,
     reader: &mut Watched<R>,
@@ -69,6 +71,29 @@ pub fn check_bytes<R: Read, W: Write>(
         (R.remaining reader.new.inner) }
 {
     let claim = read_whole(alloc, reader)?;
+    let verdict = judge(alloc, &claim.problem, &claim.plan)?;
+    write_verdict(alloc, verdict, writer)?;
+    Ok(verdict)
+}
+
+/// Checks the plan beside its problem that a JSON value has, and writes a line of what is found, as
+/// `check_bytes` does.
+pub fn check_value<W: Write>(
+    alloc: Global,
+    value: &Value,
+    writer: &mut Watched<W>,
+) -> Result<Verdict, Fault>
+    ensures ok { IfOk result (λ verdict. IsVerdictBy Ok (view value.now) verdict
+        × Appends (W.contents writer.old.inner) (W.contents writer.new.inner)
+        (verdict_line verdict)) }
+    ensures failed { IfErr result (λ e. FailsCheckBy Ok (Some (view value.now))
+        (W.contents writer.old.inner) (W.contents writer.new.inner)
+        ⊥ (HasFailed writer.old.failures writer.new.failures) e) }
+    ensures honest { IsHonest result 0 0 writer.old.failures writer.new.failures }
+    ensures others { IfErr result (λ e. e.kind ≢ WriteFailed
+        → writer.new.failures ≡ writer.old.failures) }
+{
+    let claim = read_value(alloc, value)?;
     let verdict = judge(alloc, &claim.problem, &claim.plan)?;
     write_verdict(alloc, verdict, writer)?;
     Ok(verdict)

@@ -1,14 +1,12 @@
 //! A problem and a plan, which is claimed to be best.
-ghost use Rattle.std.specs.Prelude.{◌≡◌, ◌≢◌, ◌+◌, ◌⊎◌, Some, codes, IfOk, IfErr, IfSome, OnOk};
+ghost use Rattle.std.specs.Prelude.{◌≡◌, ◌≢◌, ◌+◌, ◌⊎◌, Ok, IfOk, IfErr, IfSome, OnOk};
 ghost use Rattle.serde_json.specs.View.{view};
 ghost use Rattle.std.specs.Io.KnownBytes.{IsAtEnd};
 ghost use Rattle.mh_text.specs.Bytes.{HasFailed, LosesAtMost, most_bytes};
 ghost use Rattle.mh_text.specs.declared.fault.TextFault.TheVariants.{ReadFailed};
-ghost use Rattle.mh_text.specs.Checks.{Holds, IsFirstOf, IsClaim, IsClaimFault, claim_read};
-ghost use Rattle.mh_text.specs.Gives.{Gives, at_place, no_memory, IsHonestReading, IsOfInput};
+ghost use Rattle.mh_text.specs.Checks.{IsClaim, IsClaimBy, IsClaimFault, IsClaimFaultBy, claim_read};
+ghost use Rattle.mh_text.specs.Gives.{Gives, no_memory, IsHonestReading, IsOfInput};
 ghost use Rattle.mh_text.specs.Output.{IsUnread, outside};
-ghost use Rattle.mh_text.specs.Plans.{plan_at};
-ghost use Rattle.mh_text.specs.Problems.{rows_at};
 
 use crate::fault::Fault;
 use crate::json::plan::{read_plan_at, read_plan_value};
@@ -33,14 +31,11 @@ pub struct Claim {
 }
 
 /// The problem and then the plan of a value, each at its key.
-fn read_parts(alloc: Global, value: &Value) -> Result<Claim, Fault>
-    ensures ok { IfOk result (λ claim. Holds
-        (at_place 0 (rows_at (Some (codes "problem")) (view value.now)))
-        (at_place 0 (plan_at (Some (codes "plan")) (view value.now))) claim.problem claim.plan) }
+pub(crate) fn read_value(alloc: Global, value: &Value) -> Result<Claim, Fault>
+    ensures ok { IfOk result (λ claim. IsClaimBy Ok (view value.now) claim.problem claim.plan) }
     ensures kind { IfErr result (λ e. IsOfInput e.kind) }
     ensures failed { IfErr result (λ e. (e ≡ outside no_memory)
-        ⊎ IsFirstOf (at_place 0 (rows_at (Some (codes "problem")) (view value.now)))
-        (at_place 0 (plan_at (Some (codes "plan")) (view value.now))) e) }
+        ⊎ IsClaimFaultBy Ok (view value.now) e) }
 {
     let problem = read_problem_at(alloc, value, Some("problem"))?;
     let plan = read_plan_at(alloc, value, Some("plan"))?;
@@ -72,7 +67,7 @@ fn read_claim(alloc: Global, input: &[u8]) -> Result<Claim, Fault>
     ensures kind { IfErr result (λ e. IsOfInput e.kind) }
     ensures failed { IfErr result (λ e. (e ≡ outside no_memory) ⊎ IsClaimFault input.now e) }
 {
-    read_parts(alloc, &read_json(alloc, input)?)
+    read_value(alloc, &read_json(alloc, input)?)
 }
 
 /// The problem and the plan that the reader gives.

@@ -1,34 +1,36 @@
 //! Planning: a problem in, its plan out.
-ghost use Rattle.std.specs.Prelude.{◌≡◌, ◌≢◌, ◌+◌, ◌<◌, ◌≤◌, ◌++◌, ◌⊎◌, ℕ, List, true, string_bytes, IfOk, IfErr, OnOk, IfSome, MatchResult};
+ghost use Rattle.std.specs.Prelude.{◌≡◌, ◌≢◌, ◌+◌, ◌<◌, ◌≤◌, ◌++◌, ◌⊎◌, ℕ, List, true, string_bytes, Ok, Some, IfOk, IfErr, OnOk, IfSome, MatchResult};
+ghost use Rattle.serde_json.specs.View.{view};
 ghost use Rattle.std.specs.Io.KnownBytes.{Appends, IsAtEnd};
 ghost use Rattle.mh_text.specs.Bytes.{HasFailed, LosesAtMost, most_bytes};
 ghost use Rattle.mh_text.specs.Gives.{no_memory, IsHonest, IsHonestReading, IsOfInput, NoOtherFailed};
 ghost use Rattle.mh_text.specs.Output.{IsUnread, outside};
-ghost use Rattle.mh_text.specs.Planning.{IsProblemInput, IsProblemFault, IsPlanOf, IsPlanned, IsCutShort, FailsPlan, line_where, lines_for};
+ghost use Rattle.mh_text.specs.Planning.{IsProblemBy, IsProblemInput, IsProblemFault, IsProblemFaultBy, IsPlanOf, IsPlanned, IsPlannedBy, IsCutShort, FailsPlan, FailsPlanBy, line_where, lines_for};
 ghost use Rattle.mh_text.specs.Script.{most_workers};
-ghost use Rattle.mh_text.specs.declared.fault.TextFault.TheVariants.{ReadFailed};
+ghost use Rattle.mh_text.specs.declared.fault.TextFault.TheVariants.{ReadFailed, WriteFailed};
 
 use crate::fault::Fault;
 use crate::json::certificate::plan_json;
-use crate::json::problem::read_problem;
+use crate::json::problem::{read_problem, read_problem_at};
 use crate::lines::plans::{phases_line, plan_line};
 use crate::streams::input::read_input;
 use crate::streams::watched::Watched;
 use mh_cert::Plan;
 use mh_network::Problem;
 use mh_plan::{OpenGate, plan_counted};
+use serde_json::Value;
 use std::alloc::{AllocError, Global};
 use std::io::{Read, Write};
 use std::thread::Threads;
 
-/// How a plan is made, and what is told of it.
+/// How a plan is made, and what is written of it.
 #[derive(Clone, Copy, Debug, PartialEq, Eq)]
 pub struct PlanOptions {
     /// How many workers plan, from 1 to 64. The plan does not depend on them.
     pub workers: usize,
     /// Whether the plan is also written as JSON, with the flow that shows it to be best.
     pub certificate: bool,
-    /// Whether the phases of its flow are told.
+    /// Whether the phases of its flow are written too.
     pub phases: bool,
 }
 
@@ -39,6 +41,16 @@ fn read_bytes(alloc: Global, input: &[u8]) -> Result<Problem, Fault>
     ensures failed { IfErr result (λ e. (e ≡ outside no_memory) ⊎ IsProblemFault input.now e) }
 {
     read_problem(alloc, input, None)
+}
+
+/// The problem that a JSON value is.
+fn read_value(alloc: Global, value: &Value) -> Result<Problem, Fault>
+    ensures ok { IfOk result (λ problem. IsProblemBy Ok (view value.now) problem) }
+    ensures kind { IfErr result (λ e. IsOfInput e.kind) }
+    ensures failed { IfErr result (λ e. (e ≡ outside no_memory)
+        ⊎ IsProblemFaultBy Ok (view value.now) e) }
+{
+    read_problem_at(alloc, value, None)
 }
 
 /// The problem that the reader gives.
@@ -106,7 +118,7 @@ fn plan_problem<T: Threads + Sync>(
     Ok(render(alloc, options, problem, &plan, &phases)?)
 }
 
-/// Writes the lines, or a beginning of them where a write fails, which is told at 0.
+/// Writes the lines, or a beginning of them where a write fails, which is reported at 0.
 pub fn write_lines<W: Write>(lines: String, writer: &mut Watched<W>) -> Result<(), Fault>
     ensures lines { MatchResult result
         (λ _. Appends (W.contents writer.old.inner) (W.contents writer.new.inner)
@@ -126,7 +138,7 @@ pub fn write_lines<W: Write>(lines: String, writer: &mut Watched<W>) -> Result<(
 ///
 /// The input is a problem (see `read_problem`). It is read to its end, or to the first byte past
 /// 1,048,576. A fault in the input, or of memory, writes nothing. A failing write leaves a
-/// beginning of the lines, and is told at 0.
+/// beginning of the lines, and is reported at 0.
 pub fn plan_bytes<T: Threads + Sync, R: Read, W: Write>(
     rt: &T,
     alloc: Global,
@@ -152,6 +164,31 @@ pub fn plan_bytes<T: Threads + Sync, R: Read, W: Write>(
         (R.remaining reader.new.inner) }
 {
     let problem = read_whole(alloc, reader)?;
+    let lines = plan_problem(rt, alloc, options, &problem)?;
+    write_lines(lines, writer)?;
+    Ok(())
+}
+
+/// Plans the problem that a JSON value is, and writes its lines, as `plan_bytes` does.
+pub fn plan_value<T: Threads + Sync, W: Write>(
+    rt: &T,
+    alloc: Global,
+    options: PlanOptions,
+    value: &Value,
+    writer: &mut Watched<W>,
+) -> Result<(), Fault>
+    requires some { 0 < options.workers }
+    requires few { options.workers ≤ most_workers }
+    ensures ok { OnOk result ((text : List ℕ) × IsPlannedBy Ok options (view value.now) text
+        × Appends (W.contents writer.old.inner) (W.contents writer.new.inner) text) }
+    ensures failed { IfErr result (λ e. FailsPlanBy Ok options (Some (view value.now))
+        (W.contents writer.old.inner) (W.contents writer.new.inner)
+        ⊥ (HasFailed writer.old.failures writer.new.failures) e) }
+    ensures honest { IsHonest result 0 0 writer.old.failures writer.new.failures }
+    ensures others { IfErr result (λ e. e.kind ≢ WriteFailed
+        → writer.new.failures ≡ writer.old.failures) }
+{
+    let problem = read_value(alloc, value)?;
     let lines = plan_problem(rt, alloc, options, &problem)?;
     write_lines(lines, writer)?;
     Ok(())

@@ -1,5 +1,6 @@
 //! Bytes in, lines out.
-ghost use Rattle.std.specs.Prelude.{◌≡◌, ◌≢◌, ◌+◌, ◌↔◌, true, Ok, IfOk, IfErr, IsTrue, OnOk, IfSome, MatchResult, List, Some};
+ghost use Rattle.std.specs.Prelude.{◌≡◌, ◌≢◌, ◌+◌, ◌↔◌, ℕ, true, Ok, IfOk, IfErr, IsTrue, OnOk, IfSome, MatchResult, List, Some};
+ghost use Rattle.serde_json.specs.View.{view};
 ghost use Rattle.std.specs.Io.KnownBytes.{Appends, IsAtEnd, Keeps};
 ghost use Rattle.mh_text.specs.declared.json.script.Script.{Script};
 ghost use Rattle.mh_text.specs.Bytes.{AppendsFront, HasFailed, LosesAtMost, most_bytes};
@@ -7,10 +8,11 @@ ghost use Rattle.mh_text.specs.Gives.{IsHonest, IsHonestReading, NoOtherFailed};
 ghost use Rattle.mh_text.specs.Lines.{line_of};
 ghost use Rattle.mh_text.specs.Refused.{refusal_in};
 ghost use Rattle.mh_text.specs.Steps.{Told, Takes};
-ghost use Rattle.mh_text.specs.Output.{script_of_input, first, report_where, AppendsRun, EndsIn, EndsEarly, EndsReading, FailsReport, IsUnread, Failed, IsEnd, MayEnd, RunsTo};
+ghost use Rattle.mh_text.specs.Output.{script_of_input, first, report_where, AppendsRun, EndsIn, EndsEarly, EndsReading, FailsReport, IsUnread, Failed, FailedBy, IsEnd, MayEnd, RunsTo};
+ghost use Rattle.mh_text.specs.Script.{script_of};
 
 use crate::fault::{Fault, InputFault, TextFault};
-use crate::json::script::{Script, read_script};
+use crate::json::script::{Script, read_script, read_script_value};
 use crate::json::step::Step;
 use crate::lines::line;
 use crate::lines::report::report_lines;
@@ -21,6 +23,7 @@ use crate::streams::stepping::answer;
 use crate::streams::watched::Watched;
 use mh_core::{Machine, Refusal, Reply};
 use mh_site::Definition;
+use serde_json::Value;
 use std::alloc::Global;
 use std::io::{Read, Write};
 use std::thread::Threads;
@@ -267,25 +270,26 @@ pub fn run_bytes<T: Threads + Sync, R: Read, W: Write>(
     Ok(())
 }
 
-/// Runs the script in an input as `run_bytes` does, and gives the events that were refused, in order;
-/// or none of them, where memory ran out for one.
-pub fn run_input<T: Threads + Sync, W: Write>(
+/// Runs the script that a JSON value is, as `run_bytes` does, and gives the events that
+/// were refused, in order; or none of them, where memory ran out for one.
+pub fn run_value<T: Threads + Sync, W: Write>(
     rt: &T,
     alloc: Global,
     options: RunOptions,
-    input: &[u8],
+    value: &Value,
     writer: &mut Watched<W>,
 ) -> Result<Vec<RefusedEvent>, Fault>
     ensures ok { IfOk result (λ refused. (script : Script)
-        × (script_of_input input.now ≡ Ok script)
+        × (script_of (view value.now) ≡ Ok script)
         × AppendsRun options (first script) script.steps refused.items
         (W.contents writer.old.inner) (W.contents writer.new.inner)) }
-    ensures failed { IfErr result (Failed options (Some input.now) (W.contents writer.old.inner)
-        (W.contents writer.new.inner) ⊥ (HasFailed writer.old.failures writer.new.failures)) }
+    ensures failed { IfErr result (λ e. FailedBy Ok options (Some (view value.now))
+        (W.contents writer.old.inner) (W.contents writer.new.inner)
+        ⊥ (HasFailed writer.old.failures writer.new.failures) e) }
     ensures honest { IsHonest result 0 0 writer.old.failures writer.new.failures }
     ensures others { IfErr result (λ e. e.kind ≢ TextFault.WriteFailed
         → writer.new.failures ≡ writer.old.failures) }
 {
-    let script = read_script(alloc, input)?;
+    let script = read_script_value(alloc, value)?;
     run_script(rt, alloc, options, script, writer)
 }

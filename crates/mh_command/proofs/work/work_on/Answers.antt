@@ -1,15 +1,20 @@
-use Rattle.std.proofs.Common.{◌≡◌, ◌∙◌, ℕ, inl, refl, Some, Result, Err, IfErr, sym, ap, subst}
-use Rattle.std.proofs.KnownBytes.{Keeps-refl}
+use Rattle.std.specs.Prelude.{string_bytes}
 use Rattle.mh_text.specs.Bytes.{HasFailed}
-use Rattle.mh_text.specs.Gives.{no_memory}
-use Rattle.mh_text.specs.Output.{outside}
-use Rattle.mh_text.specs.declared.fault.Fault.{Fault}
-use Rattle.mh_command.specs.Answers.{FailsIn}
+use Rattle.mh_command.proofs.Works.{formless_ends, formless_helped, formless_works}
 use Rattle.mh_command.proofs.work.work_on.Goals as goal
 
-pub returns-in-Err-clause-fails : goal.returns-in-Err-clause-fails
-returns-in-Err-clause-fails g c =
-    let old = g.W.Write.contents c.args.out.now.inner in
-    let B = HasFailed c.args.out.now.failures c.args.out.now.failures in
-    let end : c.alone-in-Err.result.end ≡ Err (outside no_memory) = c.alone-in-Err.ensures.end ∙ ap (λ (e : Fault). Err e) c.from.ensures in
-    subst (λ (r : Result ℕ Fault). IfErr r (FailsIn c.args.asked (Some c.args.input.now) old old ⊥ B)) (sym end) (inl (Keeps-refl old, inl refl))
+pub returns-clause-works : goal.returns-clause-works
+returns-clause-works g c =
+    rw (c.beside.ensures.end, c.beside.ensures.clear)
+    (formless_works c.args.asked c.args.input.now c.requires.formless _ (g.W.Write.contents c.args.out.now.inner) (g.W.Write.contents c.work_over-end.new.out.inner) c.work_over-end.result c.work_over-end.ensures.works)
+
+pub returns-clause-fails : goal.returns-clause-fails
+returns-clause-fails g c =
+    let B = HasFailed c.args.out.now.failures c.work_over-end.new.out.failures in
+    rw c.beside.ensures.end
+    (formless_ends c.args.asked c.args.input.now c.requires.formless (g.W.Write.contents c.args.out.now.inner) (g.W.Write.contents c.work_over-end.new.out.inner) ⊥ B c.work_over-end.result c.work_over-end.ensures.fails)
+
+pub returns-clause-help : goal.returns-clause-help
+returns-clause-help g c =
+    rw (c.beside.ensures.end, c.beside.ensures.clear, c.beside.ensures.help)
+    (formless_helped c.args.asked c.args.input.now c.requires.formless c.work_over-end.result c.fault_of.result (string_bytes c.help_for.result) c.fault_of.ensures.value c.help_for.ensures.explained c.help_for.ensures.unexplained c.help_for.ensures.silent)

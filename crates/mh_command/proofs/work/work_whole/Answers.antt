@@ -1,9 +1,10 @@
-use Rattle.std.proofs.Common.{◌≡◌, ◌∙◌, ℕ, List, Some, Result, Err, IfErr, sym, ap, subst}
+use Rattle.std.proofs.Common.{◌≡◌, ◌≢◌, ◌∙◌, ℕ, List, None, Some, Result, Err, IfErr, sym, ap, subst}
 use Rattle.std.specs.Prelude.{string_bytes}
 use Rattle.mh_text.specs.Bytes.{HasFailed}
 use Rattle.mh_text.specs.Output.{outside}
 use Rattle.mh_text.specs.declared.fault.Fault.{Fault}
 use Rattle.mh_command.specs.Answers.{FailsIn, IsHelp}
+use Rattle.mh_command.specs.Readings.{form_of}
 use Rattle.mh_command.proofs.Works.{fails_end, help_whole, unread_fails}
 use Rattle.mh_command.proofs.work.work_whole.Goals as goal
 
@@ -29,6 +30,7 @@ returns-in-Err-clause-fails g c =
     let old = g.W.Write.contents c.args.out.now.inner in
     let A = HasFailed c.args.reader.now.failures c.read_input.new.reader.failures in
     let B = HasFailed c.args.out.now.failures c.args.out.now.failures in
-    let fails = unread_fails c.args.asked old A B c.requires.formed (g.R.Read.remaining c.args.reader.now.inner) c.in-Err.kind c.in-Err.ensures.kinds (λ is. c.in-Err.ensures.long (ap (λ k. Err k) is)) (λ is. c.in-Err.ensures.failed (ap (λ k. Err k) is)) in
+    let formed : form_of c.args.asked.request ≢ None = λ none. let bad = sym c.requires.formed ∙ none in cc in
+    let fails = unread_fails c.args.asked old A B formed (g.R.Read.remaining c.args.reader.now.inner) c.in-Err.kind c.in-Err.ensures.kinds (λ is. c.in-Err.ensures.long (ap (λ k. Err k) is)) (λ is. c.in-Err.ensures.failed (ap (λ k. Err k) is)) in
     let end : c.alone.result.end ≡ Err (outside c.in-Err.kind) = c.alone.ensures.end ∙ ap (λ (e : Fault). Err e) c.from.ensures in
     subst (λ (r : Result ℕ Fault). IfErr r (FailsIn c.args.asked (g.R.Read.remaining c.args.reader.now.inner) old old A B)) (sym end) fails

@@ -1,6 +1,6 @@
 use Rattle.std.proofs.lemmas.Result.{err_from_is_err_and}
 use Rattle.mh_text.proofs.Claims.{plan_fails, problem_fails}
-use Rattle.mh_text.proofs.streams.claim.read_parts.Goals as goal
+use Rattle.mh_text.proofs.streams.claim.read_value.Goals as goal
 
 pub returns-in_err-problem-clause-failed : goal.returns-in_err-problem-clause-failed
 returns-in_err-problem-clause-failed c =
