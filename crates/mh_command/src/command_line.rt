@@ -14,6 +14,7 @@ use crate::answer::{end, reply};
 use crate::request::{Asked, parse};
 use crate::status::COMMAND_LINE;
 use crate::work::work_asked;
+use mh_stress::{ShowRounds, Stage};
 use mh_text::Watched;
 use std::alloc::Global;
 use std::convert::AsStr;
@@ -22,8 +23,8 @@ use std::sync::Wait;
 use std::thread::Threads;
 
 /// Does what is asked, and gives the status.
-fn perform<T: Threads + Wait + Sync, R: Read, W: Write, E: Write>(
-    rt: &T,
+fn perform<T: Threads + Wait + Sync, P: ShowRounds + Sync, R: Read, W: Write, E: Write>(
+    stage: &Stage<'_, T, P>,
     alloc: Global,
     asked: Asked,
     reader: &mut Watched<R>,
@@ -50,7 +51,7 @@ fn perform<T: Threads + Wait + Sync, R: Read, W: Write, E: Write>(
     ensures unexplained { result ≡ 0 → asked.reading.explain ≡ false
         → Keeps (E.contents err.old.inner) (E.contents err.new.inner) }
 {
-    let outcome = work_asked(rt, alloc, asked, reader, out);
+    let outcome = work_asked(stage, alloc, asked, reader, out);
     end(alloc, &outcome, out, err)
 }
 
@@ -60,9 +61,10 @@ fn perform<T: Threads + Wait + Sync, R: Read, W: Write, E: Write>(
 /// `--report`. `mhlink check` reads a problem and a plan, and writes to `out` whether the plan is
 /// accepted; with `--profile` it reads a profile, and behind it a plan. `mhlink plan` reads a
 /// problem, and writes its best plan to `out`; it takes `--workers N`, N from 1 to 64,
-/// `--certificate` and `--phases`, and starts threads by `rt`. `mhlink stress` reads a script, runs
+/// `--certificate` and `--phases`, and starts threads by the stage. `mhlink stress` reads a script, runs
 /// its calls in threads, and writes the sums of their hits to `out`; it takes `--workers N`, N from
-/// 1 to 64, `--rounds N`, N from 1 to 1,000,000, and `--report`. `mhlink profile` reads a profile,
+/// 1 to 64, `--rounds N`, N from 1 to 1,000,000, and `--report`; the stage shows the rounds that are
+/// done. `mhlink profile` reads a profile,
 /// line by line, and writes to `out` what becomes of each of its names in a best plan; it takes
 /// `--workers N`, N from 1 to 64, and `--certificate`, and starts threads too. A fault is one line
 /// on `err`.
@@ -80,8 +82,15 @@ fn perform<T: Threads + Wait + Sync, R: Read, W: Write, E: Write>(
 /// The statuses: 0 done, also help and the version, which go to `out`; 1 the input is refused, or its
 /// plan; 2 the command line is wrong, and nothing is read; 3 a read, a write or a flush failed; 4
 /// memory ran out outside an event, or readers of a published world.
-pub fn command<T: Threads + Wait + Sync, S: AsStr, R: Read, W: Write, E: Write>(
-    rt: &T,
+pub fn command<
+    T: Threads + Wait + Sync,
+    P: ShowRounds + Sync,
+    S: AsStr,
+    R: Read,
+    W: Write,
+    E: Write,
+>(
+    stage: &Stage<'_, T, P>,
     alloc: Global,
     words: &[S],
     reader: &mut Watched<R>,
@@ -125,7 +134,7 @@ pub fn command<T: Threads + Wait + Sync, S: AsStr, R: Read, W: Write, E: Write>(
         × (err.new ≡ err.old) × (reader.new ≡ reader.old) }
 {
     match parse(alloc, words) {
-        Ok(Some(asked)) => perform(rt, alloc, asked, reader, out, err),
+        Ok(Some(asked)) => perform(stage, alloc, asked, reader, out, err),
         Ok(None) => COMMAND_LINE,
         Err(error) => reply(alloc, &error, out, err),
     }

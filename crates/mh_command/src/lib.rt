@@ -2,7 +2,7 @@
 //!
 //! ```
 //! let mut input = Watched::new(rt.stdin());
-//! let status = command(&rt, alloc, &["run"], &mut input, &mut out, &mut err);
+//! let status = command(&Stage::silent(&rt), alloc, &["run"], &mut input, &mut out, &mut err);
 //! ```
 #![tactic(auto)]
 
@@ -18,7 +18,7 @@ mod work;
 
 pub use command_line::command;
 pub use mh_profile::ProfileOptions;
-pub use mh_stress::StressOptions;
+pub use mh_stress::{ShowRounds, Silent, Stage, StressOptions};
 pub use mh_text::{PlanOptions, RunOptions, Watched};
 pub use options::Reading;
 pub use request::{Asked, Request};

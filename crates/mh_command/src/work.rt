@@ -19,7 +19,7 @@ use crate::request::{Asked, Request};
 use crate::status::{DONE, status_of_verdict};
 use mh_explain::{InputForm, explanation_of_refused};
 use mh_profile::{check_profile, keep_claim, keep_profile, plan_profile};
-use mh_stress::{stress_bytes, stress_value};
+use mh_stress::{ShowRounds, Stage, stress_bytes, stress_value};
 use mh_text::readers::parse_json;
 use mh_text::{
     Fault, InputFault, RefusedEvent, TextFault, Watched, check_bytes, check_value, plan_bytes,
@@ -67,8 +67,8 @@ impl Outcome {
 }
 
 /// Does what the request asks, up to the last flush, and gives its status.
-fn work<T: Threads + Wait + Sync, R: Read, W: Write>(
-    rt: &T,
+fn work<T: Threads + Wait + Sync, S: ShowRounds + Sync, R: Read, W: Write>(
+    stage: &Stage<'_, T, S>,
     alloc: Global,
     request: Request,
     reader: &mut Watched<R>,
@@ -90,7 +90,7 @@ fn work<T: Threads + Wait + Sync, R: Read, W: Write>(
 {
     match request {
         Request::Run(options) => {
-            run_bytes(rt, alloc, options, reader, out)?;
+            run_bytes(stage.rt, alloc, options, reader, out)?;
             Ok(DONE)
         }
         Request::Check => {
@@ -102,15 +102,15 @@ fn work<T: Threads + Wait + Sync, R: Read, W: Write>(
             Ok(status_of_verdict(verdict))
         }
         Request::Plan(options) => {
-            plan_bytes(rt, alloc, options, reader, out)?;
+            plan_bytes(stage.rt, alloc, options, reader, out)?;
             Ok(DONE)
         }
         Request::Stress(options) => {
-            stress_bytes(rt, alloc, options, reader, out)?;
+            stress_bytes(stage, alloc, options, reader, out)?;
             Ok(DONE)
         }
         Request::Profile(options) => {
-            plan_profile(rt, alloc, options, reader, out)?;
+            plan_profile(stage.rt, alloc, options, reader, out)?;
             Ok(DONE)
         }
     }
@@ -129,8 +129,8 @@ fn held(fault: Fault) -> Fault
 }
 
 /// Does the same over an input that was read.
-fn work_over<T: Threads + Wait + Sync, W: Write>(
-    rt: &T,
+fn work_over<T: Threads + Wait + Sync, S: ShowRounds + Sync, W: Write>(
+    stage: &Stage<'_, T, S>,
     alloc: Global,
     request: Request,
     input: &[u8],
@@ -148,7 +148,7 @@ fn work_over<T: Threads + Wait + Sync, W: Write>(
         → out.new.failures ≡ out.old.failures) }
 {
     let mut reader = Watched::new(input);
-    match work(rt, alloc, request, &mut reader, out) {
+    match work(stage, alloc, request, &mut reader, out) {
         Ok(status) => Ok(status),
         Err(fault) => Err(held(fault)),
     }
@@ -189,8 +189,8 @@ fn fault_of(end: Result<u8, Fault>) -> Option<InputFault>
 }
 
 /// Does what is asked over the lines of a profile that were read, with a fault of them explained.
-fn work_on<T: Threads + Wait + Sync, W: Write>(
-    rt: &T,
+fn work_on<T: Threads + Wait + Sync, S: ShowRounds + Sync, W: Write>(
+    stage: &Stage<'_, T, S>,
     alloc: Global,
     asked: Asked,
     input: &[u8],
@@ -211,7 +211,7 @@ fn work_on<T: Threads + Wait + Sync, W: Write>(
     ensures help { IsHelp asked (Some input.now) result.end result.refused.items
         (string_bytes result.help) }
 {
-    let end = work_over(rt, alloc, asked.request, input, out);
+    let end = work_over(stage, alloc, asked.request, input, out);
     Outcome::beside(alloc, end, help_for(alloc, asked, input, fault_of(end)))
 }
 
@@ -244,8 +244,8 @@ struct Parsed<'a> {
 }
 
 /// Does what the request asks over an input that was parsed, and gives the refused events of a run.
-fn work_parsed<T: Threads + Wait + Sync, W: Write>(
-    rt: &T,
+fn work_parsed<T: Threads + Wait + Sync, S: ShowRounds + Sync, W: Write>(
+    stage: &Stage<'_, T, S>,
     alloc: Global,
     request: Request,
     parsed: Parsed<'_>,
@@ -266,7 +266,7 @@ fn work_parsed<T: Threads + Wait + Sync, W: Write>(
     let value = parsed.value;
     match request {
         Request::Run(options) => Ok(Worked {
-            refused: run_value(rt, alloc, options, value, out)?,
+            refused: run_value(stage.rt, alloc, options, value, out)?,
             status: DONE,
         }),
         Request::Check => {
@@ -274,16 +274,16 @@ fn work_parsed<T: Threads + Wait + Sync, W: Write>(
             Ok(Worked::of(alloc, status_of_verdict(verdict)))
         }
         Request::Plan(options) => {
-            plan_value(rt, alloc, options, value, out)?;
+            plan_value(stage.rt, alloc, options, value, out)?;
             Ok(Worked::of(alloc, DONE))
         }
         Request::Stress(options) => {
-            stress_value(rt, alloc, options, value, out)?;
+            stress_value(stage, alloc, options, value, out)?;
             Ok(Worked::of(alloc, DONE))
         }
         // A profile is read by its lines.
         Request::CheckProfile | Request::Profile(_) => {
-            let status = work_over(rt, alloc, request, parsed.input, out)?;
+            let status = work_over(stage, alloc, request, parsed.input, out)?;
             Ok(Worked::of(alloc, status))
         }
     }
@@ -313,8 +313,8 @@ fn with_refused(
 }
 
 /// Does what is asked over an input that was parsed, unless something is found of it before.
-fn work_or_refuse<T: Threads + Wait + Sync, W: Write>(
-    rt: &T,
+fn work_or_refuse<T: Threads + Wait + Sync, S: ShowRounds + Sync, W: Write>(
+    stage: &Stage<'_, T, S>,
     alloc: Global,
     asked: Asked,
     parsed: Parsed<'_>,
@@ -340,7 +340,7 @@ fn work_or_refuse<T: Threads + Wait + Sync, W: Write>(
     if let Some(fault) = fault {
         return Outcome::beside(alloc, Err(fault), help);
     }
-    match work_parsed(rt, alloc, asked.request, parsed, out) {
+    match work_parsed(stage, alloc, asked.request, parsed, out) {
         Ok(Worked { status, refused }) => Outcome {
             end: Ok(status),
             help: with_refused(alloc, asked, help, parsed.value, refused.as_slice()),
@@ -351,8 +351,8 @@ fn work_or_refuse<T: Threads + Wait + Sync, W: Write>(
 }
 
 /// Parses an input that was read, and does what is asked over it.
-fn work_read<T: Threads + Wait + Sync, W: Write>(
-    rt: &T,
+fn work_read<T: Threads + Wait + Sync, S: ShowRounds + Sync, W: Write>(
+    stage: &Stage<'_, T, S>,
     alloc: Global,
     asked: Asked,
     form: InputForm,
@@ -382,7 +382,7 @@ fn work_read<T: Threads + Wait + Sync, W: Write>(
                 value: &value,
                 form,
             };
-            work_or_refuse(rt, alloc, asked, parsed, out)
+            work_or_refuse(stage, alloc, asked, parsed, out)
         }
         Err(misread) => {
             let fault = Fault::from(misread.fault());
@@ -393,8 +393,8 @@ fn work_read<T: Threads + Wait + Sync, W: Write>(
 }
 
 /// Reads the input whole, and does what is asked over it.
-fn work_whole<T: Threads + Wait + Sync, R: Read, W: Write>(
-    rt: &T,
+fn work_whole<T: Threads + Wait + Sync, S: ShowRounds + Sync, R: Read, W: Write>(
+    stage: &Stage<'_, T, S>,
     alloc: Global,
     asked: Asked,
     form: InputForm,
@@ -420,7 +420,7 @@ fn work_whole<T: Threads + Wait + Sync, R: Read, W: Write>(
         result.refused.items (string_bytes result.help) }
 {
     match read_input(alloc, reader) {
-        Ok(input) => work_read(rt, alloc, asked, form, &input, out),
+        Ok(input) => work_read(stage, alloc, asked, form, &input, out),
         Err(kind) => Outcome::alone(alloc, Err(Fault::from(kind))),
     }
 }
@@ -453,8 +453,8 @@ fn keep_lines<R: Read>(
 }
 
 /// Reads the lines of a profile whole, and does what is asked over them.
-fn work_lines<T: Threads + Wait + Sync, R: Read, W: Write>(
-    rt: &T,
+fn work_lines<T: Threads + Wait + Sync, S: ShowRounds + Sync, R: Read, W: Write>(
+    stage: &Stage<'_, T, S>,
     alloc: Global,
     asked: Asked,
     reader: &mut Watched<R>,
@@ -479,14 +479,14 @@ fn work_lines<T: Threads + Wait + Sync, R: Read, W: Write>(
         result.refused.items (string_bytes result.help) }
 {
     match keep_lines(alloc, asked.request, reader) {
-        Ok(input) => work_on(rt, alloc, asked, &input, out),
+        Ok(input) => work_on(stage, alloc, asked, &input, out),
         Err(fault) => Outcome::alone(alloc, Err(fault)),
     }
 }
 
 /// Does what is asked, up to the last flush.
-pub(crate) fn work_asked<T: Threads + Wait + Sync, R: Read, W: Write>(
-    rt: &T,
+pub(crate) fn work_asked<T: Threads + Wait + Sync, S: ShowRounds + Sync, R: Read, W: Write>(
+    stage: &Stage<'_, T, S>,
     alloc: Global,
     asked: Asked,
     reader: &mut Watched<R>,
@@ -510,10 +510,10 @@ pub(crate) fn work_asked<T: Threads + Wait + Sync, R: Read, W: Write>(
         result.refused.items (string_bytes result.help) }
 {
     if !asked.reads_whole() {
-        return Outcome::alone(alloc, work(rt, alloc, asked.request, reader, out));
+        return Outcome::alone(alloc, work(stage, alloc, asked.request, reader, out));
     }
     match asked.request.form() {
-        Some(form) => work_whole(rt, alloc, asked, form, reader, out),
-        None => work_lines(rt, alloc, asked, reader, out),
+        Some(form) => work_whole(stage, alloc, asked, form, reader, out),
+        None => work_lines(stage, alloc, asked, reader, out),
     }
 }

@@ -3,7 +3,7 @@
 //!
 //! ```
 //! let options = StressOptions { workers: Some(4), rounds: 1000, report: false };
-//! stress_bytes(rt, alloc, options, &mut reader, &mut writer)?;
+//! stress_bytes(&Stage::silent(rt), alloc, options, &mut reader, &mut writer)?;
 //! ```
 #![tactic(auto)]
 
@@ -11,9 +11,11 @@ mod changes;
 mod division;
 mod rounds;
 mod settled;
+mod stage;
 mod stress;
 mod sums;
 mod threads;
 
 pub use mh_text::{Fault, InputFault, TextFault, Watched};
+pub use stage::{ShowRounds, Silent, Stage};
 pub use stress::{MOST_ROUNDS, StressOptions, stress_bytes, stress_value};

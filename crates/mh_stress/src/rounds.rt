@@ -3,6 +3,7 @@ ghost use Rattle.std.specs.Prelude.{◌≡◌};
 ghost use Rattle.mh_stress.specs.Rounds.{HasCalled, HasWorked, MakesCall};
 
 use crate::division::Call;
+use crate::stage::ShowRounds;
 use mh_live::{Live, Name, Pass};
 use std::sync::Wait;
 
@@ -24,9 +25,18 @@ fn make_calls<N: Name>(pass: &mut Pass<N>, calls: &[Call])
     }
 }
 
-/// Makes a worker's calls and flushes, so many times. A flush that is refused is passed over.
-pub(crate) fn make_rounds<N: Name, R: Wait>(
+/// Shows how many rounds are made, where they are those of the first worker.
+fn show_round<S: ShowRounds>(shows: &S, worker: usize, done: u32, rounds: u32) {
+    if worker == 0 {
+        shows.show(done, rounds);
+    }
+}
+
+/// Makes a worker's calls and flushes, so many times, and shows it of the first worker. A flush that
+/// is refused is passed over.
+pub(crate) fn make_rounds<N: Name, R: Wait, S: ShowRounds>(
     rt: &R,
+    shows: &S,
     live: &Live<N>,
     mut pass: Pass<N>,
     calls: &[Call],
@@ -34,9 +44,10 @@ pub(crate) fn make_rounds<N: Name, R: Wait>(
 ) -> Pass<N>
     ensures worked { HasWorked N.definition calls.now rounds pass result }
 {
-    for _ in 0..rounds {
+    for round in 0..rounds {
         make_calls(&mut pass, calls);
         let _receipt = live.flush(rt, &mut pass);
+        show_round(shows, pass.worker(), round + 1, rounds);
     }
     pass
 }

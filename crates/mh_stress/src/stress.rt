@@ -12,6 +12,7 @@ ghost use Rattle.mh_stress.specs.Rounds.{AreFresh};
 
 use crate::division::{Division, divide};
 use crate::settled::settled_lines;
+use crate::stage::{ShowRounds, Stage};
 use crate::threads::work_beside;
 use mh_live::{Live, MOST_WORKERS, Name, OpenFault, Opening, Pass};
 use mh_text::readers::read_script_value;
@@ -50,8 +51,8 @@ fn fault_of(cause: OpenFault) -> Fault
 }
 
 /// Has the workers make their rounds beside the changes, settles, and gives the lines of that.
-fn settle_rounds<N: Name + Send + Sync, T: Threads + Wait + Sync>(
-    rt: &T,
+fn settle_rounds<N: Name + Send + Sync, T: Threads + Wait + Sync, S: ShowRounds + Sync>(
+    stage: &Stage<'_, T, S>,
     alloc: Global,
     live: Live<N>,
     passes: Vec<Pass<N>>,
@@ -66,11 +67,20 @@ fn settle_rounds<N: Name + Send + Sync, T: Threads + Wait + Sync>(
     ensures told { IfErr result (λ e. e ≡ outside no_memory) }
 {
     let workers = passes.len();
-    let Some(passes) = work_beside(rt, alloc, &live, passes, division, options.rounds, workers)
-    else {
+    let worked = work_beside(
+        stage,
+        alloc,
+        &live,
+        passes,
+        division,
+        options.rounds,
+        workers,
+    );
+    stage.shows.clear();
+    let Some(passes) = worked else {
         return Err(Fault::from(InputFault::NoMemory));
     };
-    match live.settle(rt, alloc, passes) {
+    match live.settle(stage.rt, alloc, passes) {
         Ok(settled) => Ok(settled_lines(alloc, options.report, &settled)?),
         // No pass is missing that an opening made; so memory was.
         Err(_) => Err(Fault::from(InputFault::NoMemory)),
@@ -79,8 +89,8 @@ fn settle_rounds<N: Name + Send + Sync, T: Threads + Wait + Sync>(
 
 /// Opens the office, has the workers make their rounds beside the changes, settles, and gives the
 /// lines of that.
-fn run_threads<N: Name + Send + Sync, T: Threads + Wait + Sync>(
-    rt: &T,
+fn run_threads<N: Name + Send + Sync, T: Threads + Wait + Sync, S: ShowRounds + Sync>(
+    stage: &Stage<'_, T, S>,
     alloc: Global,
     opening: Opening,
     division: Division,
@@ -98,7 +108,7 @@ fn run_threads<N: Name + Send + Sync, T: Threads + Wait + Sync>(
     ensures told { IfErr result (λ e. (e ≡ outside no_memory) ⊎ (e ≡ outside NoReader)) }
 {
     match opening.open::<N>() {
-        Ok((live, passes)) => settle_rounds(rt, alloc, live, passes, division, options),
+        Ok((live, passes)) => settle_rounds(stage, alloc, live, passes, division, options),
         Err(cause) => Err(fault_of(cause)),
     }
 }
@@ -117,8 +127,8 @@ fn workers_for(options: StressOptions, own: u32) -> u32
 }
 
 /// Stresses a script.
-fn stress_script<T: Threads + Wait + Sync>(
-    rt: &T,
+fn stress_script<T: Threads + Wait + Sync, S: ShowRounds + Sync>(
+    stage: &Stage<'_, T, S>,
     alloc: Global,
     options: StressOptions,
     script: Script,
@@ -136,7 +146,7 @@ fn stress_script<T: Threads + Wait + Sync>(
     let workers = workers_for(options, workers);
     let division = divide(alloc, steps.into_vec())?;
     let opening = Opening::new(alloc, &definition, workers, limits).map_err(fault_of)?;
-    run_threads::<Brand, T>(rt, alloc, opening, division, options)
+    run_threads::<Brand, T, S>(stage, alloc, opening, division, options)
 }
 
 /// Stresses the script that the reader gives, and writes the line of its sums over all links:
@@ -148,11 +158,13 @@ fn stress_script<T: Threads + Wait + Sync>(
 /// event that is refused is passed over. The calls of a worker past the last are not made. Then all
 /// that was made is added up.
 ///
+/// While the first worker makes its rounds, the stage shows how many are done.
+///
 /// The input is read to its end, or to the first byte past 1,048,576. A fault in it, of memory or
 /// of readers of the published world (`NoReader`, which comes of a script alone) writes nothing.
 /// A failing write leaves a beginning of the line, and is reported at 0.
-pub fn stress_bytes<T: Threads + Wait + Sync, R: Read, W: Write>(
-    rt: &T,
+pub fn stress_bytes<T: Threads + Wait + Sync, S: ShowRounds + Sync, R: Read, W: Write>(
+    stage: &Stage<'_, T, S>,
     alloc: Global,
     options: StressOptions,
     reader: &mut Watched<R>,
@@ -177,13 +189,13 @@ pub fn stress_bytes<T: Threads + Wait + Sync, R: Read, W: Write>(
         (R.remaining reader.new.inner) }
 {
     let script = read_script_from(alloc, reader)?;
-    let lines = stress_script(rt, alloc, options, script)?;
+    let lines = stress_script(stage, alloc, options, script)?;
     write_lines(lines, writer)
 }
 
 /// Stresses the script that a JSON value is, and writes its lines, as `stress_bytes` does.
-pub fn stress_value<T: Threads + Wait + Sync, W: Write>(
-    rt: &T,
+pub fn stress_value<T: Threads + Wait + Sync, S: ShowRounds + Sync, W: Write>(
+    stage: &Stage<'_, T, S>,
     alloc: Global,
     options: StressOptions,
     value: &Value,
@@ -201,6 +213,6 @@ pub fn stress_value<T: Threads + Wait + Sync, W: Write>(
         → writer.new.failures ≡ writer.old.failures) }
 {
     let script = read_script_value(alloc, value)?;
-    let lines = stress_script(rt, alloc, options, script)?;
+    let lines = stress_script(stage, alloc, options, script)?;
     write_lines(lines, writer)
 }

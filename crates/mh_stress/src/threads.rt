@@ -6,6 +6,7 @@ ghost use Rattle.mh_stress.specs.Rounds.{HasWorked, HaveWorked};
 use crate::changes::make_changes;
 use crate::division::{Call, Division};
 use crate::rounds::make_rounds;
+use crate::stage::{ShowRounds, Stage};
 use mh_live::{Live, Name, Pass, cross_threads};
 use mh_type::values_cross_threads;
 use std::alloc::{AllocError, Global};
@@ -15,8 +16,9 @@ use std::thread::Threads;
 
 /// Has each worker make its rounds, in a thread of its own where one can be started, and gives the
 /// passes back in their order.
-fn work<N: Name + Send + Sync, T: Threads + Wait + Sync>(
+fn work<N: Name + Send + Sync, T: Threads + Wait + Sync, S: ShowRounds + Sync>(
     rt: &T,
+    shows: &S,
     live: &Live<N>,
     passes: Vec<Pass<N>>,
     calls: &[Call],
@@ -29,14 +31,14 @@ fn work<N: Name + Send + Sync, T: Threads + Wait + Sync>(
     values_cross_threads();
     let share = |pass: Pass<N>| -> Pass<N>
         ensures { HasWorked N.definition calls.entry.now rounds pass result }
-    { make_rounds(rt, live, pass, calls, rounds) };
+    { make_rounds(rt, shows, live, pass, calls, rounds) };
     thread::map_vec(rt, passes, &share)
 }
 
 /// Runs the workers' rounds, and makes the changes meanwhile. Where no thread can be
 /// started, the rounds are made after the changes. None if an allocation is refused.
-pub(crate) fn work_beside<N: Name + Send + Sync, T: Threads + Wait + Sync>(
-    rt: &T,
+pub(crate) fn work_beside<N: Name + Send + Sync, T: Threads + Wait + Sync, S: ShowRounds + Sync>(
+    stage: &Stage<'_, T, S>,
     alloc: Global,
     live: &Live<N>,
     passes: Vec<Pass<N>>,
@@ -54,11 +56,11 @@ pub(crate) fn work_beside<N: Name + Send + Sync, T: Threads + Wait + Sync>(
     let Division { calls, changes } = division;
     let calls = calls.as_slice();
     let (after, _) = thread::join(
-        rt,
-        || work(rt, live, passes, calls, rounds).ok(),
+        stage.rt,
+        || work(stage.rt, &stage.shows, live, passes, calls, rounds).ok(),
         ||
             requires { (0 < workers) × (workers ≤ most_workers) }
-        { make_changes(rt, alloc, live, changes, workers) },
+        { make_changes(stage.rt, alloc, live, changes, workers) },
     );
     after
 }

@@ -3,17 +3,19 @@
 
 mod progress;
 mod prompt;
+mod rounds;
 
 use crate::progress::Progress;
 use crate::prompt::Prompt;
-use mh_command::{COMMAND_LINE, NO_MEMORY, Watched, command};
+use crate::rounds::Rounds;
+use mh_command::{COMMAND_LINE, NO_MEMORY, Stage, Watched, command};
 use std::io::{BufWriter, ErrorKind, IsTerminal};
 use std::process::ExitCode;
 use std::{env, io};
 
-/// Whether the words, the first of which is the program's name, ask for a profile.
-fn asks_profile(words: &[String]) -> bool {
-    matches!(words.get(1), Some(word) if word.as_str() == "profile")
+/// Whether the words, the first of which is the program's name, ask for this subcommand.
+fn asks_for(words: &[String], subcommand: &str) -> bool {
+    matches!(words.get(1), Some(word) if word.as_str() == subcommand)
 }
 
 fn main(rt: HostRuntime) -> io::Result<ExitCode> {
@@ -33,13 +35,17 @@ fn main(rt: HostRuntime) -> io::Result<ExitCode> {
     };
     let (input, errors) = (rt.stdin(), rt.stderr());
     let (is_typed, is_seen) = (input.is_terminal(), errors.is_terminal());
-    let shows = asks_profile(&words) && is_seen && !is_typed;
+    let shows = asks_for(&words, "profile") && is_seen && !is_typed;
     let progress = Progress::new(&rt, input, errors, shows);
     let mut reader = Watched::new(Prompt::new(progress, rt.stderr(), is_seen && is_typed));
     let mut out = Watched::new(out);
     let mut err = Watched::new(rt.stderr());
+    let stage = Stage {
+        rt: &rt,
+        shows: Rounds::new(&rt, asks_for(&words, "stress") && is_seen),
+    };
     let status = command(
-        &rt,
+        &stage,
         alloc,
         words.as_slice(),
         &mut reader,

@@ -2,7 +2,7 @@
 ghost use Rattle.std.specs.Prelude.{◌≡◌, ◌<◌, ◌↔◌, length, IsTrue, IfSome, IfNone};
 
 use crate::case::Case;
-use mh_command::{Watched, command};
+use mh_command::{Stage, Watched, command};
 use std::alloc::Global;
 use std::sync::Wait;
 use std::thread::Threads;
@@ -22,7 +22,14 @@ impl Ran {
         let mut out = Watched::new(Vec::new(alloc));
         let mut err = Watched::new(Vec::new(alloc));
         let words = case.words.as_slice();
-        let status = command(rt, alloc, words, &mut reader, &mut out, &mut err);
+        let status = command(
+            &Stage::silent(rt),
+            alloc,
+            words,
+            &mut reader,
+            &mut out,
+            &mut err,
+        );
         Ran {
             out: out.inner,
             err: err.inner,

@@ -1,5 +1,5 @@
 //! Inputs that end too early, and nested lists without an end in sight.
-use mh_command::command;
+use mh_command::{Stage, command};
 use mh_text::Watched;
 use std::alloc::Global;
 use std::sync::Wait;
@@ -7,7 +7,7 @@ use std::test::Fail;
 use std::thread::Threads;
 
 /// The script of the README's first example, with no byte after its last brace.
-const SCRIPT: &str =
+pub(crate) const SCRIPT: &str =
     r#"{"definition":{"version":1,"points":[{"name":"a","cost":5},{"name":"b","cost":7}],"sites":[{"name":"f","type":"(int)int","key":0,"target":["point","a",["guard",["insert",["op","ieq"],1,[1]],["drop",["const","int",100],0,["int"]],["insert",["op","iadd"],1,[1]]],["op","ineg"]],"links":[{"when":1,"weight":3,"needs":["a"]},{"when":2,"weight":1,"needs":["a","b"]}]}]},"workers":2,"events":[["call",0,"f",[1]],["call",0,"f",[2]]]}"#;
 
 /// How many lists stand in one another.
@@ -22,7 +22,14 @@ fn run<T: Threads + Wait + Sync>(rt: &T, alloc: Global, input: &[u8]) -> Told {
     let mut out = Watched::new(Vec::new(alloc));
     let mut err = Watched::new(Vec::new(alloc));
     let words = ["mhlink", "run"];
-    let status = command(rt, alloc, &words, &mut reader, &mut out, &mut err);
+    let status = command(
+        &Stage::silent(rt),
+        alloc,
+        &words,
+        &mut reader,
+        &mut out,
+        &mut err,
+    );
     (status, out.inner, err.inner)
 }
 

@@ -1,5 +1,5 @@
 //! Explanations and notes where streams fail.
-use mh_command::command;
+use mh_command::{Stage, command};
 use mh_text::Watched;
 use std::alloc::Global;
 use std::io::{self, ErrorKind, Read, Write};
@@ -74,7 +74,14 @@ fn run_into<T: Threads + Wait + Sync>(
         room,
     });
     let words = ["mhlink", "run", "--explain"];
-    let status = command(rt, alloc, &words, &mut reader, &mut out, &mut err);
+    let status = command(
+        &Stage::silent(rt),
+        alloc,
+        &words,
+        &mut reader,
+        &mut out,
+        &mut err,
+    );
     drop(err);
     (status, out.inner, held)
 }
@@ -122,7 +129,14 @@ fn run_from_closed<T: Threads + Wait + Sync>(rt: &T, alloc: Global) -> (u8, bool
     let mut out = Watched::new(Vec::new(alloc));
     let mut err = Watched::new(Vec::new(alloc));
     let words = ["mhlink", "run", "--explain", "--strict"];
-    let status = command(rt, alloc, &words, &mut reader, &mut out, &mut err);
+    let status = command(
+        &Stage::silent(rt),
+        alloc,
+        &words,
+        &mut reader,
+        &mut out,
+        &mut err,
+    );
     let told = "fault 10 ReadFailed at 0\n".as_bytes();
     (status, out.inner.is_empty() && err.inner.as_slice() == told)
 }

@@ -13,6 +13,8 @@ mod problems;
 #[cfg(test)]
 mod profiles;
 #[cfg(test)]
+mod rounds;
+#[cfg(test)]
 mod scripts;
 #[cfg(test)]
 mod streams;

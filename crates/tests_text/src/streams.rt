@@ -1,5 +1,5 @@
 //! Readers and writers that fail in mid-stream.
-use mh_command::command;
+use mh_command::{Stage, command};
 use mh_core::Refusal;
 use mh_text::readers::read_json;
 use mh_text::{Fault, RefusedEvent, RunOptions, TextFault, Watched, run_bytes, run_value};
@@ -174,7 +174,14 @@ fn command_from<T: Threads + Wait + Sync>(
     let mut out = Watched::new(Vec::new(alloc));
     let mut err = Watched::new(Vec::new(alloc));
     let words = ["mhlink", "run"];
-    let status = command(rt, alloc, &words, &mut reader, &mut out, &mut err);
+    let status = command(
+        &Stage::silent(rt),
+        alloc,
+        &words,
+        &mut reader,
+        &mut out,
+        &mut err,
+    );
     (status, out.inner, err.inner)
 }
 
@@ -278,7 +285,14 @@ fn command_into<T: Threads + Wait + Sync>(
     });
     let mut err = Watched::new(Vec::new(alloc));
     let words = ["mhlink", "run"];
-    let status = command(rt, alloc, &words, &mut reader, &mut out, &mut err);
+    let status = command(
+        &Stage::silent(rt),
+        alloc,
+        &words,
+        &mut reader,
+        &mut out,
+        &mut err,
+    );
     drop(out);
     (status, held, err.inner)
 }
@@ -349,7 +363,14 @@ fn answer_unflushed<T: Threads + Wait + Sync>(
     let mut out = Watched::new(Unflushed);
     let mut err = Watched::new(Vec::new(alloc));
     let words = ["mhlink", word];
-    let status = command(rt, alloc, &words, &mut reader, &mut out, &mut err);
+    let status = command(
+        &Stage::silent(rt),
+        alloc,
+        &words,
+        &mut reader,
+        &mut out,
+        &mut err,
+    );
     let told = "fault 11 WriteFailed at 0\n".as_bytes();
     (status, err.inner.as_slice() == told)
 }
