@@ -5,7 +5,7 @@ use Rattle.mh_type.specs.declared.value.Value.{Value}
 use Rattle.mh_tree.specs.Arity.{arity}
 use Rattle.mh_tree.specs.Meaning.{◌>>=◌, mean, steps, after, choose, choose_steps}
 use Rattle.mh_tree.specs.Tree.{Tree, fold, guard}
-use Rattle.mh_tree.specs.Widths.{CanRun}
+use Rattle.mh_tree.specs.inner.Widths.{CanRun}
 use Rattle.mh_tree.specs.Laws.{mean_leading, steps_leading}
 use Rattle.mh_tree.specs.Sites.{Setting, env}
 

@@ -8,7 +8,7 @@ use Rattle.mh_tree.specs.Typing.{AreTyped}
 use Rattle.mh_type.specs.declared.outcome.Throw.{Throw}
 use Rattle.mh_type.specs.declared.outcome.Outcome.TheVariants.{Thrown}
 use Rattle.mh_tree.specs.Meaning.{mean, steps, filtered, filter_steps, with_arguments, after_filters}
-use Rattle.mh_tree.specs.Widths.{CanRun, CanFilter}
+use Rattle.mh_tree.specs.inner.Widths.{CanRun, CanFilter}
 use Rattle.mh_tree.specs.Laws.{as_few, as_many}
 use Rattle.mh_tree.specs.Sites.{Setting, env, EachInvokes, MayReach, most_at, greatest_steps}
 

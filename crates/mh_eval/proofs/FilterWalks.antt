@@ -10,13 +10,13 @@ use Rattle.mh_type.specs.declared.outcome.Outcome.TheVariants as outcome
 use Rattle.mh_type.specs.Kinds.{kind_of}
 use Rattle.mh_tree.specs.Meaning.{mean, steps, filtered, filter_steps, with_value, after, argument}
 use Rattle.mh_tree.specs.Tree.{Tree, Filters, filter, no_more, absent, present}
-use Rattle.mh_tree.specs.Widths.{CanRun, CanFilter}
+use Rattle.mh_tree.specs.inner.Widths.{CanRun, CanFilter}
 use Rattle.mh_tree.specs.Laws.{argument_more, filtered_more, with_more, same_count, filter_count as count, counted}
 use Rattle.mh_eval.specs.Answers.{Ran}
 use Rattle.mh_eval.specs.Entered.{EntersPlain, FiltersPlain, IsPlainKind, WithArguments}
 use Rattle.mh_eval.specs.Frames.{Extends}
 use Rattle.mh_eval.specs.Quiet.{NoTexts}
-use Rattle.mh_eval.specs.Walked.{Walked, Placed, Passed, Ends, Stops, Settles}
+use Rattle.mh_eval.specs.inner.Walked.{Walked, Placed, Passed, Ends, Stops, Settles}
 use Rattle.mh_eval.specs.declared.answer.Answer.{Answer}
 use Rattle.mh_eval.specs.declared.answer.Answer.TheVariants.{Int, Long, Boolean, Text, Thrown, NoMemory}
 use Rattle.mh_eval.proofs.Extending.{front_texts}

@@ -10,11 +10,11 @@ use Rattle.mh_tree.specs.Meaning.{mean, steps}
 use Rattle.mh_tree.specs.Sites.{setting, env, EachInvoke, MayReach, target_at}
 use Rattle.mh_tree.specs.Tree.{invoke}
 use Rattle.mh_tree.specs.Typing.{IsTyped}
-use Rattle.mh_tree.specs.Widths.{CanRun}
+use Rattle.mh_tree.specs.inner.Widths.{CanRun}
 use Rattle.mh_tree.specs.Laws.{arity_counts, mean_leading, steps_leading, steps_at}
 use Rattle.mh_eval.specs.Entered.{EntersPlain}
 use Rattle.mh_eval.specs.Quiet.{NoTexts}
-use Rattle.mh_eval.specs.Walked.{Walked}
+use Rattle.mh_eval.specs.inner.Walked.{Walked}
 use Rattle.mh_eval.specs.declared.answer.Answer.{Answer}
 use Rattle.mh_eval.proofs.EntersLeading.{enters_leading}
 use Rattle.mh_eval.proofs.Extending.{front_texts}

@@ -9,7 +9,7 @@ use Rattle.mh_tree.specs.Sites.{EachInvoke, EachInvokes, MayInvoke, InvokesBelow
 use Rattle.mh_tree.specs.Tree.{Tree}
 use Rattle.mh_tree.specs.Invocations.{each_invoke}
 use Rattle.mh_tree.specs.Laws.{both_hold, each_decides, hold_both}
-use Rattle.mh_eval.specs.Lawful.{may_invoke}
+use Rattle.mh_eval.specs.inner.Lawful.{may_invoke}
 
 pub may_decides : (levels : List ℕ) (targets : List TypedTree) (l s : ℕ) (n : Signature) → Decides (may_invoke levels targets l s n) (MayInvoke levels targets l s n)
 may_decides levels targets l s n = (

@@ -5,7 +5,7 @@ use Rattle.mh_tree.specs.Code.{Code}
 use Rattle.mh_tree.specs.Running.{run_code, code_steps, weight}
 use Rattle.mh_tree.specs.Handle.{TypedTree, IsSound}
 use Rattle.mh_tree.specs.Prepared.{handle_code}
-use Rattle.mh_tree.specs.Scoped.{IsScoped}
+use Rattle.mh_tree.specs.inner.Scoped.{IsScoped}
 use Rattle.mh_tree.specs.Sites.{setting, env, most_at, MayCall, MayReach, target_at, calls_below, steps_below}
 use Rattle.mh_tree.specs.Laws.{call_scoped, call_means, call_costs, few_parameters}
 use Rattle.mh_type.specs.Signature.{Signature}

@@ -24,13 +24,13 @@ use Rattle.mh_tree.specs.declared.node.Node.TheOpen as open_node
 use Rattle.mh_tree.specs.declared.node.Node.TheFolds.{fold-roll-Node}
 use Rattle.mh_tree.specs.Typing.{IsTyped}
 use Rattle.mh_type.specs.Kinds.{kind_of}
-use Rattle.mh_tree.specs.Widths.{CanRun}
+use Rattle.mh_tree.specs.inner.Widths.{CanRun}
 use Rattle.mh_tree.specs.Laws.{effort, argument_more, arity_counts, mean_leading, mean_more, steps_leading, put_in_more, taken_out_more, reordered_more, few_parameters}
 use Rattle.mh_eval.specs.Answers.{Gives, Ran}
 use Rattle.mh_eval.specs.Entered.{EntersPlain, IsPlainKind, WithValue, Chosen, OneOf}
 use Rattle.mh_eval.specs.Frames.{Extends}
 use Rattle.mh_eval.specs.Quiet.{IsAnswered, NoTexts}
-use Rattle.mh_eval.specs.Walked.{Walked, Ends, settled, is_true}
+use Rattle.mh_eval.specs.inner.Walked.{Walked, Ends, settled, is_true}
 use Rattle.mh_eval.specs.declared.answer.Answer.{Answer}
 use Rattle.mh_eval.specs.declared.answer.Answer.TheVariants.{Int, Long, Boolean, Text, Thrown, NoMemory}
 use Rattle.mh_eval.proofs.AnswersGiven.{gives_ran}

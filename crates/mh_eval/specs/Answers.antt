@@ -15,7 +15,7 @@ Gives (Text x) o = o ≡ outcome.Value (value.Text x)
 Gives (Thrown t) o = o ≡ outcome.Thrown t
 Gives NoMemory o = Unit {0}
 
--- the same with the number of steps, m in all
+-- it is the outcome, and n is the number of steps, m in all; or memory was refused
 abbrev pub Ran : Answer → ℕ → Outcome → ℕ → Type 0
 Ran (Int x) n o m = (o ≡ outcome.Value (value.Int x)) × (n ≡ m)
 Ran (Long x) n o m = (o ≡ outcome.Value (value.Long x)) × (n ≡ m)

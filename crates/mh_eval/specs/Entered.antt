@@ -39,7 +39,7 @@ abbrev pub Chosen : Value → Type 0 → Type 0 → Type 0
 Chosen (Boolean true) X Y = X
 Chosen _ X Y = Y
 
--- the same by a truth of the world
+-- the first where a truth of the world is true, and else the second
 abbrev pub OneOf : Bool → Type 0 → Type 0 → Type 0
 OneOf true X Y = X
 OneOf false X Y = Y
@@ -72,7 +72,7 @@ abbrev mutual
   PlainBy q v (point p x y) a = IsPlain (type_of (point p x y)) × OneOf (is_valid v p) (PlainBy q v x a) (PlainBy q v y a)
   PlainBy q v (invoke s n) a = IsPlain (type_of (invoke s n)) × q s (take (length n.parameters) a)
 
-  -- the same of the filters of the places from p on
+  -- each node that is entered by the filters of the places from p on
   pub PlainFilters : (ℕ → List Value → Type 0) → Environment → Filters → ℕ → List Value → Type 0
   PlainFilters q v no_more p a = Unit {0}
   PlainFilters q v (absent fs) p a = PlainFilters q v fs (p + 1) a

@@ -1,7 +1,6 @@
 pub mod Answers
 pub mod Entered
 pub mod Frames
-pub mod Lawful
-pub mod Limits
+pub mod Numbers
 pub mod Quiet
-pub mod Walked
+pub mod inner

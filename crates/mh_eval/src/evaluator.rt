@@ -5,12 +5,12 @@ ghost use Rattle.std.specs.Prelude.{◌≡◌, ◌+◌, ◌<◌, ◌≤◌, ◌�
 ghost use Rattle.mh_eval.specs.Entered.{EntersPlain};
 ghost use Rattle.mh_eval.specs.Answers.{Gives};
 ghost use Rattle.mh_eval.specs.Quiet.{IsAnswered};
-ghost use Rattle.mh_eval.specs.Walked.{Walked, Placed, Passed, settled, is_true};
+ghost use Rattle.mh_eval.specs.inner.Walked.{Walked, Placed, Passed, settled, is_true};
 ghost use Rattle.mh_tree.specs.Limits.{all_steps, point_bound};
 ghost use Rattle.mh_tree.specs.Meaning.{mean, steps};
 ghost use Rattle.mh_tree.specs.Tree.{insert, discard, permute, filter, filter_return, fold, guard, point as point_tree, invoke, filters_of, present};
 ghost use Rattle.mh_tree.specs.TreeOf.{tree_of, filter_trees};
-ghost use Rattle.mh_tree.specs.Widths.{CanRun, CanFilter};
+ghost use Rattle.mh_tree.specs.inner.Widths.{CanRun, CanFilter};
 ghost use Rattle.mh_type.specs.Fits.{Fits};
 ghost use Rattle.mh_type.specs.Operations.{operate as outcome_of_operation, op_signature};
 ghost use Rattle.mh_type.specs.Limits.{most_parameters};
@@ -175,8 +175,8 @@ fn run(
     }
 }
 
-// The same on arguments that were put on the top, which are taken off again. Of more than a tree
-// reads, the first are taken.
+// The answer of a tree on arguments that were put on the top, which are taken off again, and the
+// number of nodes entered. Of more arguments than a tree reads, the first are taken.
 #[cycle(run)]
 fn run_above(
     alloc: Global,
@@ -572,7 +572,7 @@ fn run_filters(
     }
 }
 
-// The same of a filter that is there, and then of the others.
+// What `run_filters` gives where the first place has a filter.
 #[cycle(run)]
 fn run_present(
     alloc: Global,

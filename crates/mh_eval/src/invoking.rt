@@ -1,7 +1,7 @@
 //! Whether trees invoke sites as they may.
 
 ghost use Rattle.std.specs.Prelude.{◌≡◌, ◌↔◌, ◌<◌, ◌≤◌, ℕ, All, IsTrue, length};
-ghost use Rattle.mh_eval.specs.Lawful.{may_invoke as may_be_invoked};
+ghost use Rattle.mh_eval.specs.inner.Lawful.{may_invoke as may_be_invoked};
 ghost use Rattle.mh_tree.specs.Limits.{greatest_level};
 ghost use Rattle.mh_tree.specs.Sites.{IsLawful, InvokesBelow, level_at, target_at};
 ghost use Rattle.mh_tree.specs.Typing.{IsTyped};
@@ -79,7 +79,7 @@ struct Below<'a> {
 }
 
 impl<'a> InvocationTest for Below<'a> {
-    ghost use Rattle.mh_eval.specs.Lawful.{may_invoke};
+    ghost use Rattle.mh_eval.specs.inner.Lawful.{may_invoke};
 
     ghost holds = { λ t s n. may_invoke t.levels.now t.targets.now t.level s n };
 

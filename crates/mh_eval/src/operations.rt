@@ -1,6 +1,6 @@
 //! The results of the leaf operations on two values, of which some read the first alone.
 
-ghost use Rattle.std.specs.Prelude.{◌≡◌, ◌∷◌, ◌⊎◌, [], pos, length as list_length, true, IfSome};
+ghost use Rattle.std.specs.Prelude.{◌≡◌, ◌∷◌, [], pos, length as list_length, IfSome};
 ghost use Rattle.std.specs.Option.{is_some};
 ghost use Rattle.std.specs.Int.{int_wrap, int_wrapping_div, w32, w64};
 ghost use Rattle.std.specs.Int.RustNames.{int_rem};
@@ -8,8 +8,8 @@ ghost use Rattle.mh_type.specs.Operations.{operate as outcome_of, divided, joine
 ghost use Rattle.mh_type.specs.declared.outcome.Outcome.{Outcome};
 ghost use Rattle.mh_type.specs.declared.outcome.Throw.{Throw as ThrowOf};
 ghost use Rattle.mh_type.specs.Kinds.{kind_of};
-ghost use Rattle.mh_type.specs.declared.kind.Kind.{Kind};
 ghost use Rattle.mh_eval.specs.Answers.{Gives};
+ghost use Rattle.mh_eval.specs.Numbers.{is_number, compares_ints, compares_longs, compares_numbers};
 ghost use Rattle.mh_eval.specs.Quiet.{IsAnswered};
 
 use crate::answer::Answer;
@@ -107,10 +107,8 @@ fn text_equal(first: &Value, second: &Value) -> bool
 pub fn truth(op: Op, first: &Value, second: &Value) -> Option<bool>
     ensures value { IfSome result (λ b. outcome_of op (first.now ∷ second.now ∷ [])
         ≡ Outcome.Value (Value.Boolean b)) }
-    ensures ints { (op ≡ Op.Ieq) ⊎ (op ≡ Op.Ilt) → kind_of first.now ≡ Kind.Int
-        → kind_of second.now ≡ Kind.Int → is_some result ≡ true }
-    ensures longs { (op ≡ Op.Leq) ⊎ (op ≡ Op.Llt) → kind_of first.now ≡ Kind.Long
-        → kind_of second.now ≡ Kind.Long → is_some result ≡ true }
+    ensures some { is_some result
+        ≡ compares_numbers op (kind_of first.now) (kind_of second.now) }
 {
     match (first, second) {
         (Value::Int(_), Value::Int(_)) => int_truth(op, first, second),
@@ -124,7 +122,7 @@ pub fn truth(op: Op, first: &Value, second: &Value) -> Option<bool>
 fn int_truth(op: Op, first: &Value, second: &Value) -> Option<bool>
     ensures value { IfSome result (λ b. outcome_of op (first.now ∷ second.now ∷ [])
         ≡ Outcome.Value (Value.Boolean b)) }
-    ensures some { (op ≡ Op.Ieq) ⊎ (op ≡ Op.Ilt) → is_some result ≡ true }
+    ensures some { is_some result ≡ compares_ints op }
 {
     match op {
         Op::Ieq => Some(int_equal(first, second)),
@@ -138,7 +136,7 @@ fn int_truth(op: Op, first: &Value, second: &Value) -> Option<bool>
 fn long_truth(op: Op, first: &Value, second: &Value) -> Option<bool>
     ensures value { IfSome result (λ b. outcome_of op (first.now ∷ second.now ∷ [])
         ≡ Outcome.Value (Value.Boolean b)) }
-    ensures some { (op ≡ Op.Leq) ⊎ (op ≡ Op.Llt) → is_some result ≡ true }
+    ensures some { is_some result ≡ compares_longs op }
 {
     match op {
         Op::Leq => Some(long_equal(first, second)),
@@ -282,8 +280,7 @@ fn concat(alloc: Global, some: &Text, more: &Text) -> Answer
 #[inline(always)]
 pub fn outcome_of_number(value: &Value) -> Option<Outcome>
     ensures value { IfSome result (λ o. o ≡ Outcome.Value value.now) }
-    ensures number { (kind_of value.now ≡ Kind.Int) ⊎ (kind_of value.now ≡ Kind.Long)
-        → is_some result ≡ true }
+    ensures some { is_some result ≡ is_number (kind_of value.now) }
 {
     match value {
         Value::Int(number) => Some(Outcome::Value(Value::Int(*number))),

@@ -21,7 +21,7 @@ pub struct Stack {
 
 impl Model for Stack {
     ghost use Rattle.std.specs.Prelude.{◌≡◌, ◌≤◌, List, [], vec_capacity};
-    ghost use Rattle.mh_eval.specs.Limits.{least_room};
+    ghost use Rattle.mh_eval.specs.inner.Limits.{least_room};
     ghost use Rattle.mh_type.specs.declared.value.Value.{Value as Held};
 
     ghost Value = { List Held };

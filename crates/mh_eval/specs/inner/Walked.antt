@@ -14,7 +14,7 @@ use Rattle.mh_eval.specs.Quiet.{IsAnswered, NoTexts}
 use Rattle.mh_eval.specs.declared.answer.Answer.{Answer}
 use Rattle.mh_eval.specs.declared.answer.Answer.TheVariants.{Int, Long, Boolean, Text, Thrown, NoMemory}
 use Rattle.mh_type.specs.Limits.{most_parameters}
-use Rattle.mh_eval.specs.Limits.{level_room}
+use Rattle.mh_eval.specs.inner.Limits.{level_room}
 use Rattle.mh_tree.specs.Sites.{Setting, env, most_at}
 
 -- The outcome and the steps, or memory was refused. With n values on the stack and a capacity of c it is not refused where no node

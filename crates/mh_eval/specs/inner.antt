@@ -1,0 +1,4 @@
+-- Definitions that the clauses of private functions alone use: no promise asks for them to be read.
+pub mod Lawful
+pub mod Limits
+pub mod Walked
