@@ -35,10 +35,10 @@ opened_callers d workers l =
 abbrev pub flush_of : LedgerState → Record
 flush_of l = Flushed l.worker (hits_in l.unflushed)
 
--- the book does not hold the ledger, or the first failing test of its flush is told
+-- the book does not hold the ledger, or the first failing test of its flush is reported
 abbrev pub RefusesFlush : BookState → LedgerState → Refusal → Type 0
 RefusesFlush b l told = ((told ≡ NoWorker) × (Holds b.totals l → ⊥)) ⊎ (Holds b.totals l × MayRefuse b 0 (flush_of l) told)
 
--- the book does not hold the ledger, or want of memory is told
+-- the book does not hold the ledger, or out of memory is reported
 abbrev pub RefusesLook : BookState → LedgerState → Refusal → Type 0
 RefusesLook b l told = ((told ≡ NoWorker) × (Holds b.totals l → ⊥)) ⊎ (Holds b.totals l × (told ≡ NoMemory))

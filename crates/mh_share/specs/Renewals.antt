@@ -32,7 +32,7 @@ ledgers_of callers = map (λ c. c.ledger) callers
 abbrev pub IsOf : BookState → ℕ → LedgerState → Type 0
 IsOf b w l = (l.worker ≡ w) × Holds b.totals l
 
--- the tests of a renewal with these ledgers: there is a held one of each worker, in order; memory may be wanting for their exchange; and
+-- the tests of a renewal with these ledgers: there is a held one of each worker, in order; there may be no memory for their exchange; and
 -- those of the book
 abbrev pub desk_tests : BookState → List LedgerState → List ℕ → Tests Refusal
 desk_tests b ledgers again =

@@ -121,7 +121,7 @@ impl Caller {
     /// the linked trees, and the hit of its link is counted in the ledger. It takes no lock.
     ///
     /// Refused with `NoSite`, `WrongType`, `LedgerFull`, and then with `NoMemory`, which is not
-    /// told where no node that is entered has String in its type; nothing changes.
+    /// reported where no node that is entered has String in its type; nothing changes.
     pub fn call(&mut self, site: usize, arguments: &[Value]) -> Result<(Outcome, u128), Refusal>
         ensures passes { OnOk result (Passes (call_tests self.old site arguments.now)) }
         ensures answer { IfOk result (λ p. Called p.0 p.1

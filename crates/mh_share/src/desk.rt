@@ -210,7 +210,7 @@ impl Desk {
         if !self.book.holds(ledger) {
             return Err(Refusal::NoWorker);
         }
-        // Read for what a book, a ledger and totals keep.
+        // Names the invariants of the ledger, of the book and of the totals for the proof.
         let (_limit, _most) = (ledger.limit(), self.book.totals().limit());
         share(&self.shown).map_err(|_| Refusal::NoMemory)
     }

@@ -1,9 +1,9 @@
 //! How a desk begins a new history.
 
 ghost use Rattle.std.specs.Prelude.{◌≡◌, ◌<◌, ◌↔◌, ℕ, length, map, IfErr, IfOk, IsTrue, OnErr, OnOk};
-ghost use Rattle.std.specs.List.{All};
+ghost use Rattle.std.specs.List.{All, range_with_len};
 ghost use Rattle.mh_base.specs.Tests.{Refuses};
-ghost use Rattle.mh_ledger.specs.Ledgers.{AreHeld, ledger_at};
+ghost use Rattle.mh_ledger.specs.Ledgers.{AreHeld, ledger_at, opened_ledger};
 ghost use Rattle.mh_ledger.specs.Renewals.{renewed_ledger};
 ghost use Rattle.mh_site.specs.Links.{links as links_of};
 ghost use Rattle.mh_core.specs.Renewals.{AreKnown, MeansTheSame, Renews, renewal_tests};
@@ -90,7 +90,7 @@ impl Desk {
         ensures links { IsTrue result → length ledger.now.unflushed
             ≡ length self.now.book.totals.total }
     {
-        // Read for what a ledger and totals keep.
+        // Names the invariants of the ledger and of the totals for the proof.
         let (_limit, _most) = (ledger.limit(), self.book.totals().limit());
         ledger.worker() == worker && self.book.holds(ledger)
     }
@@ -98,6 +98,9 @@ impl Desk {
     /// A ledger for each worker, of as many links as there are, that counts no hit: a caller has it
     /// while its own is elsewhere. Fails only if an allocation is refused.
     pub fn spare_ledgers(&self) -> Result<Vec<Ledger>, NoMemory>
+        ensures value { IfOk result (λ ledgers. ledgers.items ≡ map
+            (opened_ledger (length self.now.book.totals.total) 0)
+            (range_with_len 0 (length self.now.book.totals.shares))) }
         ensures count { IfOk result (λ ledgers. length ledgers.items
             ≡ length self.now.book.totals.shares) }
         ensures links { IfOk result (λ ledgers. All (λ l. length l.unflushed
