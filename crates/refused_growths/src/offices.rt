@@ -4,6 +4,7 @@ ghost use Rattle.std.specs.Prelude.{◌≡◌};
 
 use crate::books::{Change, Inputs};
 use crate::definition::{F, define, limits, plan_of_two_hits};
+use crate::passes::{Called, try_call};
 use crate::telling::{tell_again, tell_book, tell_ledger, tell_opened, tell_part, tell_worked};
 use anyhow::Context;
 use mh_live::mh_core::{Refusal, Value};
@@ -66,22 +67,27 @@ pub(crate) fn make_ready<N: Name, R: Wait>(
     hit(pass)
 }
 
-/// Asks an office, and again.
-pub(crate) fn try_change<R: Print + Wait>(
-    rt: &R,
-    alloc: Global,
-    change: Change,
-) -> anyhow::Result<()> {
-    let opening = make_opening(alloc)?;
-    try_opened::<Brand, R>(rt, alloc, opening, change)
+/// What is done twice, first with a growth refused.
+#[derive(Clone, Copy, Debug, PartialEq, Eq)]
+pub(crate) enum Deed {
+    /// An office is asked for a change.
+    Change(Change),
+    /// A site is called through a pass.
+    Call(Called),
 }
 
-/// The same of an opening.
+/// Does a thing in a new office, and again.
+pub(crate) fn try_deed<R: Print + Wait>(rt: &R, alloc: Global, deed: Deed) -> anyhow::Result<()> {
+    let opening = make_opening(alloc)?;
+    try_opened::<Brand, R>(rt, alloc, opening, deed)
+}
+
+/// Does it in the office of an opening.
 fn try_opened<N: Name, R: Print + Wait>(
     rt: &R,
     alloc: Global,
     opening: Opening,
-    change: Change,
+    deed: Deed,
 ) -> anyhow::Result<()>
     requires name { opening.name ≡ N.book }
     requires definition { opening.definition ≡ N.definition }
@@ -91,11 +97,14 @@ fn try_opened<N: Name, R: Print + Wait>(
     let (live, mut passes) = opening.open::<N>()?;
     let pass = passes.get_mut(0).context("there is no pass")?;
     make_ready(rt, alloc, &live, pass)?;
-    try_ready(rt, alloc, &live, pass, change)
+    match deed {
+        Deed::Change(change) => try_change(rt, alloc, &live, pass, change),
+        Deed::Call(called) => try_call(rt, alloc, &live, pass, called),
+    }
 }
 
-/// The same of an office that stands.
-fn try_ready<N: Name, R: Print + Wait>(
+/// Asks an open office for a change, and again.
+fn try_change<N: Name, R: Print + Wait>(
     rt: &R,
     alloc: Global,
     live: &Live<N>,

@@ -1,15 +1,11 @@
 //! Calls of passes.
 
-ghost use Rattle.std.specs.Prelude.{◌≡◌};
-
 use crate::definition::{F, JOINED, text};
-use crate::offices::{make_opening, make_ready, tell};
+use crate::offices::tell;
 use crate::telling::{tell_again, tell_opened, tell_worked};
-use anyhow::Context;
 use mh_live::mh_core::Value;
-use mh_live::{Live, Name, Opening, Pass};
+use mh_live::{Live, Name, Pass};
 use std::alloc::Global;
-use std::marker::Brand;
 use std::sync::Wait;
 
 /// What is called.
@@ -33,35 +29,7 @@ fn arguments(alloc: Global, called: Called) -> anyhow::Result<(usize, Vec<Value>
 }
 
 /// Calls a site through a pass, and again.
-pub(crate) fn try_call<R: Print + Wait>(
-    rt: &R,
-    alloc: Global,
-    called: Called,
-) -> anyhow::Result<()> {
-    let opening = make_opening(alloc)?;
-    try_opened::<Brand, R>(rt, alloc, opening, called)
-}
-
-/// The same of an opening.
-fn try_opened<N: Name, R: Print + Wait>(
-    rt: &R,
-    alloc: Global,
-    opening: Opening,
-    called: Called,
-) -> anyhow::Result<()>
-    requires name { opening.name ≡ N.book }
-    requires definition { opening.definition ≡ N.definition }
-    requires limits { opening.limits ≡ N.limits }
-    requires workers { opening.workers ≡ N.workers }
-{
-    let (live, mut passes) = opening.open::<N>()?;
-    let pass = passes.get_mut(0).context("there is no pass")?;
-    make_ready(rt, alloc, &live, pass)?;
-    try_ready(rt, alloc, &live, pass, called)
-}
-
-/// The same of an office that stands.
-fn try_ready<N: Name, R: Print + Wait>(
+pub(crate) fn try_call<N: Name, R: Print + Wait>(
     rt: &R,
     alloc: Global,
     live: &Live<N>,

@@ -2,9 +2,9 @@
 
 use crate::books::{self, Change};
 use crate::machines::{try_run, try_steps};
-use crate::offices;
+use crate::offices::{Deed, try_deed};
 use crate::openings::{try_new, try_open};
-use crate::passes::{Called, try_call};
+use crate::passes::Called;
 use crate::plans::{try_large_plan, try_large_problem, try_plan};
 use crate::reopening::try_reopening;
 use crate::runtimes::{Beginning, try_beginning, try_resumption};
@@ -130,7 +130,7 @@ pub(crate) fn try_subject<R: Print + Threads + Wait + Sync>(
         Subject::BookOpening => books::try_opening(rt, alloc),
         Subject::BookProblem => books::try_problem(rt, alloc),
         Subject::Book(change) => books::try_change(rt, alloc, change),
-        Subject::Office(change) => offices::try_change(rt, alloc, change),
+        Subject::Office(change) => try_deed(rt, alloc, Deed::Change(change)),
         Subject::Runtime(beginning) => try_beginning(rt, alloc, beginning),
         Subject::Resumption => try_resumption(rt, alloc),
         Subject::Run => try_run(rt, alloc),
@@ -139,7 +139,7 @@ pub(crate) fn try_subject<R: Print + Threads + Wait + Sync>(
         Subject::OpeningOpen => try_open(rt, alloc),
         Subject::Settlement => try_settle(rt, alloc),
         Subject::Reopening => try_reopening(rt, alloc),
-        Subject::Call(called) => try_call(rt, alloc, called),
+        Subject::Call(called) => try_deed(rt, alloc, Deed::Call(called)),
     }
 }
 

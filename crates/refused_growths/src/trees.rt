@@ -81,8 +81,8 @@ fn make(alloc: Global, maker: Maker, parts: &Parts) -> Result<Handle, TreeFault>
         Maker::Fold => Handle::fold(alloc, &parts.sum, &parts.negation),
         Maker::Guard => Handle::guard(alloc, &parts.test, &parts.negation, &parts.negation),
         Maker::Point => Handle::point(alloc, 0, &parts.negation, &parts.negation),
-        Maker::Declaration => Declared::new(&parts.negation)?.handle().share(),
-        Maker::Preparation => Prepared::new(alloc, parts.base.handle())?.handle().share(),
+        Maker::Declaration => Ok(Declared::new(&parts.negation)?.handle().share()?),
+        Maker::Preparation => Ok(Prepared::new(alloc, parts.base.handle())?.handle().share()?),
         Maker::Chain => make_chain(alloc, parts),
     }
 }
@@ -96,7 +96,7 @@ fn make_chain(alloc: Global, parts: &Parts) -> Result<Handle, TreeFault> {
     ) {
         return Err(TreeFault::BadPosition);
     }
-    chain(alloc, &parts.base, 0, parts.entries.as_slice()).map_err(|_| TreeFault::NoMemory)
+    Ok(chain(alloc, &parts.base, 0, parts.entries.as_slice())?)
 }
 
 /// Makes a tree of parts, and again.

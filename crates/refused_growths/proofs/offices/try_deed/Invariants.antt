@@ -1,4 +1,4 @@
-use Rattle.refused_growths.proofs.passes.try_call.Given as goal
+use Rattle.refused_growths.proofs.offices.try_deed.Given as goal
 
 -- the list, the definition, the limits and the workers of what was just opened
 abbrev pub ghosts-try_opened : goal.ghosts-try_opened
