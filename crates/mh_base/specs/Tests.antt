@@ -1,8 +1,8 @@
--- Tests in an order, of which the first that fails is told.
+-- Tests in an order: the first that fails is reported.
 use Rattle.std.specs.Prelude.{◌≡◌, ◌⊎◌}
 
--- a fact, what may be told where it fails, and the tests that come after; what may be told though no test fails, and the tests that
--- come after; or no more, and what may be told where none failed
+-- a fact, what may be reported where it fails, and the tests that come after; what may be reported though no test fails, and the
+-- tests that come after; or no more, and what may be reported where none failed
 pub data Tests (E : Type 0) : Type 1 where
   no_more : (E → Type 0) → Tests E
   test : Type 0 → (E → Type 0) → Tests E → Tests E
@@ -13,16 +13,16 @@ Passes (no_more tells) = Unit {0}
 Passes (test fact tells later) = fact × Passes later
 Passes (may_tell tells later) = Passes later
 
--- told is what the first failing test tells, or what may be told before it
+-- told is what the first failing test reports, or what may be reported before it
 abbrev pub Refuses : {E : Type 0} → Tests E → E → Type 0
 Refuses (no_more tells) told = tells told
 Refuses (test fact tells later) told = ((fact → ⊥) × tells told) ⊎ (fact × Refuses later told)
 Refuses (may_tell tells later) told = tells told ⊎ Refuses later told
 
--- this fault and no other is told
+-- this fault and no other is reported
 abbrev pub only : {E : Type 0} → E → E → Type 0
 only fault told = told ≡ fault
 
--- no fault is told
+-- no fault is reported
 abbrev pub nothing : {E : Type 0} → E → Type 0
 nothing told = ⊥

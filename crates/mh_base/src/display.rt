@@ -7,7 +7,7 @@ ghost use Rattle.mh_base.specs.Display.{numbers_text};
 
 use std::fmt;
 
-/// Numbers, to be told with commas between them, as `0,1,5`, and as `-` where there is none.
+/// Numbers, written with commas between them, as `0,1,5`, and as `-` where there are none.
 #[derive(Clone, Copy, Debug)]
 pub struct Numbers<'a> {
     /// The numbers.

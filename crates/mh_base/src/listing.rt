@@ -61,7 +61,7 @@ impl<T> Listing<T> {
 }
 
 impl Listing<u32> {
-    /// The same numbers, in further memory.
+    /// A copy of the numbers, in new memory.
     pub fn copy(&self) -> Result<Listing<u32>, NoMemory>
         ensures value { IfOk result (λ copied. copied ≡ self.now) }
     {

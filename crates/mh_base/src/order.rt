@@ -1,8 +1,8 @@
-//! Tests in an order, of which the first that fails is told.
+//! Tests in an order: the first that fails is reported.
 
 ghost use Rattle.std.specs.Prelude.{◌≡◌, MatchResult, true, false};
 
-/// A test, and the fault that is told where it fails.
+/// A test, and the fault that is reported where it fails.
 pub fn demand<E: Drop>(passes: bool, fault: E) -> Result<(), E>
     ensures value { MatchResult result (λ _. passes ≡ true) (λ e. (passes ≡ false) × (e ≡ fault)) }
 {

@@ -1,4 +1,4 @@
 pub mod Display
-pub mod Ends
 pub mod Laws
 pub mod Plans
+pub mod inner

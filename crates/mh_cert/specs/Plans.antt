@@ -1,4 +1,4 @@
--- Which plans match a problem, and what else is told.
+-- Which plans match a problem, and why others are refused.
 use Rattle.std.specs.Prelude.{ℕ, ◌+◌, ◌≡◌, ◌≤◌, ◌<◌, List, All, AllPairs, length, true, pos, ◌-ℤ◌, codes}
 use Rattle.std.specs.List.Sorted.{IsStrictlyIncreasing}
 use Rattle.mh_network.specs.Problems.{ProblemData, link_at, gain_of, charge_of, cost_of, needs_point, sum_of_gains}

@@ -1,7 +1,7 @@
 //! The bounds that gains and costs set to a flow.
 
 ghost use Rattle.std.specs.Prelude.{◌≡◌, ◌≤◌, ◌<◌, ◌+◌, ◌↔◌, ℕ, All, IfOk, IfErr, IsTrue, length, slice_index, true};
-ghost use Rattle.mh_cert.specs.Ends.{end_of};
+ghost use Rattle.mh_cert.specs.inner.Ends.{end_of};
 ghost use Rattle.mh_network.specs.Problems.{IsProblem, gain_of, charge_of, cost_of, needs_point};
 ghost use Rattle.mh_network.specs.Selection.{from_link, into_charge, into_point};
 ghost use Rattle.mh_network.specs.Sums.{amount_at};

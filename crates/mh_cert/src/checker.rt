@@ -24,9 +24,9 @@ use std::alloc::Global;
 /// and its value is both what the links are worth and what the flow leaves of all gains. The links
 /// are then best: no set of eligible links is worth more. O(links + points + rows).
 ///
-/// Refused with the first part that fails, as `CheckFault` tells them, or with NoMemory, only where
-/// a growth was refused, which is asked for once the links are eligible and ascending. A plan that
-/// matches is refused with nothing else.
+/// Refused with the first part that fails, as `CheckFault` names them, or with `NoMemory`, only if
+/// an allocation is refused, and only where the links are eligible and ascending. A plan that
+/// matches is refused with nothing but `NoMemory`.
 pub fn check(alloc: Global, problem: &Problem, plan: &Plan) -> Result<(), CheckFault>
     ensures matching { OnOk result (Matches problem.now plan.now) }
     ensures best { OnOk result (IsBest problem.now (member plan.now.links)) }

@@ -27,7 +27,7 @@ pub enum CheckFault {
     ValueWrong,
     /// The value is not the sum of all gains less the sum of the amounts, those of charges included.
     FlowNotMatching,
-    /// A growth was refused. It may stand in place of any other answer.
+    /// Out of memory: an allocation was refused. It may stand in place of any other answer.
     NoMemory,
     /// An amount passes the charge of its link.
     ChargeExceeded,

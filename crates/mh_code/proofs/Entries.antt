@@ -11,7 +11,7 @@ use Rattle.std.proofs.lemmas.List.{get_or_default}
 use Rattle.std.proofs.lemmas.List.Edits.{get_or-insert_at, get_or-insert_below, get_or-insert_above, length-insert}
 use Rattle.mh_type.specs.declared.value.Value.{Value}
 use Rattle.mh_type.specs.declared.value.Value.TheVariants.{Int}
-use Rattle.mh_code.specs.Entries.{AreEntries, AreRising, IsEntry, IsFound}
+use Rattle.mh_code.specs.inner.Entries.{AreEntries, AreRising, IsEntry, IsFound}
 use Rattle.mh_code.specs.Rows.{is_key, row_of, steps_to, all_steps}
 use Rattle.mh_code.specs.declared.index.Entry.{Entry}
 use Rattle.mh_code.specs.declared.index.Row.{Row}

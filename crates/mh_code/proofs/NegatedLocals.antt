@@ -9,7 +9,7 @@ use Rattle.mh_tree.specs.Tree.{Tree, Filters, constant, identity, operation, ins
 use Rattle.mh_tree.specs.declared.operand.Operand.{Operand}
 use Rattle.mh_tree.specs.declared.operand.Operand.TheVariants.{Constant}
 use Rattle.mh_code.specs.Laws.Truths.{is_not_is}
-use Rattle.mh_code.specs.Negations.{are_absent, is_not_tree}
+use Rattle.mh_code.specs.inner.Negations.{are_absent, is_not_tree}
 use Rattle.mh_code.specs.RoutineOf.{is_local, is_not, negates}
 
 several : (s : ℕ) → (((s + 1) + 1) == 1) ≡ false

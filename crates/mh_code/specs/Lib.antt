@@ -1,12 +1,8 @@
-pub mod Entries
 pub mod Height
 pub mod KeptCode
 pub mod Laws
-pub mod Negations
 pub mod PieceOf
-pub mod PurposeOf
 pub mod Routine
 pub mod RoutineOf
 pub mod Rows
-pub mod Runs
-pub mod Scope
+pub mod inner

@@ -1,10 +1,11 @@
 //! Code that was made lately.
 
-ghost use Rattle.std.specs.Prelude.{◌≡◌, IfErr, IfOk, IfSome};
+ghost use Rattle.std.specs.Prelude.{◌≡◌, IfOk, IfSome};
 
 use crate::comparing::same_handle;
 use crate::prepared::Prepared;
-use mh_tree::{Handle, TreeFault};
+use mh_base::NoMemory;
+use mh_tree::Handle;
 use std::alloc::Global;
 use std::fmt;
 
@@ -39,9 +40,8 @@ impl CodeCache {
 
     /// The handle with its code: that of an equal handle, where the cache keeps one, and else made
     /// as by `Prepared::new`, and kept. Fails only with `NoMemory`.
-    pub fn prepare(&mut self, handle: &Handle) -> Result<Prepared, TreeFault>
+    pub fn prepare(&mut self, handle: &Handle) -> Result<Prepared, NoMemory>
         ensures value { IfOk result (λ p. p ≡ handle.now) }
-        ensures refused { IfErr result (λ e. e ≡ TreeFault.NoMemory) }
     {
         if let Some(prepared) = self.find(handle) {
             return Ok(prepared);
@@ -51,15 +51,10 @@ impl CodeCache {
         Ok(prepared)
     }
 
-    /// The same where the code of another handle is at hand, which serves for an equal one. It takes
-    /// time linear in the trees' size. Fails only with `NoMemory`.
-    pub fn prepare_again(
-        &mut self,
-        other: &Prepared,
-        handle: &Handle,
-    ) -> Result<Prepared, TreeFault>
+    /// Does what `prepare` does where the code of another handle is at hand, which serves for an
+    /// equal one. It takes time linear in the trees' size. Fails only with `NoMemory`.
+    pub fn prepare_again(&mut self, other: &Prepared, handle: &Handle) -> Result<Prepared, NoMemory>
         ensures value { IfOk result (λ p. p ≡ handle.now) }
-        ensures refused { IfErr result (λ e. e ≡ TreeFault.NoMemory) }
     {
         if same_handle(other.handle(), handle) {
             return other.share();

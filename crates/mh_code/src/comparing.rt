@@ -30,7 +30,7 @@ fn same_tree(one: &Node, other: &Node) -> bool
     }
 }
 
-// The same of leaves.
+// Whether two nodes have one tree, where the first is a leaf.
 fn same_leaf(one: &Node, other: &Node) -> bool
     ensures same { IsTrue result → tree_of one.now ≡ tree_of other.now }
 {
@@ -49,7 +49,7 @@ fn same_leaf(one: &Node, other: &Node) -> bool
     }
 }
 
-// The same of combinators that move arguments.
+// Whether two nodes have one tree, where the first is a combinator that moves arguments.
 #[cycle(same)]
 fn same_moved(one: &Node, other: &Node) -> bool
     ensures same { IsTrue result → tree_of one.now ≡ tree_of other.now }
@@ -97,7 +97,7 @@ fn same_moved(one: &Node, other: &Node) -> bool
     }
 }
 
-// The same of combinators that join trees.
+// Whether two nodes have one tree, where the first is a combinator that joins trees.
 #[cycle(same)]
 fn same_composed(one: &Node, other: &Node) -> bool
     ensures same { IsTrue result → tree_of one.now ≡ tree_of other.now }
@@ -133,7 +133,7 @@ fn same_composed(one: &Node, other: &Node) -> bool
     }
 }
 
-// The same of combinators that choose a tree.
+// Whether two nodes have one tree, where the first is a combinator that chooses a tree.
 #[cycle(same)]
 fn same_chosen(one: &Node, other: &Node) -> bool
     ensures same { IsTrue result → tree_of one.now ≡ tree_of other.now }

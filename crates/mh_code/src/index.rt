@@ -1,7 +1,7 @@
 //! Finding the test of a chain that holds: at once by a guess, or else by halving.
 
 ghost use Rattle.std.specs.Prelude.{◌≡◌, ◌+◌, ◌<◌, ◌≤◌, ◌++◌, ◌∷◌, [], length, IfOk};
-ghost use Rattle.mh_code.specs.Entries.{AreEntries, AreRising, IsFound, guess_count};
+ghost use Rattle.mh_code.specs.inner.Entries.{AreEntries, AreRising, IsFound, guess_count};
 ghost use Rattle.mh_code.specs.Rows.{row_of, steps_to, all_steps, most_rows};
 ghost use Rattle.mh_type.specs.declared.value.Value.TheVariants.{Int};
 
@@ -47,7 +47,7 @@ pub struct Index {
 impl Model for Index {
     ghost use Rattle.std.specs.Prelude.{◌≡◌, ◌≤◌, ◌*◌, List, length};
     ghost use Rattle.mh_code.specs.declared.index.Row.{Row as Kept};
-    ghost use Rattle.mh_code.specs.Entries.{AreEntries};
+    ghost use Rattle.mh_code.specs.inner.Entries.{AreEntries};
     ghost use Rattle.mh_code.specs.Rows.{all_steps};
 
     ghost Value = { List Kept };

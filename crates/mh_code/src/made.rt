@@ -66,7 +66,7 @@ pub(crate) fn own(alloc: Global, piece: Piece) -> Result<Arc<Piece>, NoMemory>
     Arc::new(alloc, piece).map_err(|_| NoMemory)
 }
 
-// The same pieces, the last one first.
+// The pieces in reverse order.
 fn last_first(alloc: Global, mut pieces: Vec<Arc<Piece>>) -> Result<Vec<Arc<Piece>>, NoMemory> {
     let mut turned = Vec::with_capacity(alloc, pieces.len()).map_err(|_| NoMemory)?;
     while let Some(piece) = pieces.pop() {

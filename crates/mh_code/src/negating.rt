@@ -3,8 +3,8 @@
 ghost use Rattle.std.specs.Prelude.{◌≡◌, ℕ};
 ghost use Rattle.std.specs.Arc.{arc_value};
 ghost use Rattle.std.specs.Option.{option_map};
-ghost use Rattle.mh_code.specs.Negations.{are_absent as no_filters, is_not_tree};
-ghost use Rattle.mh_code.specs.PurposeOf.{purpose_of};
+ghost use Rattle.mh_code.specs.inner.Negations.{are_absent as no_filters, is_not_tree};
+ghost use Rattle.mh_code.specs.inner.PurposeOf.{purpose_of};
 ghost use Rattle.mh_code.specs.RoutineOf.{is_local as first_is_local, negates as negates_local, purpose_before as purpose_before_code};
 ghost use Rattle.mh_tree.specs.Prepared.{operand_at, prepared, prepared_filters};
 ghost use Rattle.mh_tree.specs.Tree.{filters_of};

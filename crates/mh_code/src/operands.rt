@@ -71,7 +71,7 @@ fn append(list: &mut Vec<Operand>, operands: &[Operand]) -> Result<(), NoMemory>
     Ok(())
 }
 
-// The same operands.
+// A copy of the operands.
 pub(crate) fn copied(alloc: Global, operands: &[Operand]) -> Result<Vec<Operand>, NoMemory>
     ensures value { IfOk result (λ v. v.items ≡ operands.now) }
 {

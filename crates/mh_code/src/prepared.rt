@@ -49,7 +49,7 @@ impl Model for Prepared {
     ghost invariant = { IsPrepared };
 }
 
-/// As its handle.
+/// Writes its handle inside `Prepared(..)`.
 impl fmt::Debug for Prepared {
     fn fmt<W: fmt::Write>(&self, f: &mut fmt::Formatter<W>) -> fmt::Result {
         write!(f, "Prepared({:?})", self.handle())
@@ -58,13 +58,10 @@ impl fmt::Debug for Prepared {
 
 impl Prepared {
     /// The handle with its code, in time linear in the tree's size. Fails only with `NoMemory`.
-    pub fn new(alloc: Global, handle: &Handle) -> Result<Prepared, TreeFault>
+    pub fn new(alloc: Global, handle: &Handle) -> Result<Prepared, NoMemory>
         ensures value { IfOk result (λ p. p ≡ handle.now) }
-        ensures refused { IfErr result (λ e. e ≡ TreeFault.NoMemory) }
     {
-        let Ok(code) = call_code(alloc, handle) else {
-            return Err(TreeFault::NoMemory);
-        };
+        let code = call_code(alloc, handle)?;
         let handle = handle.share()?;
         Ok(Prepared { handle, code })
     }
@@ -85,9 +82,7 @@ impl Prepared {
         let handle = Handle::guard(alloc, &test.handle, &target.handle, &fallback.handle)?;
         let target = target.code_owner()?;
         let fallback = fallback.code_owner()?;
-        let Ok(code) = guard_code(alloc, &test.handle, target, fallback) else {
-            return Err(TreeFault::NoMemory);
-        };
+        let code = guard_code(alloc, &test.handle, target, fallback)?;
         Ok(Prepared { handle, code })
     }
 
@@ -106,16 +101,13 @@ impl Prepared {
         let handle = Handle::point(alloc, point, &target.handle, &fallback.handle)?;
         let target = target.code_owner()?;
         let fallback = fallback.code_owner()?;
-        let Ok(code) = point_code(alloc, point, target, fallback) else {
-            return Err(TreeFault::NoMemory);
-        };
+        let code = point_code(alloc, point, target, fallback)?;
         Ok(Prepared { handle, code })
     }
 
     /// Another owner of the handle and of its code. Fails only with `NoMemory`.
-    pub fn share(&self) -> Result<Prepared, TreeFault>
+    pub fn share(&self) -> Result<Prepared, NoMemory>
         ensures value { IfOk result (λ p. p ≡ self.now) }
-        ensures refused { IfErr result (λ e. e ≡ TreeFault.NoMemory) }
     {
         let code = self.code_owner()?;
         let handle = self.handle.share()?;
@@ -123,11 +115,10 @@ impl Prepared {
     }
 
     // Another owner of the code.
-    fn code_owner(&self) -> Result<Arc<Code>, TreeFault>
+    fn code_owner(&self) -> Result<Arc<Code>, NoMemory>
         ensures value { IfOk result (λ a. routine_of_code (arc_value a) ≡ handle_routine self.now) }
-        ensures refused { IfErr result (λ e. e ≡ TreeFault.NoMemory) }
     {
-        Arc::try_clone(&self.code).map_err(|_| TreeFault::NoMemory)
+        Arc::try_clone(&self.code).map_err(|_| NoMemory)
     }
 
     /// The handle.

@@ -3,7 +3,7 @@
 ghost use Rattle.std.specs.Prelude.{◌≡◌, ◌+◌, ◌≤◌, ◌∷◌, ℕ, List, [], take, length, IfOk};
 ghost use Rattle.std.specs.Arc.{arc_value};
 ghost use Rattle.mh_code.specs.PieceOf.{routine_of};
-ghost use Rattle.mh_code.specs.PurposeOf.{purpose_of};
+ghost use Rattle.mh_code.specs.inner.PurposeOf.{purpose_of};
 ghost use Rattle.mh_code.specs.RoutineOf.{routine, used};
 ghost use Rattle.mh_tree.specs.Limits.{size, total_size, most_nodes};
 ghost use Rattle.mh_tree.specs.Tree.{Filters as FiltersData, filters_of};

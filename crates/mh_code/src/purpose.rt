@@ -3,7 +3,7 @@
 ghost use Rattle.std.specs.Prelude.{◌≡◌, ◌≤◌, IfOk};
 ghost use Rattle.std.specs.Arc.{arc_value};
 ghost use Rattle.mh_code.specs.PieceOf.{routine_of, routine_of_code};
-ghost use Rattle.mh_code.specs.PurposeOf.{purpose_of};
+ghost use Rattle.mh_code.specs.inner.PurposeOf.{purpose_of};
 ghost use Rattle.mh_code.specs.Routine.{operand as operand_source, operation, invocation, give, pick};
 ghost use Rattle.mh_code.specs.RoutineOf.{used, negated_local as negated_local_routine};
 ghost use Rattle.mh_code.specs.RoutineOf.{gives_truth as op_gives_truth};

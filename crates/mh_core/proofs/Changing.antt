@@ -3,7 +3,7 @@ use Rattle.std.proofs.Common.{◌≡◌, List, [], ◌∷◌, ◌++◌, ap, refl
 use Rattle.std.specs.Prelude.{reverse}
 use Rattle.mh_site.specs.Worlds.{WorldState, opened, replay}
 use Rattle.mh_site.specs.declared.control.Control.{Control}
-use Rattle.mh_core.specs.declared.pending.Effect.TheVariants as effect
+use Rattle.mh_core.specs.declared.book.change.Effect.TheVariants as effect
 use Rattle.mh_core.specs.declared.record.Record.{Record}
 use Rattle.mh_core.specs.declared.record.Record.TheVariants.{Flushed, Targeted, Invalidated, Snapped, Published, Installed}
 use Rattle.mh_core.specs.Books.{BookState, IsBook}

@@ -22,7 +22,7 @@ use Rattle.mh_core.specs.Installations.{IsPublished, PublishedPlan, plan_at}
 use Rattle.mh_core.specs.Problems.{IsTaken, is_eligible}
 use Rattle.mh_core.specs.Records.{numbers, past, version}
 use Rattle.mh_core.specs.Snapshots.{SnapshotState}
-use Rattle.mh_core.specs.Tables.{are_valid}
+use Rattle.mh_core.specs.inner.Tables.{are_valid}
 use Rattle.mh_core.specs.Laws.PastSnapshots.{eligible_same}
 use Rattle.mh_core.specs.Laws.PlanTables.{plan_read, was_tested}
 use Rattle.mh_core.proofs.Standing.{kept_read, valid_now}

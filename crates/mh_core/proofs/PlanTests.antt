@@ -1,4 +1,4 @@
--- What is told of a plan that is refused.
+-- Why a plan is refused.
 use Rattle.std.proofs.Common.{◌≡◌, ◌⊎◌, inl, inr, ℕ, List, subst}
 use Rattle.mh_network.specs.Problems.{ProblemData}
 use Rattle.mh_cert.specs.Plans.{Matches, plan_tests}
@@ -14,7 +14,7 @@ use Rattle.mh_core.specs.Problems.{IsTaken, problem_at}
 use Rattle.mh_core.specs.Rows.{tests}
 use Rattle.mh_base.specs.Tests.{Refuses}
 
--- want of memory, or the first part of the plan that is wrong
+-- out of memory, or the first part of the plan that is wrong
 abbrev pub Refused : ProblemData → Plan → Refusal → Type 0
 Refused P plan told = (told ≡ NoMemory) ⊎ ((Matches P plan → ⊥) × ((fault : CheckFault) × (told ≡ PlanRefused fault) × Refuses (plan_tests P plan) fault))
 

@@ -66,13 +66,13 @@ abbrev pub Legal : DefinitionData → LimitsData → List Record → Type 0
 Legal d l [] = Unit {0}
 Legal d l (e ∷ r) = ((accepted : ℕ) × ((length r ≤ accepted) × Passes (tests d l accepted r e))) × Legal d l r
 
--- the totals are the sums that the records tell
+-- the totals are the sums that the records give
 pub record AreTotals (d : DefinitionData) (l : LimitsData) (r : List Record) (t : TotalsState) : Type 0 where
   pub count : length t.total ≡ length (links d)
   pub sums : (j : ℕ) → j < length (links d) → at t.total j ≡ total r j
   pub limit : t.limit ≡ l.total
 
--- the records are legal and within the limit, and the rest is what they tell
+-- the records are legal and within the limit, and the rest follows from them
 pub record IsBook (b : BookState) : Type 0 where
   pub definition : IsDefinition b.definition
   pub limits : IsLimits b.limits
@@ -87,7 +87,7 @@ pub record IsBook (b : BookState) : Type 0 where
 abbrev pub MayTake : BookState → ℕ → Record → Type 0
 MayTake b calls e = Passes (tests b.definition b.limits (length b.records + calls) b.records e)
 
--- the first failing test of a record tells this, or want of memory is told where none fails
+-- the refusal of the first failing test of a record, or out of memory where none fails
 abbrev pub MayRefuse : BookState → ℕ → Record → Refusal → Type 0
 MayRefuse b calls e told = Refuses (tests b.definition b.limits (length b.records + calls) b.records e) told
 
@@ -107,7 +107,7 @@ pub record Takes (b : BookState) (calls : ℕ) (e : Record) (new : BookState) : 
   pub definition : new.definition ≡ b.definition
   pub limits : new.limits ≡ b.limits
 
--- the first failing test is told, or want of memory where none fails, and nothing changes
+-- the first failing test is reported, or out of memory where none fails, and nothing changes
 pub record Rejects (b : BookState) (calls : ℕ) (e : Record) (told : Refusal) (new : BookState) : Type 0 where
   pub refuses : MayRefuse b calls e told
   pub same : new ≡ b

@@ -15,7 +15,7 @@ pub record IsCallable (d : DefinitionData) (s : ℕ) (a : List Value) : Type 0 w
   pub inside : s < length d.sites
   pub fits : Fits (site_at d s).method_type a
 
--- the first of the two that fails is told
+-- the first of the two that fails is reported
 abbrev pub RefusesCallee : DefinitionData → ℕ → List Value → CalleeFault → Type 0
 RefusesCallee d s a NoSite = length d.sites ≤ s
 RefusesCallee d s a WrongType = (s < length d.sites) × (Fits (site_at d s).method_type a → ⊥)

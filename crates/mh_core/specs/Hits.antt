@@ -42,7 +42,7 @@ unflushed_hits d h w = map (unflushed d h w) (numbers (length (links d)))
 abbrev pub moved : DefinitionData → List Event → ℕ → List (ℕ × ℕ)
 moved d h w = hits_in (unflushed_hits d h w)
 
--- the calls that hit a link and that a flush of the same worker follows, where `later` tells whose flush stands after these events
+-- the calls that hit a link and that a flush of the same worker follows, where `later` says whose flush comes after these events
 abbrev pub flushed_calls : DefinitionData → (ℕ → Bool) → List Event → ℕ → ℕ
 flushed_calls d later [] j = 0
 flushed_calls d later (Call w s a ∷ h) j = if later w && hits d s a j then flushed_calls d later h j + 1 else flushed_calls d later h j

@@ -6,7 +6,6 @@ pub mod Problems
 pub mod Installations
 pub mod Replayed
 pub mod PlanTables
-pub mod Tables
 pub mod Rows
 pub mod Hits
 pub mod Histories
@@ -43,3 +42,4 @@ pub use Rattle.mh_type.specs.declared.kind.Kind
 pub use Rattle.mh_type.specs.declared.outcome.Outcome
 pub use Rattle.mh_type.specs.declared.value.Value
 pub mod Laws
+pub mod inner

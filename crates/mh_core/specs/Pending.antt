@@ -3,11 +3,11 @@ use Rattle.std.specs.Prelude.{◌≡◌, ℕ, true, Option, Some, None, refl}
 use Rattle.std.specs.Coded.{Coded, code_by, coded×, coded_ℕ}
 use Rattle.mh_site.specs.declared.control.Control.{Control}
 use Rattle.mh_site.specs.declared.control.Control.TheVariants as control
-use Rattle.mh_core.specs.contracts.pending.Effect as effects
+use Rattle.mh_core.specs.contracts.book.change.Effect as effects
 use Rattle.mh_core.specs.contracts.record.Record as entries
 use Rattle.mh_core.specs.contracts.reply.Reply as replies
-use Rattle.mh_core.specs.declared.pending.Effect.{Effect}
-use Rattle.mh_core.specs.declared.pending.Effect.TheVariants as effect
+use Rattle.mh_core.specs.declared.book.change.Effect.{Effect}
+use Rattle.mh_core.specs.declared.book.change.Effect.TheVariants as effect
 use Rattle.mh_core.specs.declared.record.Record.{Record}
 use Rattle.mh_core.specs.declared.record.Record.TheVariants.{Flushed, Targeted, Invalidated, Snapped, Published, Installed}
 use Rattle.mh_core.specs.declared.reply.Reply.{Reply}

@@ -1,4 +1,4 @@
--- What is so after a list of records, newest first: by looking back for the last that tells.
+-- What holds after a list of records, newest first: found by looking back for the last record that decides it.
 use Rattle.std.specs.Prelude.{ℕ, ◌+◌, ◌==◌, Bool, not, List, [], ◌∷◌, map, filter, length, if◌then◌else◌}
 use Rattle.std.specs.List.{range_with_len}
 use Rattle.mh_tree.specs.Handle.{TypedTree}

@@ -25,7 +25,7 @@ use Rattle.mh_core.specs.Refusals.{memory_last, take_memory}
 abbrev pub TotalsFit : DefinitionData → LimitsData → List Record → List (ℕ × ℕ) → Type 0
 TotalsFit d l r hits = (j : ℕ) → j < length (links d) → total r j + hits_of hits j ≤ l.total
 
--- what is told of a plan that does not match: its first part that is wrong
+-- the refusal of a plan that does not match: it reports the first part that is wrong
 abbrev pub tells_fault : DefinitionData → List Record → ℕ → Plan → Refusal → Type 0
 tells_fault d r n plan told = (fault : CheckFault) × (told ≡ PlanRefused fault) × Refuses (plan_tests (problem_at d r n) plan) fault
 

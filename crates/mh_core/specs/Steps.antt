@@ -25,7 +25,7 @@ pub record IsAccepted (m : MachineState) (e : Event) (reply : Reply) (new : Mach
   pub answers : reply ≡ answer m.setting m.history e
   pub taken : new ≡ extended m e
 
--- the first failing test of the event tells this, or want of memory is told where none fails, and nothing changes
+-- the first failing test of the event is reported, or out of memory where none fails, and nothing changes
 pub record IsRefused (m : MachineState) (e : Event) (told : Refusal) (new : MachineState) : Type 0 where
   pub refuses : Refuses (tests m.setting m.history e) told
   pub same : new ≡ m

@@ -10,13 +10,17 @@ ghost use Rattle.mh_core.specs.Installations.{report};
 ghost use Rattle.mh_core.specs.Problems.{IsTaken, problem_at};
 ghost use Rattle.mh_core.specs.Records.{hits_in};
 
+pub(crate) mod change;
+pub(crate) mod install;
+pub(crate) mod tests;
+
 use crate::install_report::InstallReport;
 use crate::limits::Limits;
-use crate::plan::{PublishedPlan, SharedPlan};
 use crate::problem::make_problem;
 use crate::record::Record;
 use crate::refusal::Refusal;
 use crate::reply::Reply;
+use crate::shared_plan::{PublishedPlan, SharedPlan};
 use crate::snapshot::Snapshot;
 use mh_base::NoMemory;
 use mh_ledger::{Ledger, Totals};
@@ -82,7 +86,7 @@ impl Book {
         ensures held { IfOk result (λ opened. AreHeld opened.0.totals opened.1.items) }
     {
         let definition = definition.share()?;
-        // Read for what a definition keeps.
+        // Names the invariant of the definition for the proof.
         let _sites = definition.sites();
         let (totals, ledgers) = Totals::open(
             alloc,

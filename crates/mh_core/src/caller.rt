@@ -60,7 +60,7 @@ pub fn has_room(ledger: &Ledger, link: Option<usize>) -> bool
     ensures decides { IsTrue result
         ↔ IfSome link (λ j. at ledger.now.unflushed j < ledger.now.limit) }
 {
-    // Read for what a ledger keeps.
+    // Names the invariant of the ledger for the proof.
     let _limit = ledger.limit();
     match link {
         Some(link) => !ledger.is_full(link),

@@ -1,7 +1,7 @@
 //! What a machine is asked.
 
 use crate::arguments::Arguments;
-use crate::plan::SharedPlan;
+use crate::shared_plan::SharedPlan;
 use mh_site::Listing;
 use mh_tree::Declared;
 

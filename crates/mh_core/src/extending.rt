@@ -26,7 +26,7 @@ pub enum ExtensionFault {
     /// The limit of events is not above the number of workers.
     #[error("HistoryFull")]
     HistoryFull,
-    /// What is told of the longer definition, and `NoMemory` for the new history too.
+    /// The fault of the longer definition, with `NoMemory` for the new history too.
     #[error("{0}")]
     Definition(DefinitionFault),
 }
@@ -136,7 +136,7 @@ impl Book {
         requires inside { site < length self.now.definition.sites }
         ensures value { IfOk result (λ t. t ≡ base self.now.definition self.now.records site) }
     {
-        let tree = share(self.world.base(site))?;
+        let tree = self.world.base(site).share()?;
         Ok(tree)
     }
 
@@ -165,7 +165,7 @@ impl Book {
         requires longer { length (links_of self.now.definition) ≤ length (links_of definition) }
         ensures begins { IfOk result (BeginsOver self.now ledgers.now definition) }
     {
-        // Read for what totals keep.
+        // Names the invariant of the totals for the proof.
         let _links = self.totals.links();
         let invalid = self.invalid_points()?;
         let records = first_records(self.alloc, &invalid, ledgers, OldHits::Keep)?;
@@ -201,7 +201,7 @@ impl Book {
             totals,
             ledgers: all,
         } = first;
-        // Read for what a definition and totals keep.
+        // Names the invariants of the definition and of the totals for the proof.
         let _sites = definition.sites();
         let _links = self.totals.links();
         self.definition = definition;
@@ -212,13 +212,6 @@ impl Book {
         self.plans = Vec::new(self.alloc);
         *ledgers = all;
     }
-}
-
-// Another owner of a tree.
-fn share(tree: &Declared) -> Result<Declared, NoMemory>
-    ensures value { IfOk result (λ t. t ≡ tree.now) }
-{
-    tree.share().map_err(|_| NoMemory)
 }
 
 impl Runtime {

@@ -26,7 +26,7 @@ pub fn hit_link(definition: &Definition, site: usize, arguments: &[Value]) -> Op
         → i ≡ j) }
     ensures none { IfNone result ((i : ℕ) → is_hit definition.now site arguments.now i ≡ false) }
 {
-    // Read for what a definition keeps.
+    // Names the invariant of the definition for the proof.
     let _count = definition.link_count();
     let key = definition.key(site)?;
     let place = place_of(definition.links(site), argument(arguments, key))?;

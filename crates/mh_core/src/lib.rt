@@ -1,8 +1,8 @@
 //! The core: a book of accepted records with what was made of them, and a machine that answers
 //! events by the meaning of the sites' trees and by the hits of their links.
 //!
-//! What its calls name of the crates below stands here too, so that who embeds a machine depends on
-//! this crate alone:
+//! It also exports what its calls name of the crates below, so that an embedder depends on this
+//! crate alone:
 //!
 //! ```
 //! let mut machine = Machine::open(alloc, &definition, 1, limits)?;
@@ -17,7 +17,6 @@
 
 mod arguments;
 mod book;
-mod caches;
 mod caller;
 mod crossing;
 mod event;
@@ -26,12 +25,9 @@ mod flush;
 mod history;
 mod hits;
 mod install_report;
-mod installation;
 mod laws;
 mod limits;
 mod machine;
-mod pending;
-mod plan;
 mod problem;
 mod record;
 mod refusal;
@@ -39,14 +35,15 @@ mod renewing;
 mod reply;
 mod resuming;
 mod runtime;
+mod shared_plan;
 mod snapshot;
 mod state;
 mod succession;
-mod testing;
 mod used;
 
 pub use arguments::Arguments;
 pub use book::Book;
+pub use book::change::PendingChange;
 pub use caller::{CalleeFault, count, evaluate, has_room, test_callee};
 pub use crossing::runtimes_cross_threads;
 pub use event::Event;
@@ -73,13 +70,12 @@ pub use mh_tree::{
 pub use mh_type::{
     Kind, LONGEST_TEXT, MOST_PARAMETERS, MethodType, Op, Outcome, Text, Throw, TypeFault, Value,
 };
-pub use pending::PendingChange;
-pub use plan::SharedPlan;
 pub use record::Record;
 pub use refusal::Refusal;
 pub use renewing::Renewal;
 pub use reply::Reply;
 pub use resuming::ResumptionFault;
 pub use runtime::Runtime;
+pub use shared_plan::SharedPlan;
 pub use succession::Succession;
 pub use used::Used;

@@ -16,11 +16,11 @@ use crate::book::Book;
 use crate::event::Event;
 use crate::history::History;
 use crate::limits::Limits;
-use crate::plan::SharedPlan;
 use crate::record::Record;
 use crate::refusal::Refusal;
 use crate::reply::Reply;
 use crate::runtime::Runtime;
+use crate::shared_plan::SharedPlan;
 use mh_base::NoMemory;
 use mh_site::Definition;
 use mh_type::Outcome;
@@ -236,8 +236,8 @@ impl Machine {
         self.history.len() as u64 >= self.book().limits().history()
     }
 
-    /// Answers the events in order. Where there is no memory for the replies, that is told before
-    /// the first event, and nothing changes.
+    /// Answers the events in order. Where there is no memory for the replies, that is reported
+    /// before the first event, and nothing changes.
     pub fn run(&mut self, events: Vec<Event>) -> Result<Vec<Reply>, NoMemory>
         ensures run { IfOk result (λ replies. Run self.old.setting self.old.history events.items
             replies.items self.new.history) }

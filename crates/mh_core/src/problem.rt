@@ -10,7 +10,7 @@ ghost use Rattle.mh_site.specs.Links.{links as links_of, link_at};
 ghost use Rattle.mh_core.specs.Limits.{most_hits};
 ghost use Rattle.mh_network.specs.Limits.{greatest_sum};
 ghost use Rattle.mh_core.specs.Records.{numbers};
-ghost use Rattle.mh_core.specs.Tables.{are_valid, row_in};
+ghost use Rattle.mh_core.specs.inner.Tables.{are_valid, row_in};
 
 use mh_base::NoMemory;
 use mh_network::{GREATEST_SUM, LinkRow, Listing, Problem};

@@ -1,6 +1,6 @@
 //! What a book records.
 
-use crate::plan::SharedPlan;
+use crate::shared_plan::SharedPlan;
 use mh_site::Listing;
 use mh_tree::Declared;
 

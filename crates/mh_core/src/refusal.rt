@@ -27,9 +27,9 @@ pub enum Refusal {
     NoSnapshot,
     /// A plan that was not published.
     NoPlan,
-    /// A plan that does not match its problem, with what the checker tells of it.
+    /// A plan that does not match its problem, with the fault that the checker reports.
     PlanRefused(CheckFault),
-    /// A plan that is not the newest, whose number is told.
+    /// A plan that is not the newest, with the number of the newest.
     OldPlan(usize),
     /// Some total would pass its limit.
     TotalTooLarge,

@@ -17,8 +17,7 @@ use crate::book::Book;
 use crate::hits::hits_of;
 use crate::record::Record;
 use crate::refusal::Refusal;
-use crate::testing::all_below;
-use mh_base::NoMemory;
+use mh_base::{NoMemory, are_below};
 use mh_ledger::{Ledger, OldHits};
 use mh_pic::retire;
 use mh_site::{Control, Definition, Listing, World};
@@ -183,7 +182,7 @@ impl Book {
         if workers as u64 >= self.limits.history() {
             return Err(Refusal::HistoryFull);
         }
-        if !all_below(again, self.definition.points().len()) {
+        if !are_below(again, self.definition.points().len()) {
             return Err(Refusal::NoPoint);
         }
         Ok(())
@@ -227,7 +226,7 @@ impl Book {
             world,
             records,
         } = first;
-        // Read for what totals keep.
+        // Names the invariant of the totals for the proof.
         let _links = self.totals.links();
         self.totals.renew(ledgers, hits);
         self.definition = definition;

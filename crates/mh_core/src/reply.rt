@@ -1,8 +1,8 @@
 //! What a machine answers.
 
 use crate::install_report::InstallReport;
-use crate::plan::SharedPlan;
 use crate::refusal::Refusal;
+use crate::shared_plan::SharedPlan;
 use mh_type::Outcome;
 use std::fmt;
 
@@ -17,13 +17,13 @@ pub enum Reply {
     Taken { snapshot: usize },
     /// The plan was published, and has this number, from 1.
     Published { number: usize, plan: SharedPlan },
-    /// The plan was installed, as the report tells.
+    /// The plan was installed, as the report says.
     Installed(InstallReport),
     /// The first test that failed, or out of memory.
     Refused(Refusal),
 }
 
-/// The reply as a line of the program tells it, but for the numbers of points: `int 100`, `ok`,
+/// The reply as a line of the program shows it, except for the numbers of points: `int 100`, `ok`,
 /// `snapshot 1`, `plan 1 links 0 points 0 value 3 flow 4`, `installed linked 1 skipped 0`, `refused
 /// 3 NoSite`.
 impl fmt::Display for Reply {

@@ -15,8 +15,7 @@ use crate::limits::Limits;
 use crate::record::Record;
 use crate::renewing::open_without;
 use crate::runtime::Runtime;
-use crate::testing::all_below;
-use mh_base::NoMemory;
+use mh_base::{NoMemory, are_below};
 use mh_ledger::{Ledger, Totals};
 use mh_run::Stack;
 use mh_site::{Definition, Listing};
@@ -62,7 +61,7 @@ impl Runtime {
     /// invalidation of the points, which may be none, and a flush of the hits by the first worker,
     /// so that snapshots count them. No hit is unflushed, and no site holds a link.
     ///
-    /// Refused with the first test that fails, as `ResumptionFault` tells them, and then with
+    /// Refused with the first test that fails, in the order of `ResumptionFault`, and then with
     /// `NoMemory`.
     pub fn resume(
         alloc: Global,
@@ -88,7 +87,7 @@ impl Runtime {
     }
 }
 
-// The tests, of which the first that fails is told.
+// The tests of a resumption: reports the first that fails.
 fn test_resumption(
     definition: &Definition,
     workers: u32,
@@ -104,7 +103,7 @@ fn test_resumption(
     if workers == 0 {
         return Err(ResumptionFault::NoWorker);
     }
-    if !all_below(invalid, definition.points().len()) {
+    if !are_below(invalid, definition.points().len()) {
         return Err(ResumptionFault::NoPoint);
     }
     if hits.len() != definition.link_count() {
@@ -168,7 +167,7 @@ impl Book {
     {
         let records = first_records(alloc, &invalid, hits)?;
         let definition = definition.share()?;
-        // Read for what a definition keeps.
+        // Names the invariant of the definition for the proof.
         let _sites = definition.sites();
         let (ledger_limit, total_limit) = (limits.ledger(), limits.total());
         let (totals, ledgers) = Totals::resume(

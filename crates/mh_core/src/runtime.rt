@@ -23,11 +23,11 @@ use crate::book::Book;
 use crate::caller::{count, evaluate, has_room, test_callee};
 use crate::install_report::InstallReport;
 use crate::limits::Limits;
-use crate::plan::SharedPlan;
 use crate::record::Record;
 use crate::refusal::Refusal;
 use crate::renewing::Renewal;
 use crate::reply::Reply;
+use crate::shared_plan::SharedPlan;
 use mh_base::NoMemory;
 use mh_ledger::Ledger;
 use mh_run::Stack;
@@ -122,7 +122,7 @@ impl Runtime {
     /// link is counted in the worker's ledger. There is no bound on calls.
     ///
     /// Refused with `NoWorker`, `NoSite`, `WrongType`, `LedgerFull`, and then with `NoMemory`, which
-    /// is not told where no node that is entered has String in its type; nothing changes.
+    /// is not reported where no node that is entered has String in its type; nothing changes.
     #[inline(always)]
     pub fn call(
         &mut self,
@@ -146,8 +146,8 @@ impl Runtime {
         self.answer(worker, site, link, arguments)
     }
 
-    // The tests of a call that no hits decide, of which the first that fails is reported, and the
-    // link that it hits. The last is whether the history is full.
+    // The tests of a call that no hits decide: reports the first that fails, or returns the link
+    // that the call hits. The last test is whether the history is full.
     #[inline(always)]
     pub(crate) fn test_callee(
         &self,

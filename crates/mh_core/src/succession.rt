@@ -6,8 +6,7 @@ ghost use Rattle.mh_core.specs.Renewals.{AreKnown, Succeeds, again_tests};
 
 use crate::book::Book;
 use crate::refusal::Refusal;
-use crate::testing::all_below;
-use mh_base::NoMemory;
+use mh_base::{NoMemory, are_below};
 use mh_site::{Definition, Listing};
 
 /// What another book begins with, so that it goes on where one stands.
@@ -33,14 +32,14 @@ impl Book {
         ensures refused { IfErr result (λ told. Refuses
             (again_tests self.now.definition again.now) told) }
     {
-        if !all_below(again, self.definition.points().len()) {
+        if !are_below(again, self.definition.points().len()) {
             return Err(Refusal::NoPoint);
         }
         self.succession_of_known(again)
             .map_err(|_| Refusal::NoMemory)
     }
 
-    // The same where the points are there.
+    // The succession where all these points are there.
     fn succession_of_known(&self, again: &[u32]) -> Result<Succession, NoMemory>
         requires known { AreKnown self.now.definition again.now }
         ensures succeeds { IfOk result (Succeeds again.now self.now) }

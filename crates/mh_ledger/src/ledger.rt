@@ -193,7 +193,7 @@ impl Ledger {
         clear(&mut self.unflushed);
     }
 
-    // The same ledger where there are so many links more.
+    // A copy of the ledger with so many more links.
     pub(crate) fn extended(&self, alloc: Global, more: usize) -> Result<Ledger, NoMemory>
         ensures value { IfOk result (λ l. l ≡ extended_ledger more self.now) }
     {

@@ -247,7 +247,7 @@ impl Totals {
         renew_all(ledgers, hits);
     }
 
-    /// The same totals and held ledgers where there are so many links more, which have no hits.
+    /// Copies of the totals and held ledgers with so many more links, which have no hits.
     /// O(links * workers), and nothing after it takes memory.
     pub fn extended(
         &self,
@@ -266,7 +266,7 @@ impl Totals {
         Ok((totals, ledgers))
     }
 
-    // The same totals where there are so many links more.
+    // A copy of the totals with so many more links.
     fn longer(&self, alloc: Global, more: usize) -> Result<Totals, NoMemory>
         ensures value { IfOk result (λ t. t ≡ extended_totals more self.now) }
     {

@@ -13,8 +13,8 @@ use Rattle.mh_network.specs.Selection.{member}
 use Rattle.mh_network.specs.Parts.{Item, IsItem, IsJoined, part_at, part_key, no_part, holds, AreParts}
 use Rattle.mh_network.specs.Parts.Item.{link, point}
 use Rattle.mh_network.specs.Parts.IsJoined.{here, down, up}
-use Rattle.mh_network.specs.Labels.{label_of, AreLabels}
-use Rattle.mh_network.specs.Groups.{added, IsAdded, item_label, first_label, IsGrouped, IsInOrder, ArePut, Seen as IsSeen}
+use Rattle.mh_network.specs.inner.Labels.{label_of, AreLabels}
+use Rattle.mh_network.specs.inner.Groups.{added, IsAdded, item_label, first_label, IsGrouped, IsInOrder, ArePut, Seen as IsSeen}
 use Rattle.mh_network.specs.Laws.Optimal.{needs-in_range}
 use Rattle.mh_network.proofs.Labelling.{member_last, member_more, member_end, joined_trans, joined_sym}
 

@@ -11,7 +11,7 @@ use Rattle.mh_network.specs.Parts.Item.{link, point}
 use Rattle.mh_network.specs.Parts.IsJoined.{here, down, up}
 use Rattle.std.proofs.lemmas.Grind.{common_steps}
 use Rattle.mh_network.specs.Laws.Members.{all_members}
-use Rattle.mh_network.specs.Labels.{label_of, relabelled, IsRelabelled, AreLabels, AreOwnLabels, LeadsDown}
+use Rattle.mh_network.specs.inner.Labels.{label_of, relabelled, IsRelabelled, AreLabels, AreOwnLabels, LeadsDown}
 
 pub joined_trans : (P : ProblemData) (x y z : Item) → IsJoined P x y → IsJoined P y z → IsJoined P x z
 joined_trans P x y z f here = f

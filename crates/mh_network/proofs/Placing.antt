@@ -1,4 +1,4 @@
--- The links in turn, of which the first that fails a test is told.
+-- The links in turn: the first that fails a test is reported.
 use Rattle.std.proofs.Common.{◌≡◌, inl, inr, Bool, false, Decides, leb, sum, ℕ, zero, suc, ◌+◌, ◌≤◌, ◌<◌, ◌⊎◌, List, length, slice_index_or, refl, ap, sym, subst, ◌∙◌, arith, Option, Some, None, Result, Ok, Err, MatchResult}
 use Rattle.std.specs.List.{All, AllWithin, HoldsAt, range_with_len, sum_by}
 use Rattle.std.specs.List.Sorted.{IsStrictlyIncreasing}
@@ -41,7 +41,7 @@ module _ {E : Type 0} (Fact : ℕ → Type 0) (told : ℕ → E) (later : Tests 
     | inr same ↦ let e : a ≡ j = omega arith in subst (λ i. Refuses (tests a (suc n)) (told i)) e (inl (subst (λ i. Fact i → ⊥) (sym e) not, refl))
   ]
 
-  -- what is told is of one that fails, or of what comes later, where each holds
+  -- what is reported is of one that fails, or of what comes later, where each holds
   split : (a n : ℕ) (e : E) → Refuses (tests a n) e
       → ((j : ℕ) × (a ≤ j) × (j < a + n) × (Fact j → ⊥) × (e ≡ told j)) ⊎ (((j : ℕ) → a ≤ j → j < a + n → Fact j) × Refuses later e)
   split a zero e h = inr (λ j le lt. absurd (omega arith), h)
@@ -62,17 +62,17 @@ module _ (Fact : LinkRow → Type 0) (fault : ProblemFault) (rows : List LinkRow
   abbrev Here : ℕ → Type 0
   Here j = Fact (slice_index_or rows j no_link)
 
-  -- where the fact holds of each link, later tests tell
+  -- where the fact holds of each link, later tests report
   pub none_fails : (told : ProblemMisfit) → All Fact rows → Refuses later told → Refuses (tests_of_needs Fact fault rows later) told
   none_fails told all refuses = go_on Here (λ j. misfit fault (Needs j)) later 0 (length rows) told (λ j le lt. all j no_link (omega arith)) refuses
 
-  -- the first link of which it does not hold is told
+  -- the first link of which it does not hold is reported
   pub first_fails : (j : ℕ) (told : ProblemMisfit) → IsFirstNot Fact rows (Some j) → told ≡ misfit fault (Needs j) → Refuses (tests_of_needs Fact fault rows later) told
   first_fails j told first is =
       subst (Refuses (tests_of_needs Fact fault rows later)) (sym is)
       (fails Here (λ j. misfit fault (Needs j)) later 0 (length rows) j (omega arith) (omega (arith, first.0)) (λ k low high. first.2 k no_link low high) (first.1 no_link))
 
--- tests with places tell the faults that these do
+-- tests with places report the faults that these do
 record Tell (placed : Tests ProblemMisfit) (plain : Tests ProblemFault) : Type 0 where
   pub faults : (told : ProblemMisfit) → Refuses placed told → Refuses plain told.fault
 
@@ -105,7 +105,7 @@ all_tell links points needs rows costs =
     (tell_needs (λ r. IsStrictlyIncreasing r.needs) NeedsNotAscending rows
     (tell_one _ (misfit GainTooLarge Links) (tell_one _ (misfit CostTooLarge Whole) tell_nothing))))))
 
--- tests that are told with their places tell the faults of the tests
+-- tests with places report the faults of the tests without places
 pub unplaced : (links points needs : ℕ) (rows : List LinkRow) (costs : List ℕ) (told : ProblemMisfit)
     → Refuses (placed_limited links points needs rows costs) told → Refuses (limited_tests links points needs rows costs) told.fault
 unplaced links points needs rows costs told h = (all_tell links points needs rows costs).faults told h

@@ -20,7 +20,7 @@ IsFirstNot Fact rows found = MatchOption found (All Fact rows) (λ j. (j < lengt
 abbrev pub misfit : ProblemFault → ProblemPlace → ProblemMisfit
 misfit fault place = record { fault = fault; place = place }
 
--- memory was wanting, which is told of all
+-- out of memory, which is reported of all
 abbrev pub out_of_memory : ProblemMisfit
 out_of_memory = misfit NoMemory Whole
 

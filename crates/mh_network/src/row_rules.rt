@@ -78,7 +78,7 @@ pub(crate) fn test(rows: &[LinkRow], costs: &[u64], limits: &Limits) -> Result<(
     )
 }
 
-// A test, and the fault that is told where it fails, with its place.
+// A test, and the fault that is reported where it fails, with its place.
 fn demand_at(passes: bool, fault: ProblemFault, place: ProblemPlace) -> Result<(), ProblemMisfit>
     ensures value { MatchResult result (λ _. passes ≡ true)
         (λ e. (passes ≡ false) × (e ≡ misfit fault place)) }
@@ -86,7 +86,7 @@ fn demand_at(passes: bool, fault: ProblemFault, place: ProblemPlace) -> Result<(
     demand(passes, ProblemMisfit { fault, place })
 }
 
-// The fault of the first link that fails a test, where there is one: it is told of its needs.
+// The fault of the first link that fails a test, where there is one, with its needs as the place.
 fn demand_none(failing: Option<usize>, fault: ProblemFault) -> Result<(), ProblemMisfit>
     ensures value { MatchResult result (λ _. failing ≡ None)
         (λ e. (j : ℕ) × (failing ≡ Some j) × (e ≡ misfit fault (Needs j))) }

@@ -56,7 +56,7 @@ stripped needs t = resolved true needs t
 abbrev pub retired : List ℕ → Tree → Tree
 retired ps t = resolved false ps t
 
--- the same of a tree with its type
+-- a tree with its type, without these points: each is its fallback
 abbrev pub retired_tree : List ℕ → TypedTree → TypedTree
 retired_tree ps h = record { tree = retired ps h.tree; signature = h.signature }
 

@@ -8,27 +8,25 @@
 //! ```
 #![tactic(auto)]
 
-mod chaining;
+mod chains;
 mod entry;
 mod fault;
 mod key_tests;
 mod keys;
 mod laws;
-mod prepared_chaining;
 mod rebuilding;
 mod resolving;
 mod retiring;
 mod specialising;
 mod stripping;
 
-pub use chaining::chain;
+pub use chains::{chain, prepared_chain};
 pub use entry::{Entry, MOST_ENTRIES, MOST_NEEDS, may_chain};
 pub use laws::{
     chains_are_faithful, faithful_trees_keep_meaning, key_tests_ask_for_keys,
     retired_points_keep_meaning, specialised_trees_agree,
 };
 pub use mh_base::NoMemory;
-pub use prepared_chaining::prepared_chain;
 pub use retiring::retire;
 pub use specialising::specialise;
 pub use stripping::strip;

@@ -1,36 +1,35 @@
 //! Nodes over parts of which some were made anew: a part is made, or none where the old one stays.
 
-ghost use Rattle.std.specs.Prelude.{◌≡◌, ◌||◌, true, IfOk, IfErr};
+ghost use Rattle.std.specs.Prelude.{◌≡◌, ◌||◌, true, IfOk};
 ghost use Rattle.std.specs.Option.{is_some};
 ghost use Rattle.std.specs.Arc.{arc_value};
 ghost use Rattle.mh_tree.specs.Tree.{Tree, insert as insert_tree, discard as drop_tree, permute as permute_tree, filter as filter_tree, filters_of, filter_return as filter_return_tree, fold as fold_tree, guard as guard_tree, point as point_tree};
 ghost use Rattle.mh_tree.specs.TreeOf.{tree_of, filter_trees};
 ghost use Rattle.mh_pic.specs.Outcomes.{made_or};
 
-use mh_tree::{Node, TreeFault};
+use mh_base::NoMemory;
+use mh_tree::Node;
 use mh_type::{Kind, MethodType, Value, copy_values};
 use std::alloc::Global;
 use std::sync::Arc;
 
 // The part that was made, or a further owner of the old one.
-pub(crate) fn owner(made: Option<Arc<Node>>, old: &Arc<Node>) -> Result<Arc<Node>, TreeFault>
+pub(crate) fn owner(made: Option<Arc<Node>>, old: &Arc<Node>) -> Result<Arc<Node>, NoMemory>
     ensures value { IfOk result (λ a. tree_of (arc_value a) ≡ made_or made
         (tree_of (arc_value old.now))) }
-    ensures refused { IfErr result (λ e. e ≡ TreeFault.NoMemory) }
 {
     match made {
         Some(node) => Ok(node),
-        None => Arc::try_clone(old).map_err(|_| TreeFault::NoMemory),
+        None => Arc::try_clone(old).map_err(|_| NoMemory),
     }
 }
 
 // A node that was made.
-pub(crate) fn root(alloc: Global, node: Node) -> Result<Option<Arc<Node>>, TreeFault>
+pub(crate) fn root(alloc: Global, node: Node) -> Result<Option<Arc<Node>>, NoMemory>
     ensures value { IfOk result (λ o. (t : _) → made_or o t ≡ tree_of node) }
     ensures made { IfOk result (λ o. is_some o ≡ true) }
-    ensures refused { IfErr result (λ e. e ≡ TreeFault.NoMemory) }
 {
-    let node = Arc::new(alloc, node).map_err(|_| TreeFault::NoMemory)?;
+    let node = Arc::new(alloc, node).map_err(|_| NoMemory)?;
     Ok(Some(node))
 }
 
@@ -40,16 +39,15 @@ pub(crate) fn insert(
     target: Option<Arc<Node>>,
     position: usize,
     values: &[Value],
-) -> Result<Option<Arc<Node>>, TreeFault>
+) -> Result<Option<Arc<Node>>, NoMemory>
     ensures value { IfOk result (λ o. (t : Tree) → made_or o (insert_tree t position values.now)
         ≡ insert_tree (made_or target t) position values.now) }
     ensures made { IfOk result (λ o. is_some o ≡ is_some target) }
-    ensures refused { IfErr result (λ e. e ≡ TreeFault.NoMemory) }
 {
     let Some(target) = target else {
         return Ok(None);
     };
-    let values = copy_values(alloc, values).map_err(|_| TreeFault::NoMemory)?;
+    let values = copy_values(alloc, values).map_err(|_| NoMemory)?;
     root(
         alloc,
         Node::Insert {
@@ -66,16 +64,15 @@ pub(crate) fn discard(
     target: Option<Arc<Node>>,
     position: usize,
     kinds: &[Kind],
-) -> Result<Option<Arc<Node>>, TreeFault>
+) -> Result<Option<Arc<Node>>, NoMemory>
     ensures value { IfOk result (λ o. (t : Tree) → made_or o (drop_tree t position kinds.now)
         ≡ drop_tree (made_or target t) position kinds.now) }
     ensures made { IfOk result (λ o. is_some o ≡ is_some target) }
-    ensures refused { IfErr result (λ e. e ≡ TreeFault.NoMemory) }
 {
     let Some(target) = target else {
         return Ok(None);
     };
-    let kinds = kinds.to_vec(alloc).map_err(|_| TreeFault::NoMemory)?;
+    let kinds = kinds.to_vec(alloc).map_err(|_| NoMemory)?;
     root(
         alloc,
         Node::Drop {
@@ -92,17 +89,16 @@ pub(crate) fn permute(
     target: Option<Arc<Node>>,
     new_type: &MethodType,
     reorder: &[usize],
-) -> Result<Option<Arc<Node>>, TreeFault>
+) -> Result<Option<Arc<Node>>, NoMemory>
     ensures value { IfOk result (λ o. (t : Tree) → made_or o
         (permute_tree t new_type.now reorder.now) ≡ permute_tree
         (made_or target t) new_type.now reorder.now) }
     ensures made { IfOk result (λ o. is_some o ≡ is_some target) }
-    ensures refused { IfErr result (λ e. e ≡ TreeFault.NoMemory) }
 {
     let Some(target) = target else {
         return Ok(None);
     };
-    let reorder = reorder.to_vec(alloc).map_err(|_| TreeFault::NoMemory)?;
+    let reorder = reorder.to_vec(alloc).map_err(|_| NoMemory)?;
     let new_type = new_type.copy();
     root(
         alloc,
@@ -128,12 +124,11 @@ pub(crate) fn filter(
     target: &Arc<Node>,
     position: usize,
     list: FilterList,
-) -> Result<Option<Arc<Node>>, TreeFault>
+) -> Result<Option<Arc<Node>>, NoMemory>
     ensures value { IfOk result (λ o. is_some o ≡ true → (t : Tree) → made_or o t ≡ filter_tree
         (made_or made (tree_of (arc_value target.now))) position
         (filters_of (filter_trees list.filters.items))) }
     ensures made { IfOk result (λ o. is_some o ≡ (is_some made || list.changed)) }
-    ensures refused { IfErr result (λ e. e ≡ TreeFault.NoMemory) }
 {
     if made.is_none() && !list.changed {
         return Ok(None);
@@ -156,13 +151,12 @@ pub(crate) fn filter_return(
     target: &Arc<Node>,
     other: Option<Arc<Node>>,
     filter: &Arc<Node>,
-) -> Result<Option<Arc<Node>>, TreeFault>
+) -> Result<Option<Arc<Node>>, NoMemory>
     ensures value { IfOk result (λ o. made_or o (filter_return_tree (tree_of (arc_value target.now))
         (tree_of (arc_value filter.now))) ≡ filter_return_tree
         (made_or made (tree_of (arc_value target.now)))
         (made_or other (tree_of (arc_value filter.now)))) }
     ensures made { IfOk result (λ o. is_some o ≡ (is_some made || is_some other)) }
-    ensures refused { IfErr result (λ e. e ≡ TreeFault.NoMemory) }
 {
     match (made, other) {
         (None, None) => Ok(None),
@@ -181,13 +175,12 @@ pub(crate) fn fold(
     target: &Arc<Node>,
     other: Option<Arc<Node>>,
     combiner: &Arc<Node>,
-) -> Result<Option<Arc<Node>>, TreeFault>
+) -> Result<Option<Arc<Node>>, NoMemory>
     ensures value { IfOk result (λ o. made_or o (fold_tree (tree_of (arc_value target.now))
         (tree_of (arc_value combiner.now))) ≡ fold_tree
         (made_or made (tree_of (arc_value target.now)))
         (made_or other (tree_of (arc_value combiner.now)))) }
     ensures made { IfOk result (λ o. is_some o ≡ (is_some made || is_some other)) }
-    ensures refused { IfErr result (λ e. e ≡ TreeFault.NoMemory) }
 {
     match (made, other) {
         (None, None) => Ok(None),
@@ -207,13 +200,12 @@ pub(crate) fn point(
     target: &Arc<Node>,
     other: Option<Arc<Node>>,
     fallback: &Arc<Node>,
-) -> Result<Option<Arc<Node>>, TreeFault>
+) -> Result<Option<Arc<Node>>, NoMemory>
     ensures value { IfOk result (λ o. made_or o (point_tree point (tree_of (arc_value target.now))
         (tree_of (arc_value fallback.now))) ≡ point_tree point
         (made_or made (tree_of (arc_value target.now)))
         (made_or other (tree_of (arc_value fallback.now)))) }
     ensures made { IfOk result (λ o. is_some o ≡ (is_some made || is_some other)) }
-    ensures refused { IfErr result (λ e. e ≡ TreeFault.NoMemory) }
 {
     match (made, other) {
         (None, None) => Ok(None),
@@ -241,14 +233,13 @@ pub(crate) fn guard(
     target: &Arc<Node>,
     other: Option<Arc<Node>>,
     fallback: &Arc<Node>,
-) -> Result<Option<Arc<Node>>, TreeFault>
+) -> Result<Option<Arc<Node>>, NoMemory>
     ensures value { IfOk result (λ o. made_or o (guard_tree (tree_of (arc_value test.now))
         (tree_of (arc_value target.now)) (tree_of (arc_value fallback.now))) ≡ guard_tree
         (made_or asked (tree_of (arc_value test.now)))
         (made_or made (tree_of (arc_value target.now)))
         (made_or other (tree_of (arc_value fallback.now)))) }
     ensures made { IfOk result (λ o. is_some o ≡ (is_some asked || (is_some made || is_some other))) }
-    ensures refused { IfErr result (λ e. e ≡ TreeFault.NoMemory) }
 {
     match (asked, made, other) {
         (None, None, None) => Ok(None),

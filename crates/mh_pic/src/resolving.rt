@@ -1,6 +1,6 @@
 //! Trees in which some points are decided, as valid or as invalid.
 
-ghost use Rattle.std.specs.Prelude.{◌≡◌, IfOk, IfErr};
+ghost use Rattle.std.specs.Prelude.{◌≡◌, IfOk};
 ghost use Rattle.std.specs.Option.{is_some};
 ghost use Rattle.std.specs.Arc.{arc_value};
 ghost use Rattle.mh_tree.specs.TreeOf.{tree_of, filter_trees};
@@ -11,7 +11,8 @@ ghost use Rattle.mh_pic.specs.Outcomes.{made_or};
 use crate::rebuilding::{
     FilterList, discard, filter, filter_return, fold, guard, insert, owner, permute, point,
 };
-use mh_tree::{Node, TreeFault};
+use mh_base::NoMemory;
+use mh_tree::Node;
 use std::alloc::Global;
 use std::sync::Arc;
 
@@ -26,11 +27,10 @@ pub(crate) fn resolve(
     node: &Node,
     points: &[u32],
     valid: bool,
-) -> Result<Option<Arc<Node>>, TreeFault>
+) -> Result<Option<Arc<Node>>, NoMemory>
     ensures value { IfOk result (λ o. made_or o (tree_of node.now) ≡ resolved valid points.now
         (tree_of node.now)) }
     ensures made { IfOk result (λ o. is_some o ≡ names points.now (tree_of node.now)) }
-    ensures refused { IfErr result (λ e. e ≡ TreeFault.NoMemory) }
 {
     if points.is_empty() {
         return Ok(None);
@@ -100,14 +100,13 @@ fn resolve_filter(
     filters: &[Option<Arc<Node>>],
     points: &[u32],
     valid: bool,
-) -> Result<Option<Arc<Node>>, TreeFault>
+) -> Result<Option<Arc<Node>>, NoMemory>
     ensures value { let t = filter_tree (tree_of (arc_value target.now)) position
         (filters_of (filter_trees filters.now)) in
         IfOk result (λ o. made_or o t ≡ resolved valid points.now t) }
     ensures made { let t = filter_tree (tree_of (arc_value target.now)) position
         (filters_of (filter_trees filters.now)) in
         IfOk result (λ o. is_some o ≡ names points.now t) }
-    ensures refused { IfErr result (λ e. e ≡ TreeFault.NoMemory) }
 {
     let made = resolve(alloc, target, points, valid)?;
     let list = resolve_filters(alloc, filters, points, valid)?;
@@ -122,14 +121,13 @@ fn resolve_filter_return(
     filter: &Arc<Node>,
     points: &[u32],
     valid: bool,
-) -> Result<Option<Arc<Node>>, TreeFault>
+) -> Result<Option<Arc<Node>>, NoMemory>
     ensures value { let t = filter_return_tree
         (tree_of (arc_value target.now)) (tree_of (arc_value filter.now)) in
         IfOk result (λ o. made_or o t ≡ resolved valid points.now t) }
     ensures made { let t = filter_return_tree
         (tree_of (arc_value target.now)) (tree_of (arc_value filter.now)) in
         IfOk result (λ o. is_some o ≡ names points.now t) }
-    ensures refused { IfErr result (λ e. e ≡ TreeFault.NoMemory) }
 {
     let made = resolve(alloc, target, points, valid)?;
     let last = resolve(alloc, filter, points, valid)?;
@@ -144,14 +142,13 @@ fn resolve_fold(
     combiner: &Arc<Node>,
     points: &[u32],
     valid: bool,
-) -> Result<Option<Arc<Node>>, TreeFault>
+) -> Result<Option<Arc<Node>>, NoMemory>
     ensures value { let t = fold_tree
         (tree_of (arc_value target.now)) (tree_of (arc_value combiner.now)) in
         IfOk result (λ o. made_or o t ≡ resolved valid points.now t) }
     ensures made { let t = fold_tree
         (tree_of (arc_value target.now)) (tree_of (arc_value combiner.now)) in
         IfOk result (λ o. is_some o ≡ names points.now t) }
-    ensures refused { IfErr result (λ e. e ≡ TreeFault.NoMemory) }
 {
     let made = resolve(alloc, target, points, valid)?;
     let first = resolve(alloc, combiner, points, valid)?;
@@ -167,14 +164,13 @@ fn resolve_guard(
     fallback: &Arc<Node>,
     points: &[u32],
     valid: bool,
-) -> Result<Option<Arc<Node>>, TreeFault>
+) -> Result<Option<Arc<Node>>, NoMemory>
     ensures value { let t = guard_tree (tree_of (arc_value test.now))
         (tree_of (arc_value target.now)) (tree_of (arc_value fallback.now)) in
         IfOk result (λ o. made_or o t ≡ resolved valid points.now t) }
     ensures made { let t = guard_tree (tree_of (arc_value test.now))
         (tree_of (arc_value target.now)) (tree_of (arc_value fallback.now)) in
         IfOk result (λ o. is_some o ≡ names points.now t) }
-    ensures refused { IfErr result (λ e. e ≡ TreeFault.NoMemory) }
 {
     let asked = resolve(alloc, test, points, valid)?;
     let made = resolve(alloc, target, points, valid)?;
@@ -192,14 +188,13 @@ fn resolve_point(
     fallback: &Arc<Node>,
     points: &[u32],
     valid: bool,
-) -> Result<Option<Arc<Node>>, TreeFault>
+) -> Result<Option<Arc<Node>>, NoMemory>
     ensures value { let t = point_tree place
         (tree_of (arc_value target.now)) (tree_of (arc_value fallback.now)) in
         IfOk result (λ o. made_or o t ≡ resolved valid points.now t) }
     ensures made { let t = point_tree place
         (tree_of (arc_value target.now)) (tree_of (arc_value fallback.now)) in
         IfOk result (λ o. is_some o ≡ names points.now t) }
-    ensures refused { IfErr result (λ e. e ≡ TreeFault.NoMemory) }
 {
     if !points.contains(&place) {
         let made = resolve(alloc, target, points, valid)?;
@@ -221,12 +216,11 @@ fn resolve_filters(
     filters: &[Option<Arc<Node>>],
     points: &[u32],
     valid: bool,
-) -> Result<FilterList, TreeFault>
+) -> Result<FilterList, NoMemory>
     ensures value { IfOk result (λ v. filters_of (filter_trees v.filters.items)
         ≡ resolved_filters valid points.now (filters_of (filter_trees filters.now))) }
     ensures made { IfOk result (λ v. v.changed ≡ any_names points.now
         (filters_of (filter_trees filters.now))) }
-    ensures refused { IfErr result (λ e. e ≡ TreeFault.NoMemory) }
 {
     let mut resolved = Vec::new(alloc);
     let mut changed = false;
@@ -239,7 +233,7 @@ fn resolve_filters(
                 Some(owner(made, filter)?)
             }
         };
-        resolved.push(filter).map_err(|_| TreeFault::NoMemory)?;
+        resolved.push(filter).map_err(|_| NoMemory)?;
     }
     Ok(FilterList {
         filters: resolved,

@@ -24,7 +24,7 @@ pub fn retire(alloc: Global, tree: &Declared, points: &[u32]) -> Result<Declared
 {
     match retire_changed(alloc, tree.handle(), points)? {
         Some(made) => declare(&made),
-        None => tree.share().map_err(|_| NoMemory),
+        None => tree.share(),
     }
 }
 
@@ -39,7 +39,7 @@ fn retire_changed(
     ensures sound { IsSound handle.now.tree handle.now.signature }
 {
     let made = resolve(alloc, handle.root(), points, false);
-    match made.map_err(|_| NoMemory)? {
+    match made? {
         Some(root) => Ok(Some(rebuild(alloc, handle, root)?)),
         None => Ok(None),
     }

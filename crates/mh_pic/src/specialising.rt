@@ -1,6 +1,6 @@
 //! Trees specialised for needs and a key.
 
-ghost use Rattle.std.specs.Prelude.{◌≡◌, ◌<◌, List, length, nat_lt, take, unwrap_or, IfOk, IfErr};
+ghost use Rattle.std.specs.Prelude.{◌≡◌, ◌<◌, List, length, nat_lt, take, unwrap_or, IfOk};
 ghost use Rattle.std.specs.List.{list_any};
 ghost use Rattle.std.specs.Arc.{arc_value};
 ghost use Rattle.mh_tree.specs.Handle.{IsSound};
@@ -15,7 +15,7 @@ use crate::keys::{decide_by_key, key_in};
 use crate::rebuilding::{guard, owner, point};
 use crate::stripping::strip;
 use mh_base::NoMemory;
-use mh_tree::{Handle, Node, TreeFault};
+use mh_tree::{Handle, Node};
 use mh_type::{Kind, Value};
 use std::alloc::Global;
 use std::sync::Arc;
@@ -45,11 +45,11 @@ pub fn specialise(
 {
     match specialise_changed(alloc, handle, needs, key_place, key)? {
         Some(made) => Ok(made),
-        None => handle.share().map_err(|_| NoMemory),
+        None => handle.share(),
     }
 }
 
-// The same; none where it is the handle itself.
+// The handle that `specialise` gives; none where it is the handle itself.
 pub(crate) fn specialise_changed(
     alloc: Global,
     handle: &Handle,
@@ -70,7 +70,7 @@ pub(crate) fn specialise_changed(
     let before = &handle.method_type().parameters()[..key_place];
     let named = named(handle, needs);
     let made = specialise_node(alloc, handle.root(), named, before, key);
-    match made.map_err(|_| NoMemory)? {
+    match made? {
         Some(root) => Ok(Some(rebuild(alloc, handle, root)?)),
         None => Ok(None),
     }
@@ -104,7 +104,7 @@ pub(crate) fn rebuild(alloc: Global, old: &Handle, root: Arc<Node>) -> Result<Ha
           = old.now.signature;
     }) }
 {
-    Handle::from_root(alloc, root, old.method_type()).map_err(|_| NoMemory)
+    Handle::from_root(alloc, root, old.method_type())
 }
 
 // The tree for needs that are valid and a key that the argument behind these kinds is; none where
@@ -116,10 +116,9 @@ fn specialise_node(
     needs: &[u32],
     before: &[Kind],
     key: &Value,
-) -> Result<Option<Arc<Node>>, TreeFault>
+) -> Result<Option<Arc<Node>>, NoMemory>
     ensures value { IfOk result (λ o. made_or o (tree_of node.now)
         ≡ specialised needs.now before.now key.now (tree_of node.now)) }
-    ensures refused { IfErr result (λ e. e ≡ TreeFault.NoMemory) }
 {
     match node {
         Node::Guard {
@@ -162,13 +161,12 @@ fn specialise_guard(
     needs: &[u32],
     before: &[Kind],
     key: &Value,
-) -> Result<Option<Arc<Node>>, TreeFault>
+) -> Result<Option<Arc<Node>>, NoMemory>
     ensures value { IfOk result (λ o. made_or o (guard_tree (tree_of (arc_value test.now))
         (tree_of (arc_value target.now)) (tree_of (arc_value fallback.now)))
         ≡ specialised needs.now before.now key.now
         (guard_tree (tree_of (arc_value test.now)) (tree_of (arc_value target.now))
         (tree_of (arc_value fallback.now)))) }
-    ensures refused { IfErr result (λ e. e ≡ TreeFault.NoMemory) }
 {
     match decide_by_key(key, key_in(test, before)) {
         Some(true) => {

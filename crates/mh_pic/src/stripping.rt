@@ -1,13 +1,14 @@
 //! Trees without needed points.
 
-ghost use Rattle.std.specs.Prelude.{◌≡◌, IfOk, IfErr};
+ghost use Rattle.std.specs.Prelude.{◌≡◌, IfOk};
 ghost use Rattle.std.specs.Option.{is_some};
 ghost use Rattle.mh_tree.specs.TreeOf.{tree_of};
 ghost use Rattle.mh_pic.specs.Specialised.{names, stripped};
 ghost use Rattle.mh_pic.specs.Outcomes.{made_or};
 
 use crate::resolving::resolve;
-use mh_tree::{Node, TreeFault};
+use mh_base::NoMemory;
+use mh_tree::Node;
 use std::alloc::Global;
 use std::sync::Arc;
 
@@ -16,11 +17,10 @@ use std::sync::Arc;
 /// It takes time linear in the size, times the number of needs at each point, and no time without
 /// needs.
 /// Refused with `NoMemory` alone.
-pub fn strip(alloc: Global, node: &Node, needs: &[u32]) -> Result<Option<Arc<Node>>, TreeFault>
+pub fn strip(alloc: Global, node: &Node, needs: &[u32]) -> Result<Option<Arc<Node>>, NoMemory>
     ensures value { IfOk result (λ o. made_or o (tree_of node.now) ≡ stripped needs.now
         (tree_of node.now)) }
     ensures made { IfOk result (λ o. is_some o ≡ names needs.now (tree_of node.now)) }
-    ensures refused { IfErr result (λ e. e ≡ TreeFault.NoMemory) }
 {
     resolve(alloc, node, needs, true)
 }

@@ -6,12 +6,12 @@ use Rattle.mh_code.specs.Laws.Costs.{weighs}
 use Rattle.mh_code.specs.Laws.Scoped.{routine_in}
 use Rattle.mh_code.specs.RoutineOf.{handle_routine}
 use Rattle.mh_code.specs.Routine.{Routine, answer}
-use Rattle.mh_code.specs.Runs.{weight}
+use Rattle.mh_code.specs.inner.Runs.{weight}
 use Rattle.mh_eval.specs.Entered.{ArePlain, EntersPlain}
 use Rattle.mh_eval.proofs.QuietCalls.{call_quiet, call_shallow, call_small}
 use Rattle.mh_eval.proofs.QuietTrees.{of_kinds, plain_parameters}
 use Rattle.mh_run.specs.Laws.Quiet.{few_slots, quiet}
-use Rattle.mh_run.specs.Runs.{GoesOn, MayRun, Told}
+use Rattle.mh_run.specs.inner.Runs.{GoesOn, MayRun, Told}
 use Rattle.mh_run.proofs.Pieces.{if_ok}
 use Rattle.mh_run.proofs.Sites.{alone_costs, alone_means, no_purpose}
 use Rattle.mh_tree.specs.Handle.{TypedTree, IsSound}
@@ -20,7 +20,7 @@ use Rattle.mh_tree.specs.Limits.{most_nodes, point_bound}
 use Rattle.mh_tree.specs.Meaning.{mean, steps}
 use Rattle.mh_tree.specs.Prepared.{handle_code}
 use Rattle.mh_tree.specs.Running.{run_code}
-use Rattle.mh_tree.specs.Scoped.{IsScoped}
+use Rattle.mh_tree.specs.inner.Scoped.{IsScoped}
 use Rattle.mh_tree.specs.Sites.{Setting, env, sites, most_at, greatest_steps, EachInvoke, MayCall, MayReach, HavePoints, IsLawful}
 use Rattle.mh_type.specs.Fits.{Fits}
 use Rattle.mh_type.specs.declared.outcome.Outcome.{Outcome}
@@ -49,7 +49,7 @@ module _ (valid : List Bool) (ts : List TypedTree) (h : TypedTree) (a : List Val
   pub handle_own : weight 0 (handle_routine h) ≤ most_nodes
   handle_own = omega (arith, weighs 0 (handle_code h) 0 0 answer, call_weighs (env v) h a (handle_code h) refl sound count 0, steps_at 0 h.tree sound.small)
 
-  -- what is told of the piece that is reached is told of the handle
+  -- what holds of the piece that is reached holds of the handle
   module _ {E : Type 0} (x : Result (Outcome × ℕ) E) (r : Routine) (is : r ≡ handle_routine h) (w : Setting) (b : List Value) (q : Routine) (n : ℕ) (goes : GoesOn v a r 0 w b q n) (told : Told x w b q n) where
     on : GoesOn v a (handle_routine h) 0 w b q n
     on = subst (λ r. GoesOn v a r 0 w b q n) is goes

@@ -2,8 +2,8 @@
 use Rattle.std.proofs.Common.{◌≡◌, Bool, ℕ, ◌+◌, ◌-◌, ◌*◌, ◌<◌, ◌≤◌, ◌∙◌, arith, List, [], length, take, length-take}
 use Rattle.mh_code.specs.Routine.{Routine, give, invocation}
 use Rattle.mh_code.specs.RoutineOf.{handle_routine}
-use Rattle.mh_code.specs.Runs.{weight}
-use Rattle.mh_run.specs.Runs.{Goes, GoesOn, most_own}
+use Rattle.mh_code.specs.inner.Runs.{weight}
+use Rattle.mh_run.specs.inner.Runs.{Goes, GoesOn, most_own}
 use Rattle.mh_run.proofs.Sites.{leading_are, leading_count, leading_many, site_deep, site_goes_on, site_own, site_there}
 use Rattle.mh_tree.specs.Handle.{TypedTree, IsSound}
 use Rattle.mh_tree.specs.Limits.{most_nodes}

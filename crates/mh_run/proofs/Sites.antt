@@ -6,8 +6,8 @@ use Rattle.mh_code.specs.Laws.Means.{means}
 use Rattle.mh_code.specs.Laws.Scoped.{routine_in}
 use Rattle.mh_code.specs.Routine.{invocation, answer, give}
 use Rattle.mh_code.specs.RoutineOf.{handle_routine, routine}
-use Rattle.mh_code.specs.Runs.{run_routine, routine_steps, weight}
-use Rattle.mh_code.specs.Scope.{IsSourceIn}
+use Rattle.mh_code.specs.inner.Runs.{run_routine, routine_steps, weight}
+use Rattle.mh_code.specs.inner.Scope.{IsSourceIn}
 use Rattle.mh_eval.specs.Answers.{Ran}
 use Rattle.mh_eval.specs.Entered.{WithValue, plain_below}
 use Rattle.mh_eval.specs.Quiet.{NoTexts}
@@ -15,8 +15,8 @@ use Rattle.mh_eval.specs.declared.answer.Answer.{Answer}
 use Rattle.mh_eval.proofs.Invocations.{reached}
 use Rattle.mh_eval.proofs.SiteRuns.{called_scoped, called_weight, called_outcome, called_steps, called_quiet, called_shallow}
 use Rattle.mh_run.specs.Laws.Quiet.{quiet, few_slots}
-use Rattle.mh_run.specs.Quiet.{IsSourceQuiet, IsRoutineQuiet}
-use Rattle.mh_run.specs.Runs.{Answers, Ends, GoesOn, MayGo, MayRun, most_own}
+use Rattle.mh_run.specs.inner.Quiet.{IsSourceQuiet, IsRoutineQuiet}
+use Rattle.mh_run.specs.inner.Runs.{Answers, Ends, GoesOn, MayGo, MayRun, most_own}
 use Rattle.mh_tree.specs.Code.{Code}
 use Rattle.mh_tree.specs.Handle.{TypedTree, IsSound}
 use Rattle.mh_tree.specs.Laws.{call_weighs, few_parameters, leading_few, reads_first, steps_at}
@@ -24,7 +24,7 @@ use Rattle.mh_tree.specs.Limits.{most_nodes}
 use Rattle.mh_tree.specs.Meaning.{◌>>=◌, after}
 use Rattle.mh_tree.specs.Prepared.{handle_code, leading_arguments}
 use Rattle.mh_tree.specs.Running.{run_code, code_steps, value_of}
-use Rattle.mh_tree.specs.Scoped.{IsScoped}
+use Rattle.mh_tree.specs.inner.Scoped.{IsScoped}
 use Rattle.mh_tree.specs.Sites.{Setting, setting, env, most_at, greatest_steps, MayCall, target_at, calls_below, steps_below}
 use Rattle.mh_tree.specs.declared.operand.Operand.{Operand}
 use Rattle.mh_tree.specs.declared.operand.Operand.TheVariants.{Argument}

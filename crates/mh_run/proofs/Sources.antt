@@ -3,18 +3,18 @@ use Rattle.std.proofs.Common.{◌≡◌, Bool, true, false, ℕ, ◌+◌, ◌≤
 use Rattle.std.specs.Prelude.{max, Result, IfOk, IsOk}
 use Rattle.mh_code.specs.Routine.{Source, Routine, give, keep, pick, switch}
 use Rattle.mh_code.specs.RoutineOf.{after_steps}
-use Rattle.mh_code.specs.Runs.{source_outcome, source_steps, source_weight, put, run_routine, routine_steps, weight}
-use Rattle.mh_code.specs.Scope.{IsRoutineIn}
+use Rattle.mh_code.specs.inner.Runs.{source_outcome, source_steps, source_weight, put, run_routine, routine_steps, weight}
+use Rattle.mh_code.specs.inner.Scope.{IsRoutineIn}
 use Rattle.mh_eval.specs.Answers.{Gives, Ran}
 use Rattle.mh_eval.specs.Entered.{WithValue, Chosen, OneOf}
-use Rattle.mh_run.specs.Limits.{lower_room}
+use Rattle.mh_run.specs.inner.Limits.{lower_room}
 use Rattle.mh_eval.specs.Quiet.{IsAnswered}
 use Rattle.mh_eval.proofs.AnswersGiven.{gives_ran}
 use Rattle.mh_eval.specs.declared.answer.Answer.{Answer}
 use Rattle.mh_eval.specs.declared.answer.Answer.TheVariants.{Int, Long, Boolean, Text, Thrown, NoMemory}
-use Rattle.mh_run.specs.Picks.{is_truth, picked, IsPut}
-use Rattle.mh_run.specs.Quiet.{IsSourceQuiet, IsTestQuiet, IsRoutineQuiet, slots}
-use Rattle.mh_run.specs.Runs.{Answers, Ends, Goes, Leaves, MayGo, MayRun, Stops, Told}
+use Rattle.mh_run.specs.inner.Picks.{is_truth, picked, IsPut}
+use Rattle.mh_run.specs.inner.Quiet.{IsSourceQuiet, IsTestQuiet, IsRoutineQuiet, slots}
+use Rattle.mh_run.specs.inner.Runs.{Answers, Ends, Goes, Leaves, MayGo, MayRun, Stops, Told}
 use Rattle.mh_tree.specs.Meaning.{◌>>=◌, after, choose, choose_steps, is_valid}
 use Rattle.mh_tree.specs.Sites.{Setting, env, MayCall, most_at}
 use Rattle.mh_type.specs.declared.outcome.Outcome.{Outcome}

@@ -13,11 +13,11 @@ use Rattle.mh_code.specs.PieceOf.{chain, key_source, routine_of, routines}
 use Rattle.mh_code.specs.Routine.{Routine, pick}
 use Rattle.mh_code.specs.Laws.Switches.{height_of_switch, routine_of_switch}
 use Rattle.mh_code.specs.Rows.{is_key, row_of, steps_to, all_steps}
-use Rattle.mh_code.specs.Runs.{weight}
+use Rattle.mh_code.specs.inner.Runs.{weight}
 use Rattle.mh_code.specs.declared.code.Piece.{Piece}
 use Rattle.mh_code.specs.declared.code.Piece.TheViews.{Switch}
 use Rattle.mh_code.specs.declared.index.Row.{Row}
-use Rattle.mh_run.specs.Runs.{Goes, Leaves, MayGo, MayRun, most_own}
+use Rattle.mh_run.specs.inner.Runs.{Goes, Leaves, MayGo, MayRun, most_own}
 use Rattle.mh_run.proofs.Sources.{leaves_all, leaves_more, picks_at}
 use Rattle.mh_tree.specs.Meaning.{argument}
 use Rattle.mh_tree.specs.Sites.{Setting, most_at, greatest_steps}

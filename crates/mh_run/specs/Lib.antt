@@ -1,6 +1,2 @@
 pub mod Laws
-pub mod Levels
-pub mod Limits
-pub mod Picks
-pub mod Quiet
-pub mod Runs
+pub mod inner

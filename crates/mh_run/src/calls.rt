@@ -2,7 +2,7 @@
 
 ghost use Rattle.std.specs.Prelude.{◌≡◌, ◌-◌, ◌≤◌, ℕ, List, [], length, Ok, IfOk, IfSome, IsOk};
 ghost use Rattle.mh_code.specs.PieceOf.{routine_of};
-ghost use Rattle.mh_run.specs.Runs.{Ends, MayGo, Told};
+ghost use Rattle.mh_run.specs.inner.Runs.{Ends, MayGo, Told};
 ghost use Rattle.mh_eval.specs.Entered.{EntersPlain};
 ghost use Rattle.mh_tree.specs.Limits.{point_bound};
 ghost use Rattle.mh_tree.specs.Meaning.{mean, steps};

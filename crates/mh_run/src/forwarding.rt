@@ -2,8 +2,8 @@
 
 ghost use Rattle.std.specs.Prelude.{◌≡◌, ◌-◌, ◌≤◌, []};
 ghost use Rattle.mh_code.specs.PieceOf.{routine_of};
-ghost use Rattle.mh_code.specs.Runs.{weight};
-ghost use Rattle.mh_run.specs.Runs.{Goes, GoesOn, MayGo, MayRun};
+ghost use Rattle.mh_code.specs.inner.Runs.{weight};
+ghost use Rattle.mh_run.specs.inner.Runs.{Goes, GoesOn, MayGo, MayRun};
 ghost use Rattle.mh_tree.specs.Limits.{most_nodes};
 ghost use Rattle.mh_tree.specs.Sites.{setting};
 
@@ -41,7 +41,8 @@ fn lead<'a>(here: &Here<'_>, reached: Reached<'a>) -> Reached<'a>
     left
 }
 
-// The same behind sites that are invoked on leading arguments, which have one tree after another.
+// The piece behind such choices and behind sites that are invoked on leading arguments, which have
+// one tree after another.
 #[inline(always)]
 pub(crate) fn reach<'a>(here: &Here<'a>, piece: &'a Piece, arguments: &'a [Value]) -> Reached<'a>
     requires may { MayRun (setting 4 here.now.valid.now here.now.targets.now) arguments.now []

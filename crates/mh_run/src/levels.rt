@@ -2,8 +2,8 @@
 
 ghost use Rattle.std.specs.Prelude.{◌≡◌, ◌+◌, ◌-◌, ◌≤◌, ℕ, []};
 ghost use Rattle.mh_code.specs.PieceOf.{routine_of};
-ghost use Rattle.mh_run.specs.Levels.{IsReady};
-ghost use Rattle.mh_run.specs.Runs.{Ends, MayGo};
+ghost use Rattle.mh_run.specs.inner.Levels.{IsReady};
+ghost use Rattle.mh_run.specs.inner.Runs.{Ends, MayGo};
 ghost use Rattle.mh_tree.specs.Sites.{setting};
 
 use crate::here::Here;
@@ -55,7 +55,7 @@ pub(crate) trait Lower: Drop {
 impl Lower for Bottom {
     ghost deep = { 0 };
 
-    ghost use Rattle.mh_run.specs.Levels.{Bottomless};
+    ghost use Rattle.mh_run.specs.inner.Levels.{Bottomless};
 
     ghost is_ready = { Bottomless };
 

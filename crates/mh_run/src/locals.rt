@@ -1,13 +1,13 @@
 //! The locals of a run, and the values of operands.
 
 ghost use Rattle.std.specs.Prelude.{◌≡◌, ◌<◌, ◌≤◌, [], length, map, take, vec_capacity, IfErr, OnOk, IsOk};
-ghost use Rattle.mh_code.specs.Runs.{put as put_in_place};
+ghost use Rattle.mh_code.specs.inner.Runs.{put as put_in_place};
 ghost use Rattle.mh_eval.specs.Answers.{Gives};
 ghost use Rattle.mh_eval.specs.Frames.{Extends};
 ghost use Rattle.mh_eval.specs.Quiet.{IsAnswered};
-ghost use Rattle.mh_run.specs.Runs.{Stops};
+ghost use Rattle.mh_run.specs.inner.Runs.{Stops};
 ghost use Rattle.mh_tree.specs.Running.{value_of};
-ghost use Rattle.mh_tree.specs.Scoped.{AllIn, IsIn};
+ghost use Rattle.mh_tree.specs.inner.Scoped.{AllIn, IsIn};
 ghost use Rattle.mh_type.specs.declared.outcome.Outcome.{Outcome as OutcomeData};
 ghost use Rattle.mh_type.specs.declared.value.Value.{Value as ValueData};
 
@@ -61,7 +61,7 @@ fn cut(locals: &mut Vec<Value>, count: usize)
     }
 }
 
-// The same by a call.
+// Does what `cut` does, out of line.
 #[inline(never)]
 fn cut_by_call(locals: &mut Vec<Value>, count: usize)
     ensures rest { locals.new.items ≡ take count locals.old.items }

@@ -1,10 +1,10 @@
 //! Results that are numbers or truths, and take no memory.
 
 ghost use Rattle.std.specs.Prelude.{◌≡◌, ◌<◌, ◌≤◌, ◌∷◌, [], length, vec_capacity, IfSome, IsTrue, IsFalse};
-ghost use Rattle.mh_code.specs.Runs.{put as put_in_place};
-ghost use Rattle.mh_run.specs.Picks.{IsPut};
+ghost use Rattle.mh_code.specs.inner.Runs.{put as put_in_place};
+ghost use Rattle.mh_run.specs.inner.Picks.{IsPut};
 ghost use Rattle.mh_tree.specs.Running.{value_of};
-ghost use Rattle.mh_tree.specs.Scoped.{IsIn};
+ghost use Rattle.mh_tree.specs.inner.Scoped.{IsIn};
 ghost use Rattle.mh_type.specs.Operations.{operate as operated};
 ghost use Rattle.mh_type.specs.declared.outcome.Outcome.{Outcome};
 ghost use Rattle.mh_type.specs.declared.value.Value.{Value as ValueData};
@@ -29,7 +29,7 @@ macro_rules! two {
     };
 }
 
-// The same of the first operand alone.
+// What is done with a result of a first operand of a kind, and what with others.
 macro_rules! one {
     (
         $kind:ident, $pair:expr,

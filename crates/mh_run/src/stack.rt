@@ -1,7 +1,7 @@
 //! The memory of runs.
 
 ghost use Rattle.std.specs.Prelude.{◌≡◌, IfOk, []};
-ghost use Rattle.mh_run.specs.Levels.{IsReady};
+ghost use Rattle.mh_run.specs.inner.Levels.{IsReady};
 
 use crate::levels::{Bottom, Level, Lower};
 use mh_base::NoMemory;
@@ -30,7 +30,7 @@ pub struct Stack {
 impl Model for Stack {
     ghost use Rattle.std.specs.Prelude.{List};
     ghost use Rattle.mh_type.specs.declared.value.Value.{Value as Held};
-    ghost use Rattle.mh_run.specs.Levels.{AreReady};
+    ghost use Rattle.mh_run.specs.inner.Levels.{AreReady};
 
     ghost Value = { List Held };
 

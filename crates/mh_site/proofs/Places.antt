@@ -1,4 +1,4 @@
--- The tests of a definition with their places tell the faults of its tests, and decide its rules.
+-- The tests of a definition with their places report the faults of its tests, and decide its rules.
 use Rattle.std.proofs.Common.{◌≡◌, ◌≢◌, ◌≤◌, ◌<◌, ℕ, Bool, true, false, ◌&&◌, cond, List, [], ◌∷◌, ◌++◌, length, map, take, slice_index_or, refl, ap, sym, subst, ◌∙◌, Option, Some, None, Result, Ok, Err, MatchResult, Decides, leb}
 use Rattle.std.specs.List.{All, AllPairs, flat_map, list_all, range_with_len}
 use Rattle.std.specs.Option.{is_none, option_map, option_or, unwrap_or}
@@ -179,7 +179,7 @@ module _ (version : Version) (ps : List Point) (ss : List Site) where
   same_none : placed_fault version ps ss ≡ None → definition_fault version ps ss ≡ None
   same_none none = sym (definition_same version ps ss).first ∙ ap (option_map fault_of) none
 
-  -- no test fails: no fault is told, and all rules hold
+  -- no test fails: no fault is reported, and all rules hold
   pub placed_none : placed_fault version ps ss ≡ None → definition_fault version ps ss ≡ None
   placed_none none = same_none none
 
@@ -197,7 +197,7 @@ module _ (version : Version) (ps : List Point) (ss : List Site) where
   pub place_fails : (m : DefinitionMisfit) → placed_fault version ps ss ≡ Some m → Refuses (placed_rules version ps ss) m
   place_fails m h = agrees.tell m h
 
-  -- no test fails, but memory is wanting
+  -- no test fails, but out of memory
   pub placed_memory : (m : DefinitionMisfit) → placed_fault version ps ss ≡ None → m ≡ out_of_memory → Refuses (definition_rules version ps ss) m.fault
   placed_memory m none e = memory_fails version ps ss m.fault (same_none none) (ap fault_of e)
 
@@ -223,5 +223,5 @@ part_holds xs ys h = first_of_two xs ys ∙ ap (λ o. option_or o (first_failing
 pub told_by : {X E : Type 0} (r : Result X E) (one other : Option E) → one ≡ other → MatchResult r (λ _. other ≡ None) (λ m. other ≡ Some m) → MatchResult r (λ _. one ≡ None) (λ m. one ≡ Some m)
 told_by r one other e h = subst (λ o. MatchResult r (λ _. o ≡ None) (λ m. o ≡ Some m)) (sym e) h
 
--- what a definition tells of its parts
+-- what a definition says of its parts
 pub ruleset told = (placed_none, placed_hold, placed_told, placed_fails, place_fails, placed_memory, place_memory)

@@ -214,6 +214,6 @@ module _ (version : Version) (ps : List Point) (ss : List Site) where
   pub rule_fails : (told : DefinitionFault) → definition_fault version ps ss ≡ Some told → Refuses (definition_rules version ps ss) told
   rule_fails told h = agrees.tell told h
 
-  -- no fault, but memory is wanting
+  -- no fault, but out of memory
   pub memory_fails : (told : DefinitionFault) → definition_fault version ps ss ≡ None → told ≡ fault.NoMemory → Refuses (definition_rules version ps ss) told
   memory_fails told none e = agrees.go_on told none e

@@ -1,4 +1,4 @@
--- What points and sites make, and what else is told: the rules (`Rules`) as tests that are decided.
+-- What points and sites make, or the fault that is reported: the rules (`Rules`) as tests that are decided.
 use Rattle.std.specs.Prelude.{ℕ, ◌==◌, Bool, true, false, not, ◌&&◌, List, [], ◌∷◌, ◌++◌, length, map, take, slice_index_or, nat_le, nat_lt, Option, Some, None, Result}
 use Rattle.std.specs.List.{list_any, list_all, flat_map, range_with_len}
 use Rattle.std.specs.Str.{bytes_eq}

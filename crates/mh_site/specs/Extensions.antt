@@ -20,6 +20,6 @@ longer_sites d targets sites = (with_targets d targets).sites ++ sites
 abbrev pub extended : DefinitionData → List TypedTree → List Point → List Site → DefinitionData
 extended d targets points sites = record { points = d.points ++ points; sites = (with_targets d targets).sites ++ map site_in_order sites }
 
--- the rules of the longer definition; want of memory may be told before them
+-- the rules of the longer definition; out of memory may be reported before them
 abbrev pub extension_rules : DefinitionData → List TypedTree → List Point → List Site → Tests DefinitionFault
 extension_rules d targets points sites = may_tell (only NoMemory) (definition_rules Two (d.points ++ points) (longer_sites d targets sites))

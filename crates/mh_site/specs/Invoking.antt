@@ -25,7 +25,7 @@ InvokesOfType sites t = EachInvoke (IsOfType sites) t
 abbrev pub InvokesLower : List Site → ℕ → Tree → Type 0
 InvokesLower sites l t = EachInvoke (IsLower sites l) t
 
--- the same as tests
+-- these facts as tests
 abbrev pub is_of_type : List Site → ℕ → Signature → Bool
 is_of_type sites s n = nat_lt s (length sites) && signature_eq n (slice_index_or sites s no_site).method_type
 

@@ -1,4 +1,4 @@
--- What is so after controls, newest first: by looking back for the last that tells.
+-- What is so after controls, newest first: by looking back for the last that decides.
 use Rattle.std.specs.Prelude.{ℕ, ◌+◌, ◌==◌, Bool, true, not, ◌&&◌, List, [], ◌∷◌, map, fold, length, if◌then◌else◌}
 use Rattle.std.specs.List.{list_any, range_with_len}
 use Rattle.mh_tree.specs.Handle.{TypedTree}
@@ -35,7 +35,7 @@ is_valid (Install changes ∷ older) p = is_valid older p
 abbrev pub valid_points : DefinitionData → List Control → List Bool
 valid_points d controls = map (is_valid controls) (range_with_len 0 (length d.points))
 
--- what the last change of the site tells, where one of these changes is of it
+-- this part of the last of the changes that is of the site, and `other` where none is
 abbrev pub last_of : {X : Type 0} → (Relinked → X) → ℕ → X → List Relinked → X
 last_of part s other changes = fold (λ x c. if c.site == s then part c else x) other changes
 

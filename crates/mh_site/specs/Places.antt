@@ -32,7 +32,7 @@ use Rattle.mh_site.specs.Rules.{HasPlace}
 abbrev pub misfit : DefinitionFault → DefinitionPlace → DefinitionMisfit
 misfit fault at = record { fault = fault; place = at }
 
--- memory was wanting, which is told of all
+-- out of memory, which is reported of all
 abbrev pub out_of_memory : DefinitionMisfit
 out_of_memory = misfit NoMemory place.Whole
 
@@ -58,11 +58,11 @@ key_new links j = not (list_any (same_key (slice_index_or links j no_link)) (tak
 unfoldable pub key_twice : List LinkData → Option ℕ
 key_twice links = unfit (key_new links) (range_with_len 0 (length links))
 
--- holds where no link was found that fails, and tells else of that link
+-- holds where no link was found that fails, and else reports that link
 abbrev pub none_found : Option ℕ → (ℕ → DefinitionMisfit) → Bool × DefinitionMisfit
 none_found found told = (is_none found, told (unwrap_or found 0))
 
--- where a key place stands that is wrong: a site without one has none that could be told
+-- the part that a wrong key place is reported of: all of a site that has no key place
 abbrev pub key_part : Option ℕ → SitePart
 key_part None = of_site.Whole
 key_part (Some place) = of_site.Key
@@ -145,7 +145,7 @@ placed_fault version points sites = first_failing (placed_tests version points s
 abbrev pub placed_made : Version → List Point → List SiteData → Result DefinitionData DefinitionMisfit
 placed_made version points sites = made_unless (record { points = points; sites = map site_in_order sites }) (placed_fault version points sites)
 
--- the links in turn, each beside the earlier ones: where the fact fails for one, that link is told
+-- the links in turn, each beside the earlier ones: where the fact fails for one, that link is reported
 abbrev pub rules_of_links : (List LinkData → LinkData → Type 0) → (ℕ → DefinitionMisfit) → List LinkData → Tests DefinitionMisfit → Tests DefinitionMisfit
 rules_of_links Fact told links later =
     tests_of_each (λ j. test (Fact (take j links) (slice_index_or links j no_link)) (only (told j))) (range_with_len 0 (length links)) later

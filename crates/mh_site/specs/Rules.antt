@@ -55,7 +55,7 @@ rules_at_point points i = point_rules (take i points) (slice_index_or points i n
 abbrev pub rules_at_site : ℕ → List Site → ℕ → Tests DefinitionFault → Tests DefinitionFault
 rules_at_site points sites i = site_rules points sites (take i sites) (slice_index_or sites i no_site)
 
--- the two numbers, the points in order, the sites in order; where all hold, memory may be wanting
+-- the two numbers, the points in order, the sites in order; where all hold, memory may run out
 abbrev pub definition_rules : Version → List Point → List Site → Tests DefinitionFault
 definition_rules version points sites =
     test (length points ≤ most_points version) (only TooManyPoints)

@@ -1,4 +1,4 @@
--- The same points and sites with other targets.
+-- Definitions with other targets at their sites.
 use Rattle.std.specs.Prelude.{◌≡◌, ◌≤◌, ◌<◌, ℕ, List, length, map, slice_index_or}
 use Rattle.std.specs.List.{range_with_len}
 use Rattle.mh_tree.specs.Handle.{TypedTree}

@@ -37,7 +37,7 @@ impl BaseTree {
         requires same { prepared.now ≡ declared }
         ensures value { IfOk result (λ b. b ≡ declared) }
     {
-        let prepared = share_tree(prepared)?;
+        let prepared = prepared.share()?;
         Ok(BaseTree { declared, prepared })
     }
 
@@ -53,7 +53,7 @@ impl BaseTree {
         ensures value { result.now ≡ self.now }
         ensures declared { IsDeclared result.now }
     {
-        // Read for what a declared tree keeps.
+        // Names the invariant of the declared tree for the proof.
         let _handle = self.declared.handle();
         &self.prepared
     }
@@ -62,14 +62,7 @@ impl BaseTree {
     pub(crate) fn share(&self) -> Result<BaseTree, NoMemory>
         ensures value { IfOk result (λ b. b ≡ self.now) }
     {
-        let declared = self.declared.share().map_err(|_| NoMemory)?;
+        let declared = self.declared.share()?;
         BaseTree::new(declared, &self.prepared)
     }
-}
-
-// Another owner of a tree and of its code.
-pub(crate) fn share_tree(tree: &Prepared) -> Result<Prepared, NoMemory>
-    ensures value { IfOk result (λ p. p ≡ tree.now) }
-{
-    tree.share().map_err(|_| NoMemory)
 }

@@ -2,11 +2,11 @@
 
 ghost use Rattle.std.specs.Prelude.{◌≡◌, IfOk};
 
-use crate::base::{BaseTree, share_tree};
+use crate::base::BaseTree;
 use arrayvec::ArrayVec;
 use mh_base::{Listing, NoMemory};
 use mh_code::Prepared;
-use mh_tree::{Declared, Handle};
+use mh_tree::Declared;
 use std::alloc::Global;
 use std::marker::Model;
 
@@ -43,8 +43,8 @@ impl Retargeting {
     pub fn new(alloc: Global, site: usize, base: Declared) -> Result<Retargeting, NoMemory>
         ensures value { IfOk result (λ r. r ≡ record { site = site; tree = base }) }
     {
-        let linked = prepare(alloc, base.handle())?;
-        // Read for what a tree keeps.
+        let linked = Prepared::new(alloc, base.handle())?;
+        // Names the invariant of the tree for the proof.
         let _type = base.handle().method_type();
         let base = BaseTree::new(base, &linked)?;
         Ok(Retargeting { site, base, linked })
@@ -57,16 +57,9 @@ impl Retargeting {
         Ok(Retargeting {
             site: self.site,
             base: self.base.share()?,
-            linked: share_tree(&self.linked)?,
+            linked: self.linked.share()?,
         })
     }
-}
-
-// A tree with its code.
-fn prepare(alloc: Global, handle: &Handle) -> Result<Prepared, NoMemory>
-    ensures value { IfOk result (λ p. p ≡ handle.now) }
-{
-    Prepared::new(alloc, handle).map_err(|_| NoMemory)
 }
 
 /// A site's new linked tree, with its code, and the links that it holds, by number.
@@ -95,7 +88,7 @@ impl Relinking {
     pub fn new(site: usize, linked: Prepared, kept: KeptLinks) -> Relinking
         ensures value { result ≡ record { site = site; linked = linked; kept = kept.items } }
     {
-        // Read for what a tree keeps.
+        // Names the invariant of the tree for the proof.
         let _type = linked.handle().method_type();
         Relinking { site, linked, kept }
     }
@@ -126,7 +119,7 @@ impl Relinking {
         ensures value { IfOk result (λ r. r ≡ self.now) }
     {
         let kept = KeptLinks::try_from(self.kept.as_slice()).map_err(|_| NoMemory)?;
-        let linked = share_tree(&self.linked)?;
+        let linked = self.linked.share()?;
         Ok(Relinking::new(self.site, linked, kept))
     }
 }
@@ -190,8 +183,8 @@ pub enum Control {
 }
 
 impl Control {
-    /// The same change on trees with another owner. Fails only if an allocation or a reference
-    /// count is refused. O(points), or O(sites that are linked).
+    /// A copy of the change, with another owner of its trees. Fails only if an allocation or a
+    /// reference count is refused. O(points), or O(sites that are linked).
     pub fn share(&self) -> Result<Control, NoMemory>
         ensures value { IfOk result (λ c. c ≡ self.now) }
     {

@@ -70,7 +70,7 @@ impl Definition {
     /// The definition of these parts, with the needs of each link in ascending order. In version 1
     /// no link has a charge. What is refused is dropped.
     ///
-    /// Refused with the first test that fails, as `DefinitionFault` tells them, and then with
+    /// Refused with the first test that fails, as `DefinitionFault` orders them, and then with
     /// `NoMemory`.
     pub fn new(
         alloc: Global,
@@ -88,7 +88,7 @@ impl Definition {
         Definition::placed(alloc, version, points, sites).map_err(|misfit| misfit.fault)
     }
 
-    /// The same as `new`, where a fault is told with its place.
+    /// Does what `new` does, and reports a fault with its place.
     #[tactic(auto, using(crate::proofs::Places::told))]
     pub fn placed(
         alloc: Global,

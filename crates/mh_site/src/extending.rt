@@ -1,4 +1,4 @@
-//! The same points and sites, and more of them.
+//! Definitions with more points and sites.
 
 ghost use Rattle.std.specs.Prelude.{◌≡◌, ◌++◌, length, take, IfErr, IfOk, OnOk};
 ghost use Rattle.mh_base.specs.Tests.{Passes, Refuses};
@@ -24,7 +24,7 @@ impl Definition {
     /// O(points + sites + links), beside the tests.
     ///
     /// Refused with the first test that fails of a definition of version 2 with all these points
-    /// and sites, as `Definition::new` tells them, and with `NoMemory`, before the tests too.
+    /// and sites, as `Definition::new` reports them, and with `NoMemory`, before the tests too.
     pub fn extended(
         &self,
         alloc: Global,

@@ -8,10 +8,10 @@ use thiserror::Error;
 
 /// Why points and sites make no definition. The tests 2 and 3 come first, then the points in order,
 /// then the sites in order; within a point or a site the tests stand in the order of their numbers,
-/// each over the whole of it, and the first that fails is told. Memory comes last.
+/// each over the whole of it, and the first that fails is reported. Memory comes last.
 #[derive(Clone, Copy, Debug, PartialEq, Eq, Error)]
 pub enum DefinitionFault {
-    /// A growth was refused.
+    /// An allocation was refused.
     #[error("1 NoMemory")]
     NoMemory,
     /// More points than the version allows: 1,024, or 4,096 in version 2.
@@ -26,8 +26,8 @@ pub enum DefinitionFault {
     /// More than 8 needs at a link.
     #[error("5 TooManyNeeds")]
     TooManyNeeds,
-    /// A name that is empty, past 64 bytes, or of other bytes than letters, digits, `_`, `.`, `-`,
-    /// of which the first is a letter or `_`.
+    /// A name that is empty, past 64 bytes, does not begin with a letter or `_`, or has other bytes
+    /// than letters, digits, `_`, `.`, `-`.
     #[error("6 BadName")]
     BadName,
     /// A point with the name of an earlier point, or a site with that of an earlier site.

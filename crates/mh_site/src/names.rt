@@ -60,7 +60,7 @@ impl Names {
     }
 }
 
-/// The table with one more name. There is none where a growth was refused, now or before.
+/// The table with one more name. There is none if an allocation was refused, now or before.
 pub(crate) fn with_one_more(names: Option<Names>, name: &str) -> Option<Names>
     ensures value { IfSome result (λ after. IsSomeAnd names
         (λ before. after ≡ with_name before name.now)) }

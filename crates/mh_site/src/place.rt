@@ -48,7 +48,7 @@ pub enum PointPart {
 /// A part of a site.
 #[derive(Clone, Copy, Debug, PartialEq, Eq)]
 pub enum SitePart {
-    /// All of it, also where a key place is wanting.
+    /// All of it, also where a key place is missing.
     Whole,
     /// The name.
     Name,
@@ -100,7 +100,7 @@ impl From<NoMemory> for DefinitionMisfit {
     }
 }
 
-// A test, and what is told where it fails.
+// A test, and what is reported where it fails.
 pub(crate) fn demand_at(
     passes: bool,
     fault: DefinitionFault,
@@ -138,7 +138,7 @@ pub(crate) fn demand_of_site(
     demand_at(passes, fault, DefinitionPlace::Site { site, part })
 }
 
-// A test of the links of a site, of which the first that fails was looked for.
+// A test of the links of a site, given the first that fails it, where there is one.
 pub(crate) fn demand_of_links(
     failing: Option<usize>,
     fault: DefinitionFault,

@@ -172,7 +172,7 @@ fn test_invocations(sites: &[Site], index: usize, site: &Site) -> Result<(), Def
     )
 }
 
-// The part that a wrong key place is told of.
+// The part of a site that a wrong key place is reported of.
 fn key_part(key: Option<usize>) -> SitePart
     ensures value { result ≡ part_of_key key }
 {

@@ -1,4 +1,4 @@
-//! The same points and sites with other targets.
+//! Definitions with other targets at their sites.
 
 ghost use Rattle.std.specs.Prelude.{◌≡◌, length, map, slice_index_or, IfOk};
 ghost use Rattle.std.specs.List.{range_with_len};
@@ -17,8 +17,8 @@ use mh_tree::Declared;
 use std::alloc::Global;
 
 impl Definition {
-    /// The same points and sites, each site with another target, by number. Points, sites and links
-    /// keep their numbers. O(points + sites + links).
+    /// The definition with the same points and sites, each site with another target, by number.
+    /// Points, sites and links keep their numbers. O(points + sites + links).
     ///
     /// Fails only if an allocation or a reference count is refused.
     pub fn with_targets(&self, alloc: Global, targets: &[Declared]) -> Result<Definition, NoMemory>
@@ -34,7 +34,7 @@ impl Definition {
     }
 }
 
-// The same sites with other targets.
+// Copies of the sites, with these targets.
 pub(crate) fn with_targets(
     alloc: Global,
     sites: &[Site],
@@ -52,7 +52,7 @@ pub(crate) fn with_targets(
     Ok(Listing::from_vec(made))
 }
 
-// The same site with another target.
+// A copy of the site, with this target.
 fn with_target(alloc: Global, site: &Site, target: &Declared) -> Result<Site, NoMemory>
     ensures value { IfOk result (λ x. x ≡ with_tree site.now target.now) }
 {
@@ -61,7 +61,7 @@ fn with_target(alloc: Global, site: &Site, target: &Declared) -> Result<Site, No
         method_type: site.method_type.copy(),
         level: site.level,
         key: site.key,
-        target: target.share().map_err(|_| NoMemory)?,
+        target: target.share()?,
         links: copy_links(alloc, site.links.as_slice())?,
     })
 }

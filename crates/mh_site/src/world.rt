@@ -8,7 +8,7 @@ ghost use Rattle.mh_site.specs.Worlds.{WorldState, AreTyped, linkeds, opened, op
 ghost use Rattle.mh_site.specs.SiteStates.{plain_site, site_state, site_states};
 ghost use Rattle.mh_site.specs.declared.control.Control.{Control};
 
-use crate::base::{BaseTree, share_tree};
+use crate::base::BaseTree;
 use crate::control::{Control, Installation, KeptLinks, Relinking, Retargeting};
 use crate::definition::Definition;
 use crate::site::Site;
@@ -295,14 +295,13 @@ fn open_site(
     ensures typed { IsTyped site.now.target.tree site.now.target.signature }
 {
     let target = &site.target;
-    // Read for what a tree keeps.
+    // Names the invariant of the tree for the proof.
     let _type = target.handle().method_type();
     let linked = match earlier {
-        Some(world) => cache.prepare_again(world.base.prepared(), target.handle()),
-        None => cache.prepare(target.handle()),
+        Some(world) => cache.prepare_again(world.base.prepared(), target.handle())?,
+        None => cache.prepare(target.handle())?,
     };
-    let linked = linked.map_err(|_| NoMemory)?;
-    let declared = target.share().map_err(|_| NoMemory)?;
+    let declared = target.share()?;
     let opened = SiteWorld {
         base: BaseTree::new(declared, &linked)?,
         kept: KeptLinks::new(),
@@ -335,7 +334,7 @@ fn share_trees(alloc: Global, trees: &[Prepared]) -> Result<Vec<Prepared>, NoMem
 {
     let mut shared = Vec::new(alloc);
     for tree in trees {
-        shared.push(share_tree(tree)?).map_err(|_| NoMemory)?;
+        shared.push(tree.share()?).map_err(|_| NoMemory)?;
     }
     Ok(shared)
 }

@@ -18,7 +18,7 @@ use Rattle.mh_tree.specs.declared.fault.TreeFault.{TreeFault}
 use Rattle.mh_tree.specs.declared.fault.TreeFault.TheVariants.{NoMemory, BadPosition, TypeMismatch, NotUnary, NotBoolean, BadReorder, TooManyParameters, TooDeep, TooLarge}
 use Rattle.mh_type.specs.Limits.{most_parameters}
 
--- a tree where every test holds, and else what the first that does not tells
+-- a tree where every test holds, and else what the first that fails reports
 abbrev pub made : TypedTree → Decided TreeFault → Result TypedTree TreeFault
 made h tests = made_unless h (first_failing tests)
 

@@ -25,7 +25,7 @@ abbrev mutual
   EachInvokes P (present f fs) = EachInvoke P f × EachInvokes P fs
 
 abbrev mutual
-  -- the same of a test of a site and a type
+  -- whether a test of a site and a type passes for each invocation in the tree
   pub each_invoke : (ℕ → Signature → Bool) → Tree → Bool
   each_invoke f (constant x) = true
   each_invoke f (identity k) = true

@@ -11,11 +11,10 @@ pub mod Limits
 pub mod Meaning
 pub mod Prepared
 pub mod Running
-pub mod Scoped
 pub mod Sites
 pub mod Tree
 pub mod TreeCode
 pub mod TreeOf
 pub mod TypeOf
 pub mod Typing
-pub mod Widths
+pub mod inner

@@ -114,7 +114,7 @@ greatest_depth = 96
 abbrev pub most_nodes : ℕ
 most_nodes = 262144
 
--- the same of a declared tree
+-- the depth and the size of the greatest declared tree
 abbrev pub greatest_declared_depth : ℕ
 greatest_declared_depth = 64
 

@@ -38,7 +38,7 @@ put_in a p xs = take p a ++ (xs ++ drop p a)
 abbrev pub taken_out : List Value → ℕ → ℕ → List Value
 taken_out a p n = take p a ++ drop (p + n) a
 
--- the same for arguments that filters may have thrown on
+-- the outcome of going on with the arguments, or the throw of a filter
 abbrev pub with_arguments : Result (List Value) Throw → (List Value → Outcome) → Outcome
 with_arguments (Ok a) go = go a
 with_arguments (Err t) go = outcome.Thrown t

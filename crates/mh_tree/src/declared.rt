@@ -7,6 +7,7 @@ ghost use Rattle.mh_tree.specs.Limits.{depth as tree_depth, size as tree_size, g
 
 use crate::fault::TreeFault;
 use crate::handle::Handle;
+use mh_base::NoMemory;
 use std::fmt;
 use std::marker::Model;
 
@@ -37,7 +38,7 @@ impl Model for Declared {
     ghost invariant = { λ d. IsDeclared d.handle };
 }
 
-/// As its handle.
+/// Writes its handle inside `Declared(..)`.
 impl fmt::Debug for Declared {
     fn fmt<W: fmt::Write>(&self, f: &mut fmt::Formatter<W>) -> fmt::Result {
         write!(f, "Declared({:?})", self.handle())
@@ -62,9 +63,8 @@ impl Declared {
     }
 
     /// Another owner of the tree. Refused with `NoMemory` alone.
-    pub fn share(&self) -> Result<Declared, TreeFault>
+    pub fn share(&self) -> Result<Declared, NoMemory>
         ensures value { IfOk result (λ d. d ≡ self.now) }
-        ensures refused { IfErr result (λ e. e ≡ TreeFault.NoMemory) }
     {
         let handle = self.handle.share()?;
         Ok(Declared { handle })

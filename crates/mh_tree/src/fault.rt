@@ -3,13 +3,14 @@
 ghost use Rattle.std.specs.Prelude.{◌≡◌};
 ghost use Rattle.mh_tree.specs.Faults.{fault_number};
 
+use mh_base::NoMemory;
 use thiserror::Error;
 
 /// Why a handle was not made. The tests of a constructor run in the order 2, 4, 5, 6, 3, 7, 8, 9,
-/// each over the whole call, and the first that fails is told. Memory comes last.
+/// each over the whole call, and the first that fails is reported. Memory comes last.
 #[derive(Clone, Copy, Debug, PartialEq, Eq, Error)]
 pub enum TreeFault {
-    /// A growth was refused, or a further owner of a text or a tree.
+    /// An allocation was refused, or another owner of a text or a tree.
     #[error("1 NoMemory")]
     NoMemory,
     /// The places from the position on are not all places of the target.
@@ -36,6 +37,16 @@ pub enum TreeFault {
     /// The tree would have more than 262,144 nodes.
     #[error("9 TooLarge")]
     TooLarge,
+}
+
+impl From<NoMemory> for TreeFault {
+    ghost use Rattle.mh_tree.specs.declared.fault.TreeFault.{TreeFault};
+
+    ghost from_gives = { λ _ fault. fault ≡ TreeFault.NoMemory };
+
+    fn from(_refused: NoMemory) -> TreeFault {
+        TreeFault::NoMemory
+    }
 }
 
 impl TreeFault {

@@ -14,6 +14,7 @@ use crate::fault::TreeFault;
 use crate::handle::Handle;
 use crate::limits::within_limits;
 use crate::node::{Node, with_parameter};
+use mh_base::NoMemory;
 use mh_type::{Kind, MethodType, same_kinds};
 use std::alloc::Global;
 use std::sync::Arc;
@@ -254,10 +255,9 @@ fn greatest_site(filters: &[Option<Handle>]) -> usize
 }
 
 // Another owner of each filter's tree.
-fn owners(alloc: Global, filters: &[Option<Handle>]) -> Result<Vec<Option<Arc<Node>>>, TreeFault>
+fn owners(alloc: Global, filters: &[Option<Handle>]) -> Result<Vec<Option<Arc<Node>>>, NoMemory>
     ensures value { IfOk result (λ v. filter_trees v.items ≡ map
         (option_map (λ f. f.tree)) filters.now) }
-    ensures refused { IfErr result (λ e. e ≡ TreeFault.NoMemory) }
 {
     let mut owned = Vec::new(alloc);
     for filter in filters {
@@ -265,7 +265,7 @@ fn owners(alloc: Global, filters: &[Option<Handle>]) -> Result<Vec<Option<Arc<No
             None => None,
             Some(filter) => Some(filter.root_owner()?),
         };
-        owned.push(filter).map_err(|_| TreeFault::NoMemory)?;
+        owned.push(filter).map_err(|_| NoMemory)?;
     }
     Ok(owned)
 }

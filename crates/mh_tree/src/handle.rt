@@ -9,6 +9,7 @@ ghost use Rattle.mh_tree.specs.Limits.{depth as tree_depth, size as tree_size, p
 use crate::fault::TreeFault;
 use crate::measures::{Measures, measure};
 use crate::node::Node;
+use mh_base::NoMemory;
 use mh_type::MethodType;
 use std::alloc::Global;
 use std::fmt;
@@ -84,7 +85,7 @@ impl Handle {
             point_bound,
             site_bound,
         };
-        Handle::owning(alloc, root, method_type, measures)
+        Ok(Handle::owning(alloc, root, method_type, measures)?)
     }
 
     // The tree of an owner, with what is kept beside it.
@@ -93,7 +94,7 @@ impl Handle {
         root: Arc<Node>,
         method_type: MethodType,
         measures: Measures,
-    ) -> Result<Handle, TreeFault>
+    ) -> Result<Handle, NoMemory>
         requires sound { IsSound (tree_of (arc_value root)) method_type }
         requires deep { measures.depth ≡ tree_depth (tree_of (arc_value root)) }
         requires large { measures.size ≡ tree_size (tree_of (arc_value root)) }
@@ -101,7 +102,6 @@ impl Handle {
         requires sites { measures.site_bound ≡ tree_site_bound (tree_of (arc_value root)) }
         ensures value { IfOk result (λ h. h ≡ record
             { tree = tree_of (arc_value root); signature = method_type }) }
-        ensures refused { IfErr result (λ e. e ≡ TreeFault.NoMemory) }
     {
         let Measures {
             depth,
@@ -118,7 +118,7 @@ impl Handle {
             point_bound,
             site_bound,
         };
-        let shared = Arc::new(alloc, rooted).map_err(|_| TreeFault::NoMemory)?;
+        let shared = Arc::new(alloc, rooted).map_err(|_| NoMemory)?;
         Ok(Handle { shared })
     }
 
@@ -129,22 +129,20 @@ impl Handle {
         alloc: Global,
         root: Arc<Node>,
         method_type: &MethodType,
-    ) -> Result<Handle, TreeFault>
+    ) -> Result<Handle, NoMemory>
         requires sound { IsSound (tree_of (arc_value root)) method_type.now }
         ensures value { IfOk result (λ h. h ≡ record
             { tree = tree_of (arc_value root); signature = method_type.now }) }
-        ensures refused { IfErr result (λ e. e ≡ TreeFault.NoMemory) }
     {
         let measures = measure(&root);
         Handle::owning(alloc, root, method_type.copy(), measures)
     }
 
     /// Another owner of the tree. Refused with `NoMemory` alone.
-    pub fn share(&self) -> Result<Handle, TreeFault>
+    pub fn share(&self) -> Result<Handle, NoMemory>
         ensures value { IfOk result (λ h. h ≡ self.now) }
-        ensures refused { IfErr result (λ e. e ≡ TreeFault.NoMemory) }
     {
-        let shared = Arc::try_clone(&self.shared).map_err(|_| TreeFault::NoMemory)?;
+        let shared = Arc::try_clone(&self.shared).map_err(|_| NoMemory)?;
         Ok(Handle { shared })
     }
 
@@ -155,12 +153,11 @@ impl Handle {
     }
 
     // Another owner of the root.
-    pub(crate) fn root_owner(&self) -> Result<Arc<Node>, TreeFault>
+    pub(crate) fn root_owner(&self) -> Result<Arc<Node>, NoMemory>
         ensures value { IfOk result (λ a. tree_of (arc_value a) ≡ self.now.tree) }
-        ensures refused { IfErr result (λ e. e ≡ TreeFault.NoMemory) }
     {
         let shared = &self.shared;
-        Arc::try_clone(&shared.root).map_err(|_| TreeFault::NoMemory)
+        Arc::try_clone(&shared.root).map_err(|_| NoMemory)
     }
 
     /// The tree.

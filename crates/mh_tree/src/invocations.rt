@@ -73,7 +73,7 @@ pub fn each_invocation<T: InvocationTest>(test: &T, node: &Node) -> bool
     }
 }
 
-// The same of filters.
+// Whether each invocation in the filters passes a test.
 #[cycle(invocations)]
 fn each_of_filters<T: InvocationTest>(test: &T, filters: &[Option<Arc<Node>>]) -> bool
     ensures value { result ≡ each_invokes (T.holds test.now)

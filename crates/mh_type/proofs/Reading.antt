@@ -56,7 +56,7 @@ regroup : (seen : List Kind) (k : Kind) (read : Option (List Kind)) → then_kin
 regroup seen k None = refl
 regroup seen k (Some ks) = ap Some (simp append_assoc)
 
--- one more parameter, of which the first 16 stay
+-- with one more parameter, the first 16 stay
 take-push : (seen : List Kind) (k : Kind) → take 16 (take 16 seen ++ k ∷ []) ≡ take 16 (seen ++ k ∷ [])
 take-push seen k = by (leb_tells (length seen) 16)
   where

@@ -1,4 +1,4 @@
--- The numbers by which faults are told.
+-- The numbers of the faults.
 use Rattle.std.specs.Prelude.{ℕ}
 use Rattle.mh_type.specs.declared.fault.TypeFault.{TypeFault}
 use Rattle.mh_type.specs.declared.fault.TypeFault.TheVariants.{NoMemory, TooManyParameters, BadText}

@@ -12,7 +12,7 @@ pub record IsText (bytes : List ℕ) : Type 0 where
   pub short : length bytes ≤ longest_text
   pub printable : All IsPrintable bytes
 
--- the same as a test that computes
+-- IsPrintable as a test that computes
 abbrev pub is_printable : ℕ → Bool
 is_printable byte = nat_le 0x20 byte && nat_le byte 0x7E
 

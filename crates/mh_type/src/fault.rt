@@ -8,7 +8,7 @@ use thiserror::Error;
 /// Why a value, a text or a type was not made.
 #[derive(Clone, Copy, Debug, PartialEq, Eq, Error)]
 pub enum TypeFault {
-    /// A growth was refused, or a further owner of a text.
+    /// An allocation was refused, or another owner of a text.
     #[error("1 NoMemory")]
     NoMemory,
     /// A type of more than 16 parameters.

@@ -79,7 +79,7 @@ impl MethodType {
         }
     }
 
-    /// The same type.
+    /// A copy of the type.
     pub fn copy(&self) -> MethodType
         ensures value { result ≡ self.now }
     {

@@ -51,7 +51,7 @@ impl Text {
     /// The text of these bytes.
     ///
     /// Refused with `BadText` exactly where there are more than 65,536 bytes or one is not from
-    /// 0x20 to 0x7E, and with `NoMemory` where a growth was refused.
+    /// 0x20 to 0x7E, and with `NoMemory` if an allocation is refused.
     #[tactic(auto, using(crate::proofs::Texts::is_text_from, crate::proofs::Texts::is_text_not, crate::proofs::Texts::then_nothing))]
     pub fn new(alloc: Global, text: &str) -> Result<Text, TypeFault>
         ensures value { IfOk result (λ t. (t ≡ text.now) × (is_text_bytes text.now ≡ true)) }
@@ -68,7 +68,7 @@ impl Text {
     /// One text and then another, whose bytes are written once, into room for just so many.
     ///
     /// Refused with `BadText` exactly where they are more than 65,536 together, and else with
-    /// `NoMemory` alone, where a growth was refused.
+    /// `NoMemory` alone, if an allocation is refused.
     #[tactic(auto, using(crate::proofs::Texts::concat_is_text))]
     pub fn concat(alloc: Global, some: &Text, more: &Text) -> Result<Text, TypeFault>
         ensures value { IfOk result (λ t. t ≡ some.now ++ more.now) }

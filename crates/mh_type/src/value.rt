@@ -31,7 +31,7 @@ impl Value {
         }
     }
 
-    /// The same value, of which a text gets another owner.
+    /// A copy of the value; a text gets another owner.
     pub fn share(&self) -> Result<Value, TypeFault>
         ensures value { IfOk result (λ v. v ≡ self.now) }
         ensures refused { IfErr result (λ e. (e ≡ TypeFault.NoMemory)
@@ -75,7 +75,7 @@ pub fn same_value(one: &Value, other: &Value) -> bool
     }
 }
 
-/// The same values, of which a text gets another owner. Refused with `NoMemory` alone.
+/// Copies of the values; each text gets another owner. Refused with `NoMemory` alone.
 pub fn copy_values(alloc: Global, values: &[Value]) -> Result<Vec<Value>, TypeFault>
     ensures value { IfOk result (λ v. v.items ≡ values.now) }
     ensures refused { IfErr result (λ e. e ≡ TypeFault.NoMemory) }

@@ -3,11 +3,11 @@ use Rattle.std.proofs.Common.{◌≡◌, Bool, true, false, cond, ap, Option, So
 use Rattle.mh_base.specs.Listed.{made_unless}
 
 module _ {X E : Type 0} (x : X) (fault : E) (later : Option E) where
-  -- where the first test holds, what the later ones tell decides
+  -- where the first test holds, what the later ones report decides
   pub passes : (b : Bool) → b ≡ true → made_unless x (cond b later (Some fault)) ≡ made_unless x later
   passes b h = ap (λ t. made_unless x (cond t later (Some fault))) h
 
-  -- where the first test does not hold, its fault is told
+  -- where the first test does not hold, its fault is reported
   pub fails : (b : Bool) → b ≡ false → made_unless x (cond b later (Some fault)) ≡ Err fault
   fails b h = ap (λ t. made_unless x (cond t later (Some fault))) h
 

@@ -8,12 +8,12 @@ use Rattle.mh_tree.specs.Environment.{Environment}
 use Rattle.mh_tree.specs.Laws.{argument_more}
 use Rattle.mh_tree.specs.Meaning.{◌>>=◌, choose, choose_steps, after, is_valid}
 use Rattle.mh_tree.specs.Running.{value_of}
-use Rattle.mh_tree.specs.Scoped.{IsIn, AllIn}
+use Rattle.mh_tree.specs.inner.Scoped.{IsIn, AllIn}
 use Rattle.mh_tree.specs.declared.operand.Operand.{Operand}
 use Rattle.mh_tree.specs.declared.operand.Operand.TheVariants.{Argument, Local, Constant}
 use Rattle.mh_code.specs.Routine.{Source, operand, operation, invocation, Routine, give, keep, pick, switch, Purpose, answer, local, truth, untruth}
-use Rattle.mh_code.specs.Runs.{source_outcome, source_steps, put, run_routine, routine_steps, purpose_outcome, purpose_steps}
-use Rattle.mh_code.specs.Scope.{IsSourceIn, IsRoutineIn, IsPurposeIn}
+use Rattle.mh_code.specs.inner.Runs.{source_outcome, source_steps, put, run_routine, routine_steps, purpose_outcome, purpose_steps}
+use Rattle.mh_code.specs.inner.Scope.{IsSourceIn, IsRoutineIn, IsPurposeIn}
 
 module _ (C : ℕ → ℕ → Type 0) (k n d : ℕ) (v : Environment) (a l m : List Value) (deep : d ≤ length l) where
   pub value_above : (o : Operand) → IsIn n d o → value_of a (l ++ m) o ≡ value_of a l o

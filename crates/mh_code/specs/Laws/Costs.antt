@@ -11,12 +11,12 @@ use Rattle.mh_tree.specs.Code.{Code, leaf, apply, bind, branch, switch as switch
 use Rattle.mh_tree.specs.Environment.{Environment}
 use Rattle.mh_tree.specs.Meaning.{◌>>=◌, choose, choose_steps, after, is_valid}
 use Rattle.mh_tree.specs.Running.{value_of, run_code, code_steps, weight as code_weight}
-use Rattle.mh_tree.specs.Scoped.{IsScoped}
+use Rattle.mh_tree.specs.inner.Scoped.{IsScoped}
 use Rattle.mh_tree.specs.declared.operand.Operand.TheVariants.{Local}
 use Rattle.mh_code.specs.Routine.{Source, operand, operation, invocation, Routine, keep, pick, Purpose, answer, local, truth, untruth}
 use Rattle.mh_code.specs.RoutineOf.{gives_truth, tested, negated_local, negated, used, bound, routine}
-use Rattle.mh_code.specs.Runs.{source_outcome, source_steps, put, routine_steps, purpose_steps, source_weight, weight, purpose_weight}
-use Rattle.mh_code.specs.Scope.{IsPurposeIn}
+use Rattle.mh_code.specs.inner.Runs.{source_outcome, source_steps, put, routine_steps, purpose_steps, source_weight, weight, purpose_weight}
+use Rattle.mh_code.specs.inner.Scope.{IsPurposeIn}
 use Rattle.mh_code.specs.Laws.Above.{purpose_steps_above, routine_steps_above}
 use Rattle.mh_code.specs.Laws.Means.{newest, put_last}
 use Rattle.mh_code.specs.Laws.Scoped.{bound_in, routine_in, purpose_more}

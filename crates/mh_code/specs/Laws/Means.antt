@@ -11,12 +11,12 @@ use Rattle.mh_tree.specs.Code.{Code, leaf, apply, bind, branch, switch as switch
 use Rattle.mh_tree.specs.Environment.{Environment}
 use Rattle.mh_tree.specs.Meaning.{◌>>=◌, choose, is_valid, argument}
 use Rattle.mh_tree.specs.Running.{value_of, run_code}
-use Rattle.mh_tree.specs.Scoped.{IsScoped}
+use Rattle.mh_tree.specs.inner.Scoped.{IsScoped}
 use Rattle.mh_tree.specs.declared.operand.Operand.TheVariants.{Local}
 use Rattle.mh_code.specs.Routine.{Source, operand, operation, invocation, Routine, keep, pick, Purpose, answer, local, truth, untruth}
 use Rattle.mh_code.specs.RoutineOf.{gives_truth, tested, negated_local, negated, used, bound, routine}
-use Rattle.mh_code.specs.Runs.{source_outcome, put, run_routine, purpose_outcome}
-use Rattle.mh_code.specs.Scope.{IsPurposeIn}
+use Rattle.mh_code.specs.inner.Runs.{source_outcome, put, run_routine, purpose_outcome}
+use Rattle.mh_code.specs.inner.Scope.{IsPurposeIn}
 use Rattle.mh_code.specs.Laws.Above.{purpose_above, routine_above}
 use Rattle.mh_code.specs.Laws.Scoped.{bound_in, routine_in, purpose_more}
 use Rattle.mh_code.specs.Laws.Truths.{bound_by, last_local, true_or_false}

@@ -1,12 +1,12 @@
 -- The routine of code that names only what is there names only what is there.
 use Rattle.std.proofs.Common.{Bool, true, false, ℕ, ◌+◌, ◌≤◌, List, [], ◌∷◌, arith, if◌then◌else◌}
 use Rattle.mh_tree.specs.Code.{Code, leaf, apply, bind, branch, switch as switch_code, call}
-use Rattle.mh_tree.specs.Scoped.{IsIn, AllIn, IsScoped}
+use Rattle.mh_tree.specs.inner.Scoped.{IsIn, AllIn, IsScoped}
 use Rattle.mh_tree.specs.declared.operand.Operand.{Operand}
 use Rattle.mh_tree.specs.declared.operand.Operand.TheVariants.{Argument, Local, Constant}
 use Rattle.mh_code.specs.Routine.{Source, operand, operation, invocation, Routine, give, keep, pick, switch, Purpose, answer, local, truth, untruth}
 use Rattle.mh_code.specs.RoutineOf.{gives_truth, tested, negated_local, negated, used, bound, routine}
-use Rattle.mh_code.specs.Scope.{IsSourceIn, IsRoutineIn, IsPurposeIn}
+use Rattle.mh_code.specs.inner.Scope.{IsSourceIn, IsRoutineIn, IsPurposeIn}
 use Rattle.mh_code.specs.Laws.Truths.{bound_by}
 
 module _ (C : ℕ → ℕ → Type 0) (k n : ℕ) where

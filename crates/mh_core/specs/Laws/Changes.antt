@@ -2,8 +2,8 @@
 use Rattle.std.proofs.Common.{◌≡◌, ℕ, ◌∷◌, Some, ap, refl, sym, subst}
 use Rattle.mh_site.specs.declared.control.Control.{Control}
 use Rattle.mh_site.specs.declared.control.Control.TheVariants as control
-use Rattle.mh_core.specs.declared.pending.Effect.{Effect}
-use Rattle.mh_core.specs.declared.pending.Effect.TheVariants as effect
+use Rattle.mh_core.specs.declared.book.change.Effect.{Effect}
+use Rattle.mh_core.specs.declared.book.change.Effect.TheVariants as effect
 use Rattle.mh_core.specs.declared.record.Record.{Record}
 use Rattle.mh_core.specs.declared.record.Record.TheVariants.{Flushed, Targeted, Invalidated, Snapped, Published, Installed}
 use Rattle.mh_core.specs.Books.{BookState}

@@ -20,7 +20,7 @@ use Rattle.mh_network.specs.Limits.{greatest_sum}
 use Rattle.mh_core.specs.Problems.{IsTaken, is_eligible, problem_after, row}
 use Rattle.mh_core.specs.Records.{is_valid, numbers, past, snapshots, total, valid_points}
 use Rattle.mh_core.specs.Snapshots.{SnapshotState, snapshot_of, snapshots_of}
-use Rattle.mh_core.specs.Tables.{are_valid, row_in}
+use Rattle.mh_core.specs.inner.Tables.{are_valid, row_in}
 use Rattle.mh_core.specs.Laws.LawfulLinks.{lawful_link}
 use Rattle.mh_core.specs.Laws.Numbered.{same_numbers, at_number}
 use Rattle.mh_core.specs.Laws.ProblemRows.{costs_of, rows_in}

@@ -15,7 +15,7 @@ use Rattle.mh_site.specs.Defined.{DefinitionData}
 use Rattle.mh_site.specs.Lawful.{IsDefinition}
 use Rattle.mh_site.specs.Links.{links}
 use Rattle.mh_core.specs.Records.{numbers}
-use Rattle.mh_core.specs.Tables.{row_in}
+use Rattle.mh_core.specs.inner.Tables.{row_in}
 use Rattle.mh_core.specs.Laws.Numbered.{all_numbers}
 use Rattle.mh_core.specs.Laws.LawfulLinks.{lawful_link, few_links}
 

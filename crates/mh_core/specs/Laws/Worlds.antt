@@ -147,7 +147,7 @@ module _ {X : Type 0} (part : Relinked → X) (make : ℕ → Relinked) (own : (
           ap (λ b. told (filter p (range_with_len (a + 1) n)) (cond (p a && b) (part (make a)) other)) e
           ∙ (ap (told (filter p (range_with_len (a + 1) n))) (and_false (p a) (part (make a)) other) ∙ rest later)
 
--- what an installation tells of a site
+-- what an installation says of a site
 changed_once : {X : Type 0} (part : Relinked → X) (d : DefinitionData) (r : List Record) (m s : ℕ) (other : X) → s < length d.sites
     → last_of part s other (changes d r m) ≡ cond (is_concerned d r m s && is_current r m s) (part (relinked d r m s)) other
 changed_once part d r m s other h =

@@ -3,19 +3,19 @@ use Rattle.std.proofs.Common.{◌≡◌, Bool, true, false, ℕ, ◌+◌, ◌≤
 use Rattle.std.specs.Prelude.{max}
 use Rattle.mh_code.specs.Routine.{Source, operand, operation, invocation, Routine, give, keep, pick, switch, Purpose, answer, local, truth, untruth}
 use Rattle.mh_code.specs.RoutineOf.{gives_truth, tested, negated_local, negated, used, bound, routine}
-use Rattle.mh_code.specs.Runs.{source_outcome, put}
-use Rattle.mh_code.specs.Scope.{IsSourceIn, IsRoutineIn, IsPurposeIn}
+use Rattle.mh_code.specs.inner.Runs.{source_outcome, put}
+use Rattle.mh_code.specs.inner.Scope.{IsSourceIn, IsRoutineIn, IsPurposeIn}
 use Rattle.mh_code.specs.Laws.Above.{put_above, source_above, value_above, values_above}
 use Rattle.mh_code.specs.Laws.Means.{newest, put_last}
 use Rattle.mh_code.specs.Laws.Scoped.{bound_in, routine_in, purpose_more}
 use Rattle.mh_code.specs.Laws.Truths.{bound_by, last_local, true_or_false}
 use Rattle.mh_eval.specs.Entered.{WithValue, Chosen, OneOf, plain_below}
 use Rattle.mh_eval.specs.Quiet.{IsQuiet, NoTexts, deep}
-use Rattle.mh_run.specs.Quiet.{IsSourceQuiet, IsTestQuiet, IsRoutineQuiet, IsPurposeQuiet, slots, purpose_slots}
+use Rattle.mh_run.specs.inner.Quiet.{IsSourceQuiet, IsTestQuiet, IsRoutineQuiet, IsPurposeQuiet, slots, purpose_slots}
 use Rattle.mh_tree.specs.Code.{Code, leaf, apply, bind, branch, switch as switch_code, call}
 use Rattle.mh_tree.specs.Meaning.{◌>>=◌, choose, is_valid}
 use Rattle.mh_tree.specs.Running.{run_code, value_of}
-use Rattle.mh_tree.specs.Scoped.{IsScoped}
+use Rattle.mh_tree.specs.inner.Scoped.{IsScoped}
 use Rattle.mh_tree.specs.Sites.{Setting, env}
 use Rattle.mh_tree.specs.declared.operand.Operand.TheVariants.{Local}
 use Rattle.mh_type.specs.Kinds.{kind_of}

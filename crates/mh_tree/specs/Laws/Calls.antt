@@ -13,7 +13,7 @@ use Rattle.mh_tree.specs.Limits.{point_bound, most_steps}
 use Rattle.mh_tree.specs.Meaning.{mean, steps}
 use Rattle.mh_tree.specs.Prepared.{handle_code}
 use Rattle.mh_tree.specs.Running.{run_code, code_steps, weight}
-use Rattle.mh_tree.specs.Scoped.{IsScoped}
+use Rattle.mh_tree.specs.inner.Scoped.{IsScoped}
 use Rattle.mh_tree.specs.Sites.{EachInvoke}
 use Rattle.mh_type.specs.Signature.{Signature}
 use Rattle.mh_tree.specs.declared.operand.Operand.TheVariants.{Argument}

@@ -19,7 +19,7 @@ use Rattle.mh_tree.specs.Tree.{Tree, Filters, constant, identity, operation, ins
 use Rattle.mh_tree.specs.Code.{Code}
 use Rattle.mh_tree.specs.Prepared.{operand_at, prepared, prepared_filters}
 use Rattle.mh_tree.specs.Running.{value_of}
-use Rattle.mh_tree.specs.Scoped.{IsIn, AllIn, IsScoped}
+use Rattle.mh_tree.specs.inner.Scoped.{IsIn, AllIn, IsScoped}
 use Rattle.mh_tree.specs.Sites.{EachInvoke, EachInvokes}
 use Rattle.mh_tree.specs.Typing.{IsTyped, AreTyped, kind_at}
 use Rattle.mh_tree.specs.declared.operand.Operand.{Operand}

@@ -63,7 +63,7 @@ mutual
   filtered_by v w P same agree (present f fs) e p a =
       λ i. with_value (mean_by v w P same agree f e.0 (argument a p ∷ []) i) (λ x. filtered_by v w P same agree fs e.1 (p + 1) (slice_set a p x) i)
 
--- the same of steps
+-- where they agree on the steps of those sites too, the tree takes the same number of steps
 mutual
   pub steps_by : (v w : Environment) (P : ℕ → Signature → Type 0) → v.valid ≡ w.valid → ((s : ℕ) (n : Signature) → P s n → (a : List Value) → v.calls s a ≡ w.calls s a) → ((s : ℕ) (n : Signature) → P s n → (a : List Value) → v.call_steps s a ≡ w.call_steps s a) → (t : Tree) → EachInvoke P t → (a : List Value) → steps v t a ≡ steps w t a
   steps_by v w P same agree like (constant x) e a = refl

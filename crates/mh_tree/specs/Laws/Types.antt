@@ -22,7 +22,7 @@ split_at (suc p) [] rest k h = cc
 split_at (suc p) (x ∷ xs) rest k h =
     let more = split_at p xs rest k h in (ap (λ (ys : List Kind). x ∷ ys) more.0, more.1)
 
--- the same, where the element is replaced
+-- a list with the element at a place replaced: what is before it and with it, and what is behind it
 pub set_at : (p : ℕ) (ks rest : List Kind) (k j : Kind) → drop p ks ≡ k ∷ rest
     → (take (suc p) (slice_set ks p j) ≡ take p ks ++ (j ∷ [])) × (drop (suc p) (slice_set ks p j) ≡ rest)
 set_at zero [] rest k j h = cc

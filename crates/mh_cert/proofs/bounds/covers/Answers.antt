@@ -1,7 +1,7 @@
 use Rattle.std.proofs.Common.{◌≡◌, ◌<◌, ◌∙◌, sym, arith, length, slice_index}
 use Rattle.std.proofs.lemmas.Bool.{true≢false}
 use Rattle.std.proofs.lemmas.List.{get_or_default}
-use Rattle.mh_cert.specs.Ends.{end_of}
+use Rattle.mh_cert.specs.inner.Ends.{end_of}
 use Rattle.mh_cert.proofs.Within.{exceeds}
 use Rattle.mh_cert.proofs.bounds.covers.Goals as goal
 

@@ -1,5 +1,5 @@
 use Rattle.std.proofs.Common.{◌≡◌, ◌+◌, ℕ, length, slice_index, take}
-use Rattle.mh_cert.specs.Ends.{end_of}
+use Rattle.mh_cert.specs.inner.Ends.{end_of}
 use Rattle.mh_network.specs.Sums.{amount_at}
 use Rattle.mh_cert.proofs.bounds.covers.Given as goal
 

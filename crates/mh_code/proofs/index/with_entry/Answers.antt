@@ -3,7 +3,7 @@ use Rattle.std.proofs.lemmas.Int.{ints}
 use Rattle.std.specs.List.{insert}
 use Rattle.mh_code.proofs.Entries.{entries_kept, entries_put}
 use Rattle.mh_code.proofs.index.with_entry.Goals as goal
-use Rattle.mh_code.specs.Entries.{AreEntries, IsFound}
+use Rattle.mh_code.specs.inner.Entries.{AreEntries, IsFound}
 use Rattle.mh_code.specs.declared.index.Entry.{Entry}
 
 pub returns-in-Ok : goal.returns-in-Ok

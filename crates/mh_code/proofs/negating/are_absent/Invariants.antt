@@ -1,7 +1,7 @@
 use Rattle.std.proofs.Common.{◌≡◌, length}
 use Rattle.mh_tree.specs.Tree.{filters_of}
 use Rattle.mh_tree.specs.TreeOf.{filter_trees}
-use Rattle.mh_code.specs.Negations.{are_absent}
+use Rattle.mh_code.specs.inner.Negations.{are_absent}
 use Rattle.mh_code.proofs.negating.are_absent.Given as goal
 
 abbrev pub invariant-loop-filter : goal.invariant-loop-filter

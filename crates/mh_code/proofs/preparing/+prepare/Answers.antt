@@ -4,7 +4,7 @@ use Rattle.std.specs.declared.alloc.Global.{Global}
 use Rattle.std.specs.declared.sync.Arc.{Arc}
 use Rattle.mh_code.specs.Laws.Shifts.{shifts}
 use Rattle.mh_code.specs.PieceOf.{routine_of}
-use Rattle.mh_code.specs.PurposeOf.{purpose_of}
+use Rattle.mh_code.specs.inner.PurposeOf.{purpose_of}
 use Rattle.mh_code.specs.Routine.{Routine, operand, operation, invocation, truth}
 use Rattle.mh_code.specs.RoutineOf.{routine, used}
 use Rattle.mh_type.specs.Operations.{op_signature}

@@ -1,7 +1,7 @@
 use Rattle.std.proofs.Common.{arith}
 use Rattle.std.proofs.lemmas.List.FromFn.{sum_by-map-range_with_len_more}
 use Rattle.mh_network.specs.Problems.{kept_gain}
-use Rattle.mh_core.specs.Tables.{row_in}
+use Rattle.mh_core.specs.inner.Tables.{row_in}
 use Rattle.mh_core.proofs.problem.gains_fit.Goals as goal
 
 pub loop-link-preserved : goal.loop-link-preserved

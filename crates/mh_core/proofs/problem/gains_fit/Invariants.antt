@@ -2,7 +2,7 @@ use Rattle.std.proofs.Common.{◌≡◌, ◌^◌, ◌-◌, min, map}
 use Rattle.std.specs.List.{sum_by}
 use Rattle.mh_network.specs.Problems.{kept_gain}
 use Rattle.mh_core.specs.Records.{numbers}
-use Rattle.mh_core.specs.Tables.{row_in}
+use Rattle.mh_core.specs.inner.Tables.{row_in}
 use Rattle.mh_core.proofs.problem.gains_fit.Given as goal
 
 abbrev pub invariant-loop-link : goal.invariant-loop-link

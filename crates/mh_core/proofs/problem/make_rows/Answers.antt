@@ -1,4 +1,4 @@
-use Rattle.mh_core.specs.Tables.{row_in}
+use Rattle.mh_core.specs.inner.Tables.{row_in}
 use Rattle.mh_core.specs.Laws.Numbered.{more_numbers}
 use Rattle.mh_core.proofs.problem.make_rows.Goals as goal
 

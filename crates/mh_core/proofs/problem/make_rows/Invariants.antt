@@ -1,6 +1,6 @@
 use Rattle.std.proofs.Common.{◌≡◌, map}
 use Rattle.mh_core.specs.Records.{numbers}
-use Rattle.mh_core.specs.Tables.{row_in}
+use Rattle.mh_core.specs.inner.Tables.{row_in}
 use Rattle.mh_core.proofs.problem.make_rows.Given as goal
 
 abbrev pub invariant-loop-link : goal.invariant-loop-link

@@ -1,6 +1,6 @@
 use Rattle.std.proofs.Common.{◌<◌, length, arith}
 use Rattle.mh_network.specs.Parts.Item.{link}
-use Rattle.mh_network.specs.Groups.{IsAdded, item_label}
+use Rattle.mh_network.specs.inner.Groups.{IsAdded, item_label}
 use Rattle.mh_network.proofs.Grouped.{put_link}
 use Rattle.mh_network.proofs.grouping.add_links.Goals as goal
 

@@ -1,6 +1,6 @@
 use Rattle.std.proofs.Common.{◌≤◌, ◌∙◌, ℕ, List, arith}
 use Rattle.std.proofs.Math.ListN.{length-set}
-use Rattle.mh_network.specs.Labels.{label_of, LeadsDown}
+use Rattle.mh_network.specs.inner.Labels.{label_of, LeadsDown}
 use Rattle.mh_network.proofs.Labelling.{halved, halved_down}
 use Rattle.mh_network.proofs.labels.find.Goals as goal
 

@@ -1,7 +1,7 @@
 use Rattle.std.proofs.Common.{◌<◌, ◌∙◌, ℕ, List, length, arith}
 use Rattle.std.proofs.Math.ListN.{length-set}
 use Rattle.std.proofs.lemmas.Grind.{same_number_lists}
-use Rattle.mh_network.specs.Labels.{label_of, LeadsDown}
+use Rattle.mh_network.specs.inner.Labels.{label_of, LeadsDown}
 use Rattle.mh_network.proofs.Labelling.{halved, halved_down, flat_more}
 use Rattle.mh_network.proofs.labels.flatten.Goals as goal
 

@@ -1,5 +1,5 @@
 use Rattle.std.proofs.Common.{◌≡◌, ◌≤◌, ◌<◌, ℕ, List, length}
-use Rattle.mh_network.specs.Labels.{label_of, LeadsDown}
+use Rattle.mh_network.specs.inner.Labels.{label_of, LeadsDown}
 use Rattle.mh_network.proofs.labels.flatten.Given as goal
 
 abbrev pub invariant-loop-at : goal.invariant-loop-at

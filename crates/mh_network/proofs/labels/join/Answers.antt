@@ -1,5 +1,5 @@
 use Rattle.std.proofs.Common.{◌≡◌, ◌∙◌, arith, sym, inl, inr}
-use Rattle.mh_network.specs.Labels.{label_of, LeadsDown}
+use Rattle.mh_network.specs.inner.Labels.{label_of, LeadsDown}
 use Rattle.mh_network.proofs.Labelling.{joined_labels}
 use Rattle.mh_network.proofs.labels.join.Goals as goal
 

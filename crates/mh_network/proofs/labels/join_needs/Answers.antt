@@ -1,7 +1,7 @@
 use Rattle.std.proofs.Common.{◌≡◌, ◌<◌, ◌≤◌, ◌+◌, ◌∙◌, ℕ, List, [], ◌∷◌, ◌++◌, length, arith, sym, subst, take, true}
 use Rattle.std.specs.List.{slice_index_or}
 use Rattle.mh_network.specs.Selection.{member}
-use Rattle.mh_network.specs.Labels.{IsRelabelled}
+use Rattle.mh_network.specs.inner.Labels.{IsRelabelled}
 use Rattle.mh_network.specs.Laws.Members.{member_is}
 use Rattle.mh_network.proofs.Labelling.{relabel_either, first_taken, member_take, taken_more}
 use Rattle.mh_network.proofs.labels.join_needs.Goals as goal

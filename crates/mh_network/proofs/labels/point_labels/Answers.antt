@@ -1,7 +1,7 @@
 use Rattle.std.proofs.Common.{◌≡◌, ◌+◌, ◌∙◌, ℕ, List, length, sym, ap, subst, arith}
 use Rattle.std.specs.Vec.{with_items}
 use Rattle.std.proofs.lemmas.List.{with_items_is}
-use Rattle.mh_network.specs.Labels.{AreLabels, LeadsDown}
+use Rattle.mh_network.specs.inner.Labels.{AreLabels, LeadsDown}
 use Rattle.mh_network.proofs.Labelling.{labels_none, labels_more, needs_inside, own_leads}
 use Rattle.mh_network.proofs.labels.point_labels.Goals as goal
 

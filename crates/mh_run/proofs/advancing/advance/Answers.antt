@@ -10,7 +10,7 @@ use Rattle.mh_type.specs.declared.outcome.Outcome.TheVariants as outcome
 use Rattle.mh_code.specs.Height.{height, highest}
 use Rattle.mh_code.specs.Routine.{keep, operand, operation}
 use Rattle.mh_code.specs.declared.code.Piece.{Piece}
-use Rattle.mh_run.specs.Runs.{Goes, MayGo}
+use Rattle.mh_run.specs.inner.Runs.{Goes, MayGo}
 use Rattle.mh_run.proofs.Pieces.{routine_of_let, routine_of_put}
 use Rattle.mh_run.proofs.Sources.{goes_put}
 use Rattle.mh_run.proofs.Switches.{goes_switch, lower_switch, own_switch}

@@ -1,6 +1,6 @@
 use Rattle.std.proofs.Common.{◌≤◌, ◌∙◌, sym, subst, [], Ok, rules}
-use Rattle.mh_code.specs.Runs.{weight}
-use Rattle.mh_run.specs.Runs.{MayRun}
+use Rattle.mh_code.specs.inner.Runs.{weight}
+use Rattle.mh_run.specs.inner.Runs.{MayRun}
 use Rattle.mh_run.proofs.Handles.{handle_answered, handle_few, handle_may, handle_outcome, handle_own, handle_steps}
 use Rattle.mh_run.proofs.calls.run.Goals as goal
 use Rattle.mh_tree.specs.Limits.{most_nodes}

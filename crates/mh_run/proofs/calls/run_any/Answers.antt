@@ -1,7 +1,7 @@
 use Rattle.std.proofs.Common.{◌≡◌, ◌-◌, ◌∷◌, [], ◌∙◌, ap, sym, subst, refl, arith}
 use Rattle.mh_code.specs.PieceOf.{routine_of}
 use Rattle.mh_code.specs.Routine.{give, operation}
-use Rattle.mh_run.specs.Runs.{Ends, Answers}
+use Rattle.mh_run.specs.inner.Runs.{Ends, Answers}
 use Rattle.mh_run.proofs.Pieces.{routine_of_apply}
 use Rattle.mh_run.proofs.Sources.{gives, plain_answers, told_ends}
 use Rattle.mh_run.proofs.calls.run_any.Goals as goal

@@ -1,7 +1,7 @@
 use Rattle.std.proofs.Common.{◌≡◌, ◌-◌, []}
 use Rattle.mh_code.specs.Height.{height}
 use Rattle.mh_code.specs.PieceOf.{routine_of}
-use Rattle.mh_run.specs.Runs.{Goes}
+use Rattle.mh_run.specs.inner.Runs.{Goes}
 use Rattle.mh_run.proofs.forwarding.lead.Given as goal
 use Rattle.mh_tree.specs.Sites.{setting}
 

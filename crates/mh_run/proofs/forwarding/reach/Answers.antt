@@ -4,8 +4,8 @@ use Rattle.std.specs.Prelude.{slice_index_or}
 use Rattle.mh_code.specs.PieceOf.{routine_of}
 use Rattle.mh_code.specs.Routine.{Routine, give, invocation}
 use Rattle.mh_code.specs.RoutineOf.{handle_routine}
-use Rattle.mh_code.specs.Runs.{weight}
-use Rattle.mh_run.specs.Runs.{Goes, GoesOn}
+use Rattle.mh_code.specs.inner.Runs.{weight}
+use Rattle.mh_run.specs.inner.Runs.{Goes, GoesOn}
 use Rattle.mh_run.proofs.Pieces.{routine_of_forward}
 use Rattle.mh_run.proofs.Reaching.{reach_bounds, reach_deep, reach_room, reach_site, reach_there}
 use Rattle.mh_run.proofs.forwarding.reach.Goals as goal

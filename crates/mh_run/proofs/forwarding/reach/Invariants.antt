@@ -1,7 +1,7 @@
 use Rattle.std.proofs.Common.{◌+◌, ◌-◌, ◌*◌, ◌≤◌}
 use Rattle.mh_code.specs.PieceOf.{routine_of}
-use Rattle.mh_code.specs.Runs.{weight}
-use Rattle.mh_run.specs.Runs.{GoesOn, most_own}
+use Rattle.mh_code.specs.inner.Runs.{weight}
+use Rattle.mh_run.specs.inner.Runs.{GoesOn, most_own}
 use Rattle.mh_run.proofs.forwarding.reach.Given as goal
 use Rattle.mh_tree.specs.Limits.{most_nodes}
 use Rattle.mh_tree.specs.Sites.{setting}

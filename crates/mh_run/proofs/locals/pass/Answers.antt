@@ -5,7 +5,7 @@ use Rattle.mh_type.specs.declared.value.Value.TheVariants.{Boolean}
 use Rattle.mh_tree.specs.Meaning.{argument}
 use Rattle.mh_tree.specs.Prepared.{operand_at}
 use Rattle.mh_tree.specs.Running.{value_of}
-use Rattle.mh_tree.specs.Scoped.{IsIn}
+use Rattle.mh_tree.specs.inner.Scoped.{IsIn}
 use Rattle.mh_tree.specs.declared.operand.Operand.TheVariants.{Constant}
 use Rattle.mh_tree.specs.Laws.{in_at}
 use Rattle.mh_eval.proofs.Extending.{goes, stops}

@@ -9,7 +9,7 @@ use Rattle.mh_code.specs.Height.{code_height, height, highest}
 use Rattle.mh_code.specs.declared.code.Piece.{Piece}
 use Rattle.std.specs.declared.sync.Arc.{Arc}
 use Rattle.mh_eval.specs.Quiet.{IsAnswered}
-use Rattle.mh_run.specs.Runs.{Answers, Ends, Leaves, MayRun}
+use Rattle.mh_run.specs.inner.Runs.{Answers, Ends, Leaves, MayRun}
 use Rattle.mh_run.proofs.Pieces.{err_given, if_err, if_ok, lower_go, routine_of_call, routine_of_forward, routine_of_let, routine_of_put}
 use Rattle.mh_run.proofs.Sites.{leading_many}
 use Rattle.mh_run.proofs.Sources.{gives, keep_ends, keeps, plain_answers}
@@ -19,7 +19,7 @@ use Rattle.mh_tree.specs.Laws.Scope.{in_arguments}
 use Rattle.mh_tree.specs.Prepared.{leading_arguments}
 use Rattle.mh_tree.specs.Running.{value_of}
 use Rattle.mh_tree.specs.Sites.{MayCall, setting}
-use Rattle.mh_code.specs.Runs.{put}
+use Rattle.mh_code.specs.inner.Runs.{put}
 use Rattle.mh_type.specs.Kinds.{kind_of}
 use Rattle.mh_type.specs.Operations.{operate}
 use Rattle.mh_type.specs.declared.kind.Kind.TheVariants as kind

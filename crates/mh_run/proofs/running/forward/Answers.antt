@@ -3,7 +3,7 @@ use Rattle.std.proofs.lemmas.List.{get_or_default}
 use Rattle.std.specs.Prelude.{slice_index_or}
 use Rattle.mh_code.specs.PieceOf.{routine_of}
 use Rattle.mh_code.specs.RoutineOf.{handle_routine}
-use Rattle.mh_run.specs.Runs.{Ends, MayGo}
+use Rattle.mh_run.specs.inner.Runs.{Ends, MayGo}
 use Rattle.mh_run.proofs.Sites.{leading_are, leading_count, leading_many, site_answers, site_deep, site_go, site_there}
 use Rattle.mh_run.proofs.running.forward.Goals as goal
 use Rattle.mh_tree.specs.Handle.{TypedTree, IsSound}

@@ -1,7 +1,7 @@
 use Rattle.std.proofs.Common.{◌≤◌, vec_capacity}
 use Rattle.mh_code.specs.Height.{height}
 use Rattle.mh_code.specs.PieceOf.{routine_of}
-use Rattle.mh_run.specs.Runs.{Goes}
+use Rattle.mh_run.specs.inner.Runs.{Goes}
 use Rattle.mh_run.proofs.running.go_on.Given as goal
 use Rattle.mh_tree.specs.Sites.{setting}
 

@@ -4,7 +4,7 @@ use Rattle.std.proofs.lemmas.List.{get_or_default, length-map}
 use Rattle.mh_code.specs.PieceOf.{routine_of}
 use Rattle.mh_code.specs.RoutineOf.{handle_routine}
 use Rattle.mh_eval.specs.Quiet.{NoTexts}
-use Rattle.mh_run.specs.Runs.{Ends, MayGo}
+use Rattle.mh_run.specs.inner.Runs.{Ends, MayGo}
 use Rattle.mh_run.proofs.Sites.{site_answers, site_deep, site_few, site_go, site_there}
 use Rattle.mh_run.proofs.running.invoke.Goals as goal
 use Rattle.mh_tree.specs.Handle.{TypedTree, IsSound}

@@ -1,9 +1,9 @@
 use Rattle.std.proofs.Common.{[], ◌+◌, ◌≤◌}
 use Rattle.mh_code.specs.Height.{height}
 use Rattle.mh_code.specs.PieceOf.{routine_of}
-use Rattle.mh_code.specs.Runs.{weight}
-use Rattle.mh_run.specs.Levels.{IsOpen}
-use Rattle.mh_run.specs.Runs.{Leaves, most_own}
+use Rattle.mh_code.specs.inner.Runs.{weight}
+use Rattle.mh_run.specs.inner.Levels.{IsOpen}
+use Rattle.mh_run.specs.inner.Runs.{Leaves, most_own}
 use Rattle.mh_run.proofs.running.run_on.Given as goal
 use Rattle.mh_tree.specs.Sites.{setting}
 

@@ -1,7 +1,7 @@
 use Rattle.std.proofs.Common.{rules, ◌≡◌, ◌+◌, ◌<◌, ◌^◌, ◌++◌, ◌∷◌, [], ap, sym, subst, arith, length, length-append}
 use Rattle.mh_code.proofs.Entries.{all_more}
 use Rattle.mh_code.proofs.index.Index.with.Goals as goal
-use Rattle.mh_code.specs.Entries.{AreEntries}
+use Rattle.mh_code.specs.inner.Entries.{AreEntries}
 use Rattle.mh_code.specs.Rows.{all_steps}
 
 pub invariant_of-result : goal.invariant_of-result

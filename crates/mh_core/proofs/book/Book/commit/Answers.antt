@@ -1,6 +1,6 @@
 use Rattle.std.proofs.Common.{◌≡◌, ◌∷◌, List, ap, refl, sym, subst, ◌∙◌}
 use Rattle.std.specs.Prelude.{reverse}
-use Rattle.mh_core.specs.declared.pending.Effect.TheVariants as effect
+use Rattle.mh_core.specs.declared.book.change.Effect.TheVariants as effect
 use Rattle.mh_core.specs.Books.{BookState, IsBook, book_state}
 use Rattle.mh_core.specs.Pending.{HasEffect, IsReady, PendingState}
 use Rattle.mh_core.specs.Snapshots.{SnapshotState}

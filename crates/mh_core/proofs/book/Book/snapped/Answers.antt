@@ -1,6 +1,6 @@
 use Rattle.std.proofs.Common.{◌≡◌, ℕ, length, map, refl, ap, ◌∙◌, arith}
 use Rattle.mh_site.specs.Worlds.{WorldState, state_at}
-use Rattle.mh_core.specs.declared.pending.Effect.TheVariants as effect
+use Rattle.mh_core.specs.declared.book.change.Effect.TheVariants as effect
 use Rattle.mh_core.specs.declared.reply.Reply.TheVariants as reply
 use Rattle.mh_core.specs.Books.{BookState, IsBook, book_state}
 use Rattle.mh_core.specs.Records.{numbers}

@@ -2,7 +2,7 @@ use Rattle.std.proofs.Common.{rules, ◌≡◌, ◌≤◌, ◌∙◌, ap, sym, a
 use Rattle.mh_pic.specs.Chains.{points}
 use Rattle.mh_pic.proofs.Linking.{points_passed}
 use Rattle.mh_pic.proofs.Passing.{memory_alone, settled}
-use Rattle.mh_pic.proofs.prepared_chaining.+points.Goals as goal
+use Rattle.mh_pic.proofs.chains.+points.Goals as goal
 
 pub expect_made-requires : goal.expect_made-requires
 expect_made-requires t c =

@@ -1,6 +1,6 @@
 -- What runs of trees keep: locals, and the arguments of what they invoke.
 use Rattle.std.specs.Prelude.{◌≡◌, ◌≤◌, [], vec_capacity}
-use Rattle.mh_run.specs.Limits.{lower_room}
+use Rattle.mh_run.specs.inner.Limits.{lower_room}
 use Rattle.mh_run.specs.declared.levels.Bottom.{Bottom}
 use Rattle.mh_run.specs.declared.levels.Level.{Level}
 

@@ -1,12 +1,11 @@
-//! Chains with their code.
-
-ghost use Rattle.std.specs.Prelude.{◌≡◌, ◌<◌, ◌≤◌, length, take, IfOk};
-ghost use Rattle.mh_type.specs.Kinds.{kind_of};
+//! Chains of key tests: as trees, and as prepared handles.
+ghost use Rattle.std.specs.Prelude.{◌≡◌, take, IfOk, ◌<◌, ◌≤◌, length};
 ghost use Rattle.mh_tree.specs.Handle.{IsDeclared};
+ghost use Rattle.mh_pic.specs.Chains.{chain as chain_of, IsFaithful, MayChain, points as points_of};
+ghost use Rattle.mh_type.specs.Kinds.{kind_of};
 ghost use Rattle.mh_tree.specs.Limits.{depth, size};
 ghost use Rattle.mh_tree.specs.Tree.{guard as guard_tree};
 ghost use Rattle.mh_tree.specs.Typing.{kind_at};
-ghost use Rattle.mh_pic.specs.Chains.{chain as chain_of, points as points_of, MayChain};
 ghost use Rattle.mh_pic.specs.Keys.{key_test as key_test_of};
 ghost use Rattle.mh_pic.specs.Specialised.{specialised};
 ghost use Rattle.mh_type.specs.Limits.{most_parameters};
@@ -18,8 +17,74 @@ use crate::key_tests::key_test;
 use crate::specialising::specialise_changed;
 use mh_base::NoMemory;
 use mh_code::Prepared;
-use mh_tree::Handle;
+use mh_tree::{Declared, Handle};
 use std::alloc::Global;
+
+/// The inline cache of a site with this base tree (Hölzle, Chambers and Ungar, Optimizing
+/// Dynamically-Typed Object-Oriented Languages With Polymorphic Inline Caches, 1991).
+///
+/// *Type*: the base's.
+///
+/// *Pseudo-code*: for the entries in order, `adapter(a..) = if a[key_place] == key { if valid[needs[0]]
+/// && .. { specialised(a..) } else { base(a..) } } else { the rest of the entries, and last
+/// base(a..) }`, where `specialised` is what `specialise` makes of the base.
+///
+/// *Example*: over a base of type `(int)int` with point 0, the one entry of key 1 and need 0 makes
+/// `guard(ieq behind 1, point(0, the base for 1 without point 0, base), base)`.
+///
+/// The handle gives what the base gives, whichever points are valid. It takes time linear in the
+/// size of the base, for each entry. `may_chain` tests what it asks for: there are at most 4
+/// entries, each of at most 8 needs; the key place is a parameter, and each key is of its kind.
+pub fn chain(
+    alloc: Global,
+    base: &Declared,
+    key_place: usize,
+    entries: &[Entry],
+) -> Result<Handle, NoMemory>
+    requires may { MayChain base.now.signature key_place entries.now }
+    ensures value { IfOk result (λ h. h ≡ record {
+      tree = chain_of
+          (take key_place base.now.signature.parameters) base.now.tree entries.now;
+      signature
+          = base.now.signature;
+    }) }
+    ensures faithful { IfOk result (λ h. IsFaithful h.tree base.now.tree base.now.signature) }
+{
+    let base = base.handle();
+    // The type is the tree's, and has at most 16 parameters.
+    let _typed = base.method_type().parameters();
+    let cache = chain_over(alloc, base, key_place, entries)?;
+    Ok(cache)
+}
+
+// The cache over a base that is within the limits of declared trees.
+fn chain_over(
+    alloc: Global,
+    base: &Handle,
+    key_place: usize,
+    entries: &[Entry],
+) -> Result<Handle, NoMemory>
+    requires declared { IsDeclared base.now }
+    requires may { MayChain base.now.signature key_place entries.now }
+    ensures value { IfOk result (λ h. h ≡ record {
+      tree = chain_of
+          (take key_place base.now.signature.parameters) base.now.tree entries.now;
+      signature
+          = base.now.signature;
+    }) }
+{
+    let prepared = Prepared::new(alloc, base)?;
+    let chained = prepared_chain(alloc, &prepared, key_place, entries)?;
+    let cache = handle_of(&chained)?;
+    Ok(cache)
+}
+
+// The handle without its code.
+fn handle_of(prepared: &Prepared) -> Result<Handle, NoMemory>
+    ensures value { IfOk result (λ h. h ≡ prepared.now) }
+{
+    prepared.handle().share()
+}
 
 /// The inline cache of `chain` with its code, in which the base's code stands once: only key tests
 /// and specialised trees are prepared. The base is within the limits of declared trees; the rest is
@@ -40,8 +105,7 @@ pub fn prepared_chain(
     }) }
 {
     let Some((entry, rest)) = entries.split_first() else {
-        let cache = base.share().map_err(|_| NoMemory)?;
-        return Ok(cache);
+        return base.share();
     };
     let others = prepared_chain(alloc, base, key_place, rest)?;
     let cache = link(alloc, base, key_place, entry, &others)?;
@@ -74,7 +138,7 @@ fn link(
 {
     let handle = base.handle();
     let before = &handle.method_type().parameters()[..key_place];
-    let test = prepare(alloc, &key_test(alloc, before, entry.key())?)?;
+    let test = Prepared::new(alloc, &key_test(alloc, before, entry.key())?)?;
     let target = specialised_base(alloc, base, key_place, entry)?;
     let target = points(alloc, entry.needs(), &target, base)?;
     let cache = expect_made(Prepared::guard(alloc, &test, &target, others))?;
@@ -96,16 +160,9 @@ fn specialised_base(
     }) }
 {
     match specialise_changed(alloc, base.handle(), entry.needs(), key_place, entry.key())? {
-        Some(made) => prepare(alloc, &made),
-        None => base.share().map_err(|_| NoMemory),
+        Some(made) => Prepared::new(alloc, &made),
+        None => base.share(),
     }
-}
-
-// A handle with its code.
-pub(crate) fn prepare(alloc: Global, handle: &Handle) -> Result<Prepared, NoMemory>
-    ensures value { IfOk result (λ p. p ≡ handle.now) }
-{
-    Prepared::new(alloc, handle).map_err(|_| NoMemory)
 }
 
 // The target while all these points are valid, and the base from when one is not.
@@ -127,8 +184,7 @@ fn points(
     }) }
 {
     let Some((need, rest)) = needs.split_first() else {
-        let same = target.share().map_err(|_| NoMemory)?;
-        return Ok(same);
+        return target.share();
     };
     let inner = points(alloc, rest, target, base)?;
     let switched = expect_made(Prepared::point(alloc, *need, &inner, base))?;

@@ -1,6 +1,6 @@
 -- What becomes of a value: it chooses one of two, the first by true alone, or it is put as the local of a place.
 use Rattle.std.specs.Prelude.{◌≡◌, ℕ, Bool, true, false, List}
-use Rattle.mh_code.specs.Runs.{put}
+use Rattle.mh_code.specs.inner.Runs.{put}
 use Rattle.mh_type.specs.declared.outcome.Outcome.{Outcome}
 use Rattle.mh_type.specs.declared.outcome.Outcome.TheVariants as outcome
 use Rattle.mh_type.specs.declared.value.Value.{Value}

@@ -10,12 +10,12 @@ IsIn n d (Argument i) = i < n
 IsIn n d (Local i) = i < d
 IsIn n d (Constant x) = Unit {0}
 
--- the same of each operand
+-- each operand is a constant, or one of n arguments or of d locals
 abbrev pub AllIn : ℕ → ℕ → List Operand → Type 0
 AllIn n d [] = Unit {0}
 AllIn n d (o ∷ rest) = IsIn n d o × AllIn n d rest
 
--- The same of code, which names some of k points. It invokes sites as C allows, a site with a number of arguments.
+-- Code that names some of n arguments, d locals and k points. It invokes sites as C allows, a site with a number of arguments.
 abbrev pub IsScoped : (ℕ → ℕ → Type 0) → ℕ → ℕ → ℕ → Code → Type 0
 IsScoped C k n d (leaf s o) = IsIn n d o
 IsScoped C k n d (apply s op x y) = IsIn n d x × IsIn n d y

@@ -1,7 +1,7 @@
 -- Routines that run with no further memory: what runs gives no text, and joins none.
 use Rattle.std.specs.Prelude.{◌≡◌, ℕ, ◌+◌, max, List, [], ◌∷◌, map}
 use Rattle.mh_code.specs.Routine.{Source, operand, operation, invocation, Routine, give, keep, pick, switch, Purpose, answer, local, truth, untruth}
-use Rattle.mh_code.specs.Runs.{source_outcome, put}
+use Rattle.mh_code.specs.inner.Runs.{source_outcome, put}
 use Rattle.mh_eval.specs.Entered.{WithValue, Chosen, OneOf, plain_below}
 use Rattle.mh_eval.specs.Quiet.{NoTexts}
 use Rattle.mh_tree.specs.Meaning.{is_valid}
@@ -18,7 +18,7 @@ IsSourceQuiet v (operand o) a l = kind_of (value_of a l o) ≡ kind.Text → ⊥
 IsSourceQuiet v (operation op x y) a l = op ≡ Concat → ⊥
 IsSourceQuiet v (invocation s os) a l = NoTexts (map (value_of a l) os) × plain_below v.level v.valid v.targets s (map (value_of a l) os)
 
--- the same of a source whose truth chooses: an operand is only read
+-- IsSourceQuiet for a source whose truth chooses: an operand is only read
 abbrev pub IsTestQuiet : Setting → Source → List Value → List Value → Type 0
 IsTestQuiet v (operand o) a l = Unit {0}
 IsTestQuiet v (operation op x y) a l = IsSourceQuiet v (operation op x y) a l

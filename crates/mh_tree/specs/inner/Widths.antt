@@ -15,7 +15,7 @@ pub record CanRun (t : Tree) (width : ℕ) (x : Setting) : Type 0 where
   pub small : most_steps (most_at x.level) t ≤ greatest_steps
   pub invokes : EachInvoke (MayReach x.level x.targets (length x.valid)) t
 
--- the same of filters from place p on
+-- filters from place p on: each place is that of an argument, and each filter that is there can run on one
 abbrev pub CanFilter : Filters → ℕ → ℕ → Setting → Type 0
 CanFilter no_more p width x = Unit {0}
 CanFilter (absent fs) p width x = (p < width) × CanFilter fs (p + 1) width x

@@ -1,14 +1,14 @@
 -- What running a routine r on arguments a, with locals l and after m steps, leads to.
 use Rattle.std.specs.Prelude.{◌≡◌, ℕ, ◌+◌, ◌≤◌, List, [], length, Result, IfOk, IsOk}
 use Rattle.mh_code.specs.Routine.{Source, Routine}
-use Rattle.mh_code.specs.Runs.{source_outcome, source_steps, source_weight, run_routine, routine_steps, weight}
-use Rattle.mh_code.specs.Scope.{IsRoutineIn}
+use Rattle.mh_code.specs.inner.Runs.{source_outcome, source_steps, source_weight, run_routine, routine_steps, weight}
+use Rattle.mh_code.specs.inner.Scope.{IsRoutineIn}
 use Rattle.mh_eval.specs.Answers.{Ran}
-use Rattle.mh_run.specs.Limits.{lower_room}
+use Rattle.mh_run.specs.inner.Limits.{lower_room}
 use Rattle.mh_eval.specs.Quiet.{IsAnswered}
 use Rattle.mh_eval.specs.declared.answer.Answer.{Answer}
 use Rattle.mh_eval.specs.declared.answer.Answer.TheVariants.{Thrown, NoMemory}
-use Rattle.mh_run.specs.Quiet.{IsSourceQuiet, IsRoutineQuiet, slots}
+use Rattle.mh_run.specs.inner.Quiet.{IsSourceQuiet, IsRoutineQuiet, slots}
 use Rattle.mh_tree.specs.Sites.{Setting, env, MayCall, most_at, greatest_steps}
 use Rattle.mh_type.specs.declared.outcome.Outcome.{Outcome}
 use Rattle.mh_type.specs.declared.outcome.Outcome.TheVariants as outcome
@@ -51,12 +51,12 @@ pub record Leaves (v : Setting) (a l : List Value) (r : Routine) (m : ℕ) (k : 
 abbrev pub most_own : ℕ
 most_own = 1310720
 
--- the same as MayRun after m steps of its own alone, which a word counts
+-- MayRun after m steps of its own alone, which a word counts
 pub record MayGo (v : Setting) (a l : List Value) (r : Routine) (m : ℕ) : Type 0 where
   pub run : MayRun v a l r m
   pub own : m + weight 0 r ≤ most_own
 
--- the same as Leaves, with no step of an invocation
+-- Leaves, with no step of an invocation
 pub record Goes (v : Setting) (a l : List Value) (r : Routine) (m : ℕ) (k : List Value) (q : Routine) (n : ℕ) : Type 0 where
   pub leaves : Leaves v a l r m k q n
   pub own : n + weight 0 q ≤ m + weight 0 r

@@ -14,10 +14,11 @@ ghost use Rattle.mh_base.specs.Tests.{Refuses};
 
 use crate::book::Book;
 use crate::limits::{MOST_PLANS, MOST_SNAPSHOTS};
-use crate::plan::SharedPlan;
 use crate::problem::gains_fit;
 use crate::record::Record;
 use crate::refusal::Refusal;
+use crate::shared_plan::SharedPlan;
+use mh_base::are_below;
 use mh_cert::{CheckFault, Plan, check};
 use mh_ledger::Ledger;
 use mh_network::Problem;
@@ -35,7 +36,7 @@ impl Book {
         self.records.len().saturating_add(calls) as u64 >= self.limits.history()
     }
 
-    // The tests of a record that is no flush, of which the first that fails is reported.
+    // The tests of a record that is no flush: reports the first that fails.
     pub(crate) fn test(&self, calls: usize, entry: &Record) -> Result<(), Refusal>
         requires other { IsNoFlush entry.now }
         ensures passes { OnOk result (MayTake self.now calls entry.now) }
@@ -51,7 +52,7 @@ impl Book {
         }
     }
 
-    // The tests of a flush, of which the first that fails is reported.
+    // The tests of a flush: reports the first that fails.
     pub(crate) fn test_flush(&self, calls: usize, ledger: &Ledger) -> Result<(), Refusal>
         requires held { Holds self.now.totals ledger.now }
         ensures passes { OnOk result (MayTake self.now calls (Flushed ledger.now.worker (hits_in ledger.now.unflushed))) }
@@ -67,7 +68,7 @@ impl Book {
         Ok(())
     }
 
-    // The tests of a retargeting, of which the first that fails is reported.
+    // The tests of a retargeting: reports the first that fails.
     fn test_target(&self, calls: usize, site: usize, tree: &Declared) -> Result<(), Refusal>
         ensures passes { OnOk result (MayTake self.now calls (Targeted site tree.now)) }
         ensures refuses { IfErr result
@@ -94,13 +95,13 @@ impl Book {
         Ok(())
     }
 
-    // The tests of an invalidation, of which the first that fails is reported.
+    // The tests of an invalidation: reports the first that fails.
     fn test_points(&self, calls: usize, points: &Listing<u32>) -> Result<(), Refusal>
         ensures passes { OnOk result (MayTake self.now calls (Invalidated points.now)) }
         ensures refuses { IfErr result
             (λ told. MayRefuse self.now calls (Invalidated points.now) told) }
     {
-        if !all_below(points.as_slice(), self.definition.points().len()) {
+        if !are_below(points.as_slice(), self.definition.points().len()) {
             return Err(Refusal::NoPoint);
         }
         if self.is_full(calls) {
@@ -109,7 +110,7 @@ impl Book {
         Ok(())
     }
 
-    // The tests of a snapshot, of which the first that fails is reported.
+    // The tests of a snapshot: reports the first that fails.
     fn test_snapshot(&self, calls: usize) -> Result<(), Refusal>
         ensures passes { OnOk result (MayTake self.now calls Snapped) }
         ensures refuses { IfErr result
@@ -125,7 +126,7 @@ impl Book {
         Ok(())
     }
 
-    // The tests of a plan that is offered, of which the first that fails is reported.
+    // The tests of a plan that is offered: reports the first that fails.
     fn test_publish(&self, calls: usize, snapshot: usize, plan: &SharedPlan) -> Result<(), Refusal>
         ensures passes { OnOk result (MayTake self.now calls (Published snapshot plan.now)) }
         ensures refuses { IfErr result
@@ -148,7 +149,7 @@ impl Book {
         self.is_full(calls) || self.plans.len() >= MOST_PLANS
     }
 
-    // The tests of an installation, of which the first that fails is reported.
+    // The tests of an installation: reports the first that fails.
     fn test_install(&self, calls: usize, plan: usize) -> Result<(), Refusal>
         ensures passes { OnOk result (MayTake self.now calls (Installed plan)) }
         ensures refuses { IfErr result
@@ -166,13 +167,6 @@ impl Book {
         }
         Ok(())
     }
-}
-
-// Whether each number is below the bound.
-pub(crate) fn all_below(numbers: &[u32], bound: usize) -> bool
-    ensures value { IsTrue result ↔ All (λ n. n < bound) numbers.now }
-{
-    numbers.iter().all(|number| (*number as usize) < bound)
 }
 
 // Whether a plan matches its problem, or its first part that is wrong.

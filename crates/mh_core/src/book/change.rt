@@ -6,16 +6,16 @@ ghost use Rattle.mh_core.specs.Books.{MayTake, Rejects, Takes, reply_to};
 ghost use Rattle.mh_core.specs.Pending.{HasEffect, IsNoFlush, IsReady, SameBook, control_of};
 ghost use Rattle.mh_core.specs.Problems.{IsTaken, problem_at};
 ghost use Rattle.mh_core.specs.Rows.{HasRoomForPlan};
-ghost use Rattle.mh_core.specs.declared.pending.Effect.TheVariants.{World};
+ghost use Rattle.mh_core.specs.declared.book.change.Effect.TheVariants.{World};
 ghost use Rattle.mh_core.specs.declared.record.Record.TheVariants.{Snapped, Published};
 ghost use Rattle.mh_core.specs.declared.reply.Reply.TheVariants.{Done};
 ghost use Rattle.mh_site.specs.declared.control.Control.TheVariants.{Target, Invalidate};
 
 use crate::book::Book;
-use crate::plan::{PublishedPlan, SharedPlan};
 use crate::record::Record;
 use crate::refusal::Refusal;
 use crate::reply::Reply;
+use crate::shared_plan::{PublishedPlan, SharedPlan};
 use crate::snapshot::Snapshot;
 use mh_base::NoMemory;
 use mh_site::{Control, Listing, Retargeting};
@@ -242,7 +242,7 @@ fn retargeting(alloc: Global, site: usize, tree: &Declared) -> Result<(Effect, R
     ensures value { IfOk result (λ p. (p.0 ≡ World (Target record { site = site; tree = tree.now }))
         × (p.1 ≡ Done)) }
 {
-    let base = tree.share().map_err(|_| NoMemory)?;
+    let base = tree.share()?;
     let control = Control::Target(Retargeting::new(alloc, site, base)?);
     Ok((Effect::World(control), Reply::Done))
 }
@@ -259,6 +259,5 @@ fn invalidation(points: &Listing<u32>) -> Result<(Effect, Reply), NoMemory>
 fn share_control(control: &Control) -> Result<Option<Control>, NoMemory>
     ensures value { IfOk result (λ c. c ≡ Some control.now) }
 {
-    let shared = control.share().map_err(|_| NoMemory)?;
-    Ok(Some(shared))
+    Ok(Some(control.share()?))
 }

@@ -2,7 +2,7 @@ use Rattle.std.proofs.Common.{rules, ◌≡◌, ap, sym, subst, ◌∙◌, take}
 use Rattle.mh_tree.specs.Handle.{TypedTree}
 use Rattle.mh_pic.specs.Chains.{chain, IsFaithful}
 use Rattle.mh_pic.specs.Laws.Chains.{chain_faithful}
-use Rattle.mh_pic.proofs.chaining.chain.Goals as goal
+use Rattle.mh_pic.proofs.chains.chain.Goals as goal
 
 pub returns-clause-faithful : goal.returns-clause-faithful
 returns-clause-faithful c =

@@ -4,7 +4,7 @@ use Rattle.mh_tree.specs.Typing.{IsTyped}
 use Rattle.mh_pic.specs.Specialised.{specialised}
 use Rattle.mh_pic.proofs.Linking.{tested, cached, specialised_declared, link_passed}
 use Rattle.mh_pic.proofs.Passing.{memory_alone, settled}
-use Rattle.mh_pic.proofs.prepared_chaining.link.Goals as goal
+use Rattle.mh_pic.proofs.chains.link.Goals as goal
 
 pub points-requires-clause-first : goal.points-requires-clause-first
 points-requires-clause-first c =

@@ -1,5 +1,5 @@
 use Rattle.std.proofs.Common.{length}
-use Rattle.mh_pic.proofs.prepared_chaining.+points.Given as goal
+use Rattle.mh_pic.proofs.chains.+points.Given as goal
 
 abbrev pub decreases-points : goal.decreases-points
 decreases-points l = length l.needs.now

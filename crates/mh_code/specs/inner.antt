@@ -1,0 +1,6 @@
+-- Definitions that the clauses of private functions alone use: no promise asks for them to be read.
+pub mod Entries
+pub mod Negations
+pub mod PurposeOf
+pub mod Runs
+pub mod Scope

@@ -1,0 +1,6 @@
+-- Definitions that the clauses of private functions alone use: no promise asks for them to be read.
+pub mod Levels
+pub mod Limits
+pub mod Picks
+pub mod Quiet
+pub mod Runs
