@@ -20,10 +20,12 @@ pub enum Answer {
     NoMemory,
 }
 
-// An answer as the outcome that it is, with the steps. A text returns first, so that its outcome is
-// written by one store in place of several.
+// A text returns first, so that its outcome is written by one store in place of several.
+/// An answer as the outcome that it is, with the steps.
+///
+/// Fails only for an answer that is a refusal of memory.
 #[inline]
-pub(crate) fn outcome_of(answer: Answer, steps: u128) -> Result<(Outcome, u128), NoMemory>
+pub fn outcome_of(answer: Answer, steps: u128) -> Result<(Outcome, u128), NoMemory>
     ensures outcome { (o : Outcome) → (m : ℕ) → Ran answer steps o m → IfOk result (λ r. r.0 ≡ o) }
     ensures steps { (o : Outcome) → (m : ℕ) → Ran answer steps o m → IfOk result (λ r. r.1 ≡ m) }
     ensures few { (m : ℕ) → steps ≤ m → IfOk result (λ r. r.1 ≤ m) }

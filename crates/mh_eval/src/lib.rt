@@ -21,7 +21,7 @@ mod invoking;
 mod operations;
 mod stack;
 
-pub use answer::Answer;
+pub use answer::{Answer, outcome_of};
 pub use evaluating::evaluate;
 pub use evaluator::eval;
 pub use fault::Unevaluated;

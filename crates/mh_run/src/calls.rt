@@ -13,12 +13,11 @@ use crate::forwarding::{Reached, reach};
 use crate::here::Here;
 use crate::levels::Lower;
 use crate::locals::read;
-use crate::outcome::outcome_of;
 use crate::running::run_on;
 use crate::stack::Stack;
 use mh_base::NoMemory;
 use mh_code::{Piece, Prepared};
-use mh_eval::{Answer, operate, outcome_of_number};
+use mh_eval::{Answer, operate, outcome_of, outcome_of_number};
 use mh_type::{Outcome, Value};
 
 /// The outcome of a prepared handle's tree on arguments, and the number of its nodes entered, where

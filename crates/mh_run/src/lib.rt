@@ -21,7 +21,6 @@ mod here;
 mod levels;
 mod locals;
 mod numbers;
-mod outcome;
 mod running;
 mod stack;
 
