@@ -1,7 +1,7 @@
 pub mod Height
-pub mod KeptCode
 pub mod Laws
 pub mod PieceOf
+pub mod Prepared
 pub mod Routine
 pub mod RoutineOf
 pub mod Rows

@@ -42,7 +42,7 @@ impl Model for Prepared {
 
     ghost coded = { coded_typed_tree };
 
-    ghost use Rattle.mh_code.specs.KeptCode.{kept_handle, IsPrepared};
+    ghost use Rattle.mh_code.specs.Prepared.{kept_handle, IsPrepared};
 
     ghost view = { kept_handle };
 

@@ -9,8 +9,8 @@ use Rattle.mh_flow.specs.Carried.{row_at, number_at}
 use Rattle.mh_flow.specs.Layers.{IsPushed}
 use Rattle.mh_flow.specs.Levels.{IsLower}
 use Rattle.mh_flow.specs.LayerData.{LayerData, IsLayerRun, IsEnd, IsPathPushed}
-use Rattle.mh_flow.specs.Over.{IsOpen, IsOver, IsSameLevels}
-use Rattle.mh_flow.specs.Spent.{IsPhase, IsSpent, IsSpentForth, IsSpentBack}
+use Rattle.mh_flow.specs.inner.Over.{IsOpen, IsOver, IsSameLevels}
+use Rattle.mh_flow.specs.inner.Spent.{IsPhase, IsSpent, IsSpentForth, IsSpentBack}
 use Rattle.mh_flow.proofs.Phases.{levelling_kept, IsBlocked}
 
 pub spent_pushed : (old new : List NeedRow) (left left' links points lp pp : List ℕ) (top p d : ℕ) → IsSpent old left links points lp pp →

@@ -13,9 +13,9 @@ use Rattle.mh_flow.specs.Carried.{row_at, no_row, number_at}
 use Rattle.mh_flow.specs.Charged.{paid_charges}
 use Rattle.mh_flow.specs.Levels.{far}
 use Rattle.mh_flow.specs.LayerData.{LayerData, IsLayerRun, IsSameFlow, IsSinkLevel}
-use Rattle.mh_flow.specs.Over.{IsOpen, IsOver, IsSameLevels, IsRaised, IsBetween}
+use Rattle.mh_flow.specs.inner.Over.{IsOpen, IsOver, IsSameLevels, IsRaised, IsBetween}
 use Rattle.mh_flow.specs.Run.{IsLayered, is_reached, positive_rows}
-use Rattle.mh_flow.specs.Spent.{IsPhase}
+use Rattle.mh_flow.specs.inner.Spent.{IsPhase}
 use Rattle.mh_flow.proofs.Answered.{positive_flow, positive_some, positive_ordered, answered_equal, answered_least}
 use Rattle.mh_flow.proofs.Blocked.{over_blocked, open_link, open_point}
 use Rattle.mh_flow.proofs.Paying.{paid_ordered, paid_positive}

@@ -13,7 +13,7 @@ use Rattle.mh_flow.specs.Distances.{AreDistances}
 use Rattle.mh_flow.specs.FlowData.{FlowData}
 use Rattle.mh_flow.specs.LayerData.{LayerData, IsEnd, IsLayerRun, IsSameFlow, IsSinkLevel}
 use Rattle.mh_flow.specs.Levels.{far}
-use Rattle.mh_flow.specs.Over.{IsOver}
+use Rattle.mh_flow.specs.inner.Over.{IsOver}
 use Rattle.mh_flow.specs.Phases.{IsUpward, Pushes, IsPhased, Phases, IsRunOf}
 use Rattle.mh_flow.specs.Run.{IsLayered, positive_rows}
 use Rattle.mh_flow.proofs.Answered.{positive-sum}

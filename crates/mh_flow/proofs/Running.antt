@@ -15,7 +15,7 @@ use Rattle.mh_flow.specs.Chains.{IsChained}
 use Rattle.mh_flow.specs.Layers.{IsPushed}
 use Rattle.mh_flow.specs.Levels.{IsInRange, far}
 use Rattle.mh_flow.specs.Run.{IsRun, needs_below}
-use Rattle.mh_flow.specs.Spent.{IsSpent}
+use Rattle.mh_flow.specs.inner.Spent.{IsSpent}
 use Rattle.mh_flow.specs.Spreads.{link_key, point_key}
 use Rattle.mh_flow.specs.LayerData.{IsLayerRun}
 use Rattle.mh_flow.proofs.Chaining.{chained_same}

@@ -10,7 +10,7 @@ use Rattle.mh_flow.specs.Carried.{row_at, no_row, number_at}
 use Rattle.mh_flow.specs.Chains.{IsLastBelow}
 use Rattle.mh_flow.specs.Layers.{IsPath, IsFirst, IsWalk, IsTurn}
 use Rattle.mh_flow.specs.Levels.{far, IsInRange, IsLower}
-use Rattle.mh_flow.specs.Spent.{IsPhase, IsSpent, IsSpentForth, IsSpentBack, IsRowBack}
+use Rattle.mh_flow.specs.inner.Spent.{IsPhase, IsSpent, IsSpentForth, IsSpentBack, IsRowBack}
 use Rattle.mh_flow.specs.Spreads.{link_key, point_key}
 
 pub walk_more : (rows : List NeedRow) (links points : ℕ → ℕ) (p q : ℕ) (turns : List Turn) (forth back : ℕ) → IsWalk rows links points p turns q → IsTurn rows links points q forth back →

@@ -3,7 +3,7 @@
 ghost use Rattle.std.specs.Prelude.{◌<◌, ℕ, OnOk};
 ghost use Rattle.mh_flow.specs.LayerData.{IsLayerRun};
 ghost use Rattle.mh_flow.specs.Levels.{far};
-ghost use Rattle.mh_flow.specs.Over.{IsOpen, IsOver, IsSameLevels};
+ghost use Rattle.mh_flow.specs.inner.Over.{IsOpen, IsOver, IsSameLevels};
 ghost use Rattle.mh_flow.specs.Phases.{Pushes};
 
 use crate::layer_run::LayerRun;

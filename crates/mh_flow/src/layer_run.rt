@@ -12,7 +12,7 @@ ghost use Rattle.mh_flow.specs.Layers.{IsPath, room};
 ghost use Rattle.mh_flow.specs.Levels.{far, IsLower};
 ghost use Rattle.mh_flow.specs.Phases.{IsSentAlong};
 ghost use Rattle.mh_flow.specs.Run.{IsLayered, is_reached, positive_rows};
-ghost use Rattle.mh_flow.specs.Spent.{IsPhase, IsSpent};
+ghost use Rattle.mh_flow.specs.inner.Spent.{IsPhase, IsSpent};
 
 use crate::levels::{UNREACHED, levels_from, sink_level, unreached};
 use crate::need_row::NeedRow;
@@ -48,7 +48,7 @@ impl<'p> Model for LayerRun<'p> {
 
     ghost Value = { LayerData };
 
-    ghost use Rattle.mh_flow.specs.LayerView.{layer_data, IsKept};
+    ghost use Rattle.mh_flow.specs.LayerData.{layer_data, IsKept};
 
     ghost view = { layer_data };
 

@@ -1,8 +1,9 @@
 -- What the ledger of a worker counts for each link, as the counters of the cases of an inline cache do
 -- (Hölzle, Chambers, Ungar 1991), and what the totals keep of all workers.
-use Rattle.std.specs.Prelude.{ℕ, ◌+◌, ◌≡◌, ◌<◌, ◌≤◌, List, [], ◌∷◌, length, replicate, slice_index_or, slice_set}
+use Rattle.std.specs.Prelude.{ℕ, ◌+◌, ◌≡◌, ◌<◌, ◌≤◌, List, [], ◌∷◌, length, replicate, slice_index_or, slice_set, map}
 use Rattle.std.specs.List.{All, sum_by}
 use Rattle.mh_ledger.specs.Limits.{greatest_limit}
+use Rattle.mh_ledger.specs.declared.totals.Totals.TheInside.{Inside}
 
 -- the number at a place
 abbrev pub at : List ℕ → ℕ → ℕ
@@ -87,3 +88,7 @@ HasRoom t l = (j : ℕ) → j < length t.total → at t.total j + at l.unflushed
 -- after the flush of this ledger
 abbrev pub flushed_into : TotalsState → LedgerState → TotalsState
 flushed_into t l = record { limit = t.limit; total = added t.total l.unflushed; shares = slice_set t.shares l.worker (added (share_of t l.worker) l.unflushed) }
+
+-- totals as plain data
+abbrev pub totals_state : Inside → TotalsState
+totals_state t = record { limit = t.limit; total = t.totals.items; shares = map (λ share. share.items) t.shares.items }

@@ -5,4 +5,3 @@ pub mod Ledgers
 pub mod Limits
 pub mod Renewals
 pub mod Resumptions
-pub mod TotalsViews

@@ -42,7 +42,7 @@ impl Model for Totals {
 
     ghost coded = { coded_totals };
 
-    ghost use Rattle.mh_ledger.specs.TotalsViews.{totals_state};
+    ghost use Rattle.mh_ledger.specs.Ledgers.{totals_state};
 
     ghost view = { totals_state };
 

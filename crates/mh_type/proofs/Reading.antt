@@ -38,7 +38,7 @@ then_kinds seen read = read >>= λ ks. Some (seen ++ ks)
 abbrev pub kinds_between : List ℕ → Option (List Kind)
 kinds_between bytes = kinds_named (slice_split is_comma bytes)
 
--- where the reading of a list stands after n names: the kinds so far, of which the first 16 are in the type
+-- where the reading of a list stands after n names: the kinds so far; the type has the first 16 of them
 pub record ReadSoFar (ret : Kind) (list : List ℕ) (made : Signature) (fits : Bool) (n : ℕ) : Type 0 where
   pub seen : List Kind
   pub made_is : made ≡ record { ret = ret; parameters = take 16 seen }

@@ -1,6 +1,6 @@
 use Rattle.std.proofs.Common.{◌≡◌, ◌<◌, ◌+◌, ◌-◌, ℕ, length, arith, sym, ap, inl, inr}
 use Rattle.mh_flow.specs.Carried.{number_at, row_at}
-use Rattle.mh_flow.specs.Spent.{IsSpentBack}
+use Rattle.mh_flow.specs.inner.Spent.{IsSpentBack}
 use Rattle.mh_flow.proofs.Chaining.{before_read}
 use Rattle.mh_flow.proofs.Searching.{spent_link}
 use Rattle.mh_flow.proofs.search.row_back.Goals as goal

@@ -2,9 +2,8 @@ use Rattle.std.proofs.Common.{◌≡◌, ◌+◌, ◌<◌, ◌≤◌, ◌^◌, �
 use Rattle.std.proofs.lemmas.Grind.{get_or_default_zero}
 use Rattle.std.proofs.lemmas.List.{length-map}
 use Rattle.std.specs.List.{All}
-use Rattle.mh_ledger.specs.Ledgers.{at, added, share_of, IsTotals, TotalsState}
+use Rattle.mh_ledger.specs.Ledgers.{at, added, share_of, IsTotals, TotalsState, totals_state}
 use Rattle.mh_ledger.specs.Renewals.{left_of}
-use Rattle.mh_ledger.specs.TotalsViews.{totals_state}
 use Rattle.mh_ledger.specs.Laws.Added.{length-added}
 use Rattle.mh_ledger.specs.Laws.Renewing.{lessened, lessened_sound, left_bounded, share_bounded, share_within}
 use Rattle.mh_ledger.proofs.Taken.{items_of, state_of}

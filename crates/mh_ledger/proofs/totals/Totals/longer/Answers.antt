@@ -1,7 +1,6 @@
 use Rattle.std.proofs.Common.{ap, map, refl, sym, subst, ◌≡◌, ◌∙◌}
-use Rattle.mh_ledger.specs.Ledgers.{IsTotals}
+use Rattle.mh_ledger.specs.Ledgers.{IsTotals, totals_state}
 use Rattle.mh_ledger.specs.Extensions.{longer}
-use Rattle.mh_ledger.specs.TotalsViews.{totals_state}
 use Rattle.mh_ledger.proofs.Extended.{extended_sound, made_totals}
 use Rattle.mh_ledger.proofs.Taken.{items_of}
 use Rattle.mh_ledger.proofs.totals.Totals.longer.Goals as goal

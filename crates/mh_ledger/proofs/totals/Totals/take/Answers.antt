@@ -1,6 +1,5 @@
 use Rattle.std.proofs.Common.{subst, sym, ap, ◌∙◌}
-use Rattle.mh_ledger.specs.Ledgers.{flushed_into, HasRoom, Holds, IsTotals, TotalsState}
-use Rattle.mh_ledger.specs.TotalsViews.{totals_state}
+use Rattle.mh_ledger.specs.Ledgers.{flushed_into, HasRoom, Holds, IsTotals, TotalsState, totals_state}
 use Rattle.mh_ledger.specs.Laws.Flushes.{flushed_sound}
 use Rattle.mh_ledger.proofs.Taken.{taken}
 use Rattle.mh_ledger.proofs.totals.Totals.take.Goals as goal

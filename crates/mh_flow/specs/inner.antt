@@ -1,0 +1,3 @@
+-- Definitions that the clauses of private functions alone use: no promise asks for them to be read.
+pub mod Over
+pub mod Spent
