@@ -5,7 +5,7 @@ local mhlink = require "mhlink"
 
 local SITES, POINTS, CALLS, ROUNDS = 8, 16, 25, tonumber(arg[1] or 1000)
 
--- The same numbers in each run.
+-- Each run draws the same numbers.
 local state = 1
 local function below(n)
   state = (state * 1103515245 + 12345) & 0x7fffffff

@@ -1,10 +1,10 @@
-//! The program `bench_calls`: makes calls of one kind many times, and tells what they gave and how
+//! The program `bench_calls`: makes calls of one kind many times, and writes what they gave and how
 //! long they took.
 //!
-//! `bench_calls WAY SUBJECT ROUNDS` makes so many calls, and with a fourth word `timed` also tells
+//! `bench_calls WAY SUBJECT ROUNDS` makes so many calls, and with a fourth word `timed` also writes
 //! their nanoseconds. `bench_calls table ROUNDS` does so in every way for every subject, untimed.
-//! `bench_calls answers SUBJECT` opens what calls need, writes `opened`, and then tells the answer of
-//! each call.
+//! `bench_calls answers SUBJECT` opens what calls need, writes `opened`, and then the answer of each
+//! call.
 #![tactic(auto)]
 
 mod answering;

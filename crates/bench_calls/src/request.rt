@@ -45,7 +45,7 @@ pub(crate) struct Calls {
     pub(crate) subject: Subject,
     /// Their number.
     pub(crate) rounds: u64,
-    /// Whether their nanoseconds are told.
+    /// Whether their nanoseconds are written.
     pub(crate) timed: bool,
 }
 

@@ -22,7 +22,7 @@ const ROUNDS_OF_A_FLUSH: u64 = 50;
 /// The most rounds of a worker.
 const MOST_ROUNDS: u64 = 1_000_000;
 
-/// Has each worker call in a thread of its own, until it is told that the calls may end.
+/// Each worker calls in a thread of its own, until a signal says that the calls may end.
 pub(crate) fn call_all<N: Name + Send + Sync, T: Clock + Threads + Wait + Sync>(
     rt: &T,
     live: &Live<N>,

@@ -1,10 +1,10 @@
 //! The program `bench_live`: many threads call a site again and again while one retargets it, and
-//! it tells how long both took.
+//! it writes how long both took.
 //!
 //! `bench_live WORKERS RETARGETINGS PAUSE` has so many workers, 1 to 64, each in a thread of its
 //! own, call `f(1)` of the README's first example until the main thread has given `f` an equal tree
 //! so many times, with so many nanoseconds between one and the next. With no retargeting it sleeps
-//! for a second and a half instead. A last word `timed` tells the calls, and the nanoseconds.
+//! for a second and a half instead. A last word `timed` writes the calls, and the nanoseconds.
 #![tactic(auto)]
 
 mod calling;

@@ -21,7 +21,7 @@ pub(crate) struct Request {
     pub(crate) retargetings: u64,
     /// The nanoseconds of waiting before each retargeting.
     pub(crate) pause: u64,
-    /// Whether the calls and the nanoseconds are told.
+    /// Whether the calls and the nanoseconds are written.
     pub(crate) timed: bool,
 }
 

@@ -8,7 +8,7 @@ use std::thread;
 use std::time::{Clock, Duration, Instant};
 
 /// The nanoseconds from which a pause is slept. A shorter one is spent at the clock, since a sleep
-/// takes longer than it is told.
+/// takes longer than it is asked to.
 const SHORTEST_SLEEP: u64 = 100_000;
 
 /// How long the calls go on where there is no retargeting beside them, in nanoseconds.
@@ -25,7 +25,7 @@ pub(crate) struct Retargetings {
     pub(crate) longest: u128,
 }
 
-/// Retargets once all are there, and tells the workers then that the calls may end.
+/// Retargets once all are there, and then signals to the workers that the calls may end.
 pub(crate) fn retarget_beside<N: Name, R: Clock + Wait>(
     rt: &R,
     live: &Live<N>,

@@ -4,7 +4,7 @@ use mh_live::{CallFault, FlushFault};
 use std::io;
 use thiserror::Error;
 
-/// Why a worker stopped before it was told that the calls may end.
+/// Why a worker stopped before the signal that the calls may end.
 #[derive(Clone, Copy, Debug, PartialEq, Eq, Error)]
 pub(crate) enum WorkFault {
     /// Some thread was not there when the calls were to begin.

@@ -1,8 +1,8 @@
 //! The program `refused_growths`: works of which a growth is refused from outside, while they run.
 //!
-//! `refused_growths SUBJECT` makes ready what a work needs, tells what stands, and writes `opened`.
-//! Then it does the work, writes `worked`, and tells what the work gave and what stands. It does the
-//! work again and tells the same. With no word it does so for every subject.
+//! `refused_growths SUBJECT` makes ready what a work needs, writes what stands, and `opened`. Then
+//! it does the work, writes `worked`, what the work gave, and what stands. It does the work again and
+//! writes the same. With no word it does so for every subject.
 //! `tools/refuse_growth` refuses each growth between `opened` and `worked` in turn.
 #![tactic(auto)]
 

@@ -1,4 +1,4 @@
-//! What is told before, between and after a work.
+//! What is written before, between and after a work.
 
 use mh_live::Ledger;
 use mh_live::mh_core::{Book, World};

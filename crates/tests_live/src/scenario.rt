@@ -1,4 +1,4 @@
-//! Scenarios: what an office and its passes are asked one after another, and what each tells.
+//! Scenarios: what an office and its passes are asked one after another, and what each answers.
 
 ghost use Rattle.std.specs.Prelude.{◌≡◌};
 
@@ -297,7 +297,7 @@ fn install<N: Name, R: Wait>(
     keep_or_tell(alloc, &mut running.receipts, told)
 }
 
-/// Asks, and answers what is told.
+/// Asks, and returns the answer.
 fn ask<N: Name, R: Wait + Threads + Sync>(
     rt: &R,
     alloc: Global,
@@ -327,8 +327,8 @@ fn ask<N: Name, R: Wait + Threads + Sync>(
     }
 }
 
-/// Asks all, and answers how many steps told what stands beside them, which are all of them: fails
-/// with what the first tells that does not.
+/// Asks all, and returns how many steps answered what stands beside them, which are all of them:
+/// fails with the first answer that is another.
 fn ask_all<N: Name, R: Wait + Threads + Sync>(
     rt: &R,
     alloc: Global,
@@ -365,8 +365,8 @@ fn play_named<N: Name, R: Wait + Threads + Sync>(
     ask_all(rt, alloc, &mut running, table)
 }
 
-/// Asks an office that is just opened, and its passes, what the table has, and answers how many
-/// steps told what stands beside them: all, or it fails with what the first tells that does not.
+/// Asks an office that is just opened, and its passes, what the table has, and returns how many
+/// steps answered what stands beside them: all, or it fails with the first answer that is another.
 pub(crate) fn play<R: Wait + Threads + Sync>(
     rt: &R,
     alloc: Global,

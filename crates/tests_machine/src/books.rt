@@ -176,10 +176,10 @@ fn install(book: &mut Book, plan: usize) -> Result<[usize; 2], Refusal> {
     Ok([report.sites.len(), report.left_out.len()])
 }
 
-/// What is told of the installation of a plan.
+/// The answer to the installation of a plan.
 type Installed = Result<[usize; 2], Refusal>;
 
-/// What is told of a plan that was not published, and of one that was.
+/// The answers of a plan that was not published, and of one that was.
 fn installations(book: &mut Book, plan: SharedPlan) -> Result<[Installed; 2], Fail> {
     book.publish(1, plan)?;
     let refused = install(book, 2);

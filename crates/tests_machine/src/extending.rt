@@ -70,7 +70,7 @@ fn a_new_site_is_called_and_counts(rt: HostRuntime) -> Result<(), Fail> {
     Ok(())
 }
 
-/// What an extension by a point, and a site of this name with this need, tells.
+/// The fault of an extension by a point, and a site of this name with this need.
 fn fault(
     alloc: Global,
     workers: u32,

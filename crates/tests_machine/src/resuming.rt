@@ -84,7 +84,7 @@ fn invalid_points_stay_invalid(rt: HostRuntime) -> Result<(), Fail> {
     Ok(())
 }
 
-/// What a resumption tells.
+/// The fault of a resumption.
 fn fault(
     alloc: Global,
     workers: u32,

@@ -78,7 +78,7 @@ fn numbers_below(alloc: Global, count: u32) -> Result<Vec<u32>, Fail> {
     Ok(numbers)
 }
 
-/// What the checker tells of the largest plan with this flow.
+/// The checker's answer to the largest plan with this flow.
 fn large_answer(alloc: Global, flow: &[Row]) -> Result<Option<CheckFault>, Fail> {
     let problem = large_problem(alloc)?;
     let links = numbers_below(alloc, 16_384)?;
@@ -87,7 +87,7 @@ fn large_answer(alloc: Global, flow: &[Row]) -> Result<Option<CheckFault>, Fail>
     answer(alloc, &problem, &links, &points, 0, flow, &charges)
 }
 
-/// What it tells of the whole flow, and where its first row stands there once more.
+/// Its answers to the whole flow, and to the flow with its first row there once more.
 fn large_answers(alloc: Global) -> Result<[Option<CheckFault>; 2], Fail> {
     let mut flow = large_flow(alloc)?;
     let whole = large_answer(alloc, &flow)?;
@@ -102,8 +102,8 @@ fn a_large_plan_is_checked(rt: HostRuntime) -> Result<(), Fail> {
     Ok(())
 }
 
-/// What the checker tells of the link of a problem, which gains 7 and has a charge of 3, where it
-/// pays so much.
+/// The checker's answer to a problem whose one link gains 7 and has a charge of 3, where it pays so
+/// much.
 fn charged_answer(alloc: Global, charges: &[(u32, u64)]) -> Result<Option<CheckFault>, Fail> {
     let row = LinkRow {
         gain: 7,

@@ -16,30 +16,24 @@ const DEPTH: usize = 200;
 /// The status of a run, and what it wrote on both streams.
 type Told = (u8, Vec<u8>, Vec<u8>);
 
-/// What is told of an input.
+/// The end of a run of an input.
 fn run<T: Threads + Wait + Sync>(rt: &T, alloc: Global, input: &[u8]) -> Told {
     let mut reader = Watched::new(input);
     let mut out = Watched::new(Vec::new(alloc));
     let mut err = Watched::new(Vec::new(alloc));
     let words = ["mhlink", "run"];
-    let status = command(
-        &Stage::silent(rt),
-        alloc,
-        &words,
-        &mut reader,
-        &mut out,
-        &mut err,
-    );
+    let stage = Stage::silent(rt);
+    let status = command(&stage, alloc, &words, &mut reader, &mut out, &mut err);
     (status, out.inner, err.inner)
 }
 
-/// Whether an input is told to be no JSON, and nothing else is.
+/// Whether an input is refused for being no JSON, and nothing else is written.
 fn is_no_json<T: Threads + Wait + Sync>(rt: &T, alloc: Global, input: &[u8]) -> bool {
     let (status, out, err) = run(rt, alloc, input);
     status == 1 && out.is_empty() && err.as_slice() == "fault 3 NotJson at 0\n".as_bytes()
 }
 
-/// The length of the first proper beginning of the script that is told otherwise.
+/// The length of the first proper beginning of the script that ends otherwise.
 fn first_other_beginning<T: Threads + Wait + Sync>(rt: &T, alloc: Global) -> Option<usize> {
     for length in 0..SCRIPT.len() {
         let (beginning, _) = SCRIPT.as_bytes().split_at(length);

@@ -44,7 +44,7 @@ impl Read for Closed {
 const FAULTY: &str =
     r#"{"definition":{"version":2,"points":[],"sites":[{"name":"f","type":"(int)int","target":["insert",["op","ineg"],1,[5]]}]},"workers":1,"events":[]}"#;
 
-/// What is told of it.
+/// Its fault, explained.
 const EXPLAINED: &str = r#"fault 7 Tree 2 at 0
   where: definition.sites[0].target
   found: ["insert",["op","ineg"],1,[5]]
@@ -55,11 +55,11 @@ const EXPLAINED: &str = r#"fault 7 Tree 2 at 0
 const NOTED: &str =
     r#"{"definition":{"version":2,"points":[],"sites":[{"name":"f","type":"(int)int","target":["op","ineg"],"lnks":[]}]},"workers":1,"events":[["call",0,"f",[7]]]}"#;
 
-/// What is told of it.
+/// The note on it.
 const NOTE: &str = "note: definition.sites[0].lnks is not read; is \"links\" meant?\n";
 
-/// The status of a run that explains, with so much room for what it tells; what it wrote, and what
-/// it told.
+/// The status of a run that explains, with so much room on standard error, and what stands on both
+/// streams.
 fn run_into<T: Threads + Wait + Sync>(
     rt: &T,
     alloc: Global,
@@ -74,20 +74,14 @@ fn run_into<T: Threads + Wait + Sync>(
         room,
     });
     let words = ["mhlink", "run", "--explain"];
-    let status = command(
-        &Stage::silent(rt),
-        alloc,
-        &words,
-        &mut reader,
-        &mut out,
-        &mut err,
-    );
+    let stage = Stage::silent(rt);
+    let status = command(&stage, alloc, &words, &mut reader, &mut out, &mut err);
     drop(err);
     (status, out.inner, held)
 }
 
-/// The first room for what is told, less than all of it, with which a run ends otherwise than with
-/// status 3 and a beginning of that told, or writes something else.
+/// The first room on standard error, less than all that goes there, with which a run ends otherwise
+/// than with status 3 and a beginning of it, or writes something else.
 fn first_other_end<T: Threads + Wait + Sync>(
     rt: &T,
     alloc: Global,
@@ -123,20 +117,14 @@ fn a_failed_write_of_a_note_has_status_3(rt: HostRuntime) -> Result<(), Fail> {
     Ok(())
 }
 
-/// The status of a run with both options whose reader fails, and whether that alone is told.
+/// The status of a run with both options whose reader fails, and whether that is its one fault.
 fn run_from_closed<T: Threads + Wait + Sync>(rt: &T, alloc: Global) -> (u8, bool) {
     let mut reader = Watched::new(Closed);
     let mut out = Watched::new(Vec::new(alloc));
     let mut err = Watched::new(Vec::new(alloc));
     let words = ["mhlink", "run", "--explain", "--strict"];
-    let status = command(
-        &Stage::silent(rt),
-        alloc,
-        &words,
-        &mut reader,
-        &mut out,
-        &mut err,
-    );
+    let stage = Stage::silent(rt);
+    let status = command(&stage, alloc, &words, &mut reader, &mut out, &mut err);
     let told = "fault 10 ReadFailed at 0\n".as_bytes();
     (status, out.inner.is_empty() && err.inner.as_slice() == told)
 }

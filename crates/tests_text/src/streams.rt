@@ -143,7 +143,7 @@ const UNREAD: Fault = Fault {
     at: 0,
 };
 
-/// The first number of reads after which a failed one is told otherwise, or something is written.
+/// The first number of reads after which a failed one ends otherwise, or something is written.
 fn first_other_failed_read<T: Threads + Sync>(rt: &T, alloc: Global) -> Option<usize> {
     for reads_left in 0..SCRIPT.len() / 7 {
         let (answer, written, failed) = run_from(rt, alloc, reads_left);
@@ -174,18 +174,12 @@ fn command_from<T: Threads + Wait + Sync>(
     let mut out = Watched::new(Vec::new(alloc));
     let mut err = Watched::new(Vec::new(alloc));
     let words = ["mhlink", "run"];
-    let status = command(
-        &Stage::silent(rt),
-        alloc,
-        &words,
-        &mut reader,
-        &mut out,
-        &mut err,
-    );
+    let stage = Stage::silent(rt);
+    let status = command(&stage, alloc, &words, &mut reader, &mut out, &mut err);
     (status, out.inner, err.inner)
 }
 
-/// The first number of reads after which the command tells a failed one otherwise, or writes.
+/// The first number of reads after which the command ends a failed one otherwise, or writes.
 fn first_other_command_of_a_failed_read<T: Threads + Wait + Sync>(
     rt: &T,
     alloc: Global,
@@ -240,7 +234,7 @@ fn run_into<T: Threads + Sync>(
     }
 }
 
-/// The first room at whose end a failed write is told otherwise, or where not all that had room was
+/// The first room at whose end a failed write ends otherwise, or where not all that had room was
 /// written.
 fn first_other_failed_write<T: Threads + Sync>(
     rt: &T,
@@ -269,7 +263,7 @@ fn a_failed_write_is_told_at_its_event(rt: HostRuntime) -> Result<(), Fail> {
     Ok(())
 }
 
-/// The status of a request whose writer has this room, what it wrote, and what it told.
+/// The status of a request whose writer has this room, and what stands on both streams.
 fn command_into<T: Threads + Wait + Sync>(
     rt: &T,
     alloc: Global,
@@ -285,14 +279,8 @@ fn command_into<T: Threads + Wait + Sync>(
     });
     let mut err = Watched::new(Vec::new(alloc));
     let words = ["mhlink", "run"];
-    let status = command(
-        &Stage::silent(rt),
-        alloc,
-        &words,
-        &mut reader,
-        &mut out,
-        &mut err,
-    );
+    let stage = Stage::silent(rt);
+    let status = command(&stage, alloc, &words, &mut reader, &mut out, &mut err);
     drop(out);
     (status, held, err.inner)
 }
@@ -363,14 +351,8 @@ fn answer_unflushed<T: Threads + Wait + Sync>(
     let mut out = Watched::new(Unflushed);
     let mut err = Watched::new(Vec::new(alloc));
     let words = ["mhlink", word];
-    let status = command(
-        &Stage::silent(rt),
-        alloc,
-        &words,
-        &mut reader,
-        &mut out,
-        &mut err,
-    );
+    let stage = Stage::silent(rt);
+    let status = command(&stage, alloc, &words, &mut reader, &mut out, &mut err);
     let told = "fault 11 WriteFailed at 0\n".as_bytes();
     (status, err.inner.as_slice() == told)
 }
