@@ -3,7 +3,7 @@ use denote.RattleType.{RattleType}
 use denote.Param.Send.{IsSend, IsSync, sendable}
 use Rattle.std.proofs.Crossing as crossing
 use Rattle.std.proofs.result.Result.TheSendSync as result
-use Rattle.mh_live.specs.declared.front.Name.{Ghosts}
+use Rattle.mh_live.specs.declared.front.ListName.{Ghosts}
 use Rattle.mh_live.specs.contracts.pass.Pass as Pass
 use Rattle.bench_live.specs.contracts.signals.Signals as Signals
 use Rattle.bench_live.specs.contracts.worked.Worked as Worked

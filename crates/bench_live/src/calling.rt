@@ -6,7 +6,7 @@ use crate::made::Made;
 use crate::signals::Signals;
 use crate::work_fault::WorkFault;
 use crate::worked::Worked;
-use mh_live::{Answer, Live, Name, Outcome, Pass, Value, cross_threads};
+use mh_live::{ListName, Live, Outcome, Pass, PassAnswer, Value, cross_threads};
 use std::alloc::AllocError;
 use std::sync::Wait;
 use std::thread;
@@ -23,7 +23,7 @@ const ROUNDS_OF_A_FLUSH: u64 = 50;
 const MOST_ROUNDS: u64 = 1_000_000;
 
 /// Each worker calls in a thread of its own, until a signal says that the calls may end.
-pub(crate) fn call_all<N: Name + Send + Sync, T: Clock + Threads + Wait + Sync>(
+pub(crate) fn call_all<N: ListName + Send + Sync, T: Clock + Threads + Wait + Sync>(
     rt: &T,
     live: &Live<N>,
     passes: Vec<Pass<N>>,
@@ -35,7 +35,7 @@ pub(crate) fn call_all<N: Name + Send + Sync, T: Clock + Threads + Wait + Sync>(
 }
 
 /// Calls once all are there, and times all calls and flushes together.
-fn call_in_rounds<N: Name, R: Clock + Wait>(
+fn call_in_rounds<N: ListName, R: Clock + Wait>(
     rt: &R,
     live: &Live<N>,
     mut pass: Pass<N>,
@@ -46,7 +46,7 @@ fn call_in_rounds<N: Name, R: Clock + Wait>(
 }
 
 /// The calls of a worker, or why it stopped.
-fn call_timed<N: Name, R: Clock + Wait>(
+fn call_timed<N: ListName, R: Clock + Wait>(
     rt: &R,
     live: &Live<N>,
     pass: &mut Pass<N>,
@@ -65,7 +65,7 @@ fn call_timed<N: Name, R: Clock + Wait>(
 }
 
 /// Calls and flushes until the calls may end, and answers how many rounds that were, at least one.
-fn make_rounds<N: Name, R: Wait>(
+fn make_rounds<N: ListName, R: Wait>(
     rt: &R,
     live: &Live<N>,
     pass: &mut Pass<N>,
@@ -86,7 +86,7 @@ fn make_rounds<N: Name, R: Wait>(
 }
 
 /// The calls of one round.
-fn make_round<N: Name>(pass: &mut Pass<N>) -> Result<(), WorkFault> {
+fn make_round<N: ListName>(pass: &mut Pass<N>) -> Result<(), WorkFault> {
     let arguments = [Value::Int(1)];
     for _ in 0..CALLS_OF_A_ROUND {
         let answer = pass.call(0, &arguments)?;
@@ -98,6 +98,6 @@ fn make_round<N: Name>(pass: &mut Pass<N>) -> Result<(), WorkFault> {
 }
 
 /// Whether a call gave 100 after six steps.
-fn is_right(answer: &Answer) -> bool {
+fn is_right(answer: &PassAnswer) -> bool {
     matches!(&answer.outcome, Outcome::Value(Value::Int(100))) && answer.steps == 6
 }

@@ -2,18 +2,18 @@
 
 use crate::made::Made;
 use crate::worked::Worked;
-use mh_live::{Name, Pass};
+use mh_live::{ListName, Pass};
 use std::alloc::Global;
 
 /// The passes of all workers, and their calls.
 #[derive(Drop)]
-pub(crate) struct Gathered<N: Name> {
+pub(crate) struct Gathered<N: ListName> {
     pub(crate) passes: Vec<Pass<N>>,
     pub(crate) made: Made,
 }
 
 /// Puts together what the workers did. Refused where one of them stopped.
-pub(crate) fn gather<N: Name>(
+pub(crate) fn gather<N: ListName>(
     alloc: Global,
     workers: Vec<Worked<N>>,
 ) -> anyhow::Result<Gathered<N>> {

@@ -10,7 +10,7 @@ use crate::retargeting::{Retargetings, retarget_beside};
 use crate::signals::Signals;
 use crate::subject::{define, tree, widest};
 use anyhow::Context;
-use mh_live::{Declared, Live, Name, Opening, cross_threads};
+use mh_live::{Declared, ListName, Live, Opening, cross_threads};
 use std::alloc::Global;
 use std::marker::Brand;
 use std::sync::Wait;
@@ -67,7 +67,7 @@ pub(crate) fn measure<T: Clock + Threads + Wait + Sync>(
 }
 
 /// The same of an opening.
-fn measure_opened<N: Name + Send + Sync, T: Clock + Threads + Wait + Sync>(
+fn measure_opened<N: ListName + Send + Sync, T: Clock + Threads + Wait + Sync>(
     rt: &T,
     alloc: Global,
     opening: Opening,
@@ -100,7 +100,7 @@ fn measure_opened<N: Name + Send + Sync, T: Clock + Threads + Wait + Sync>(
 
 /// Settles, and answers the calls of all workers. Refused where the hits of the first link are not
 /// as many.
-fn settle<N: Name, R: Wait>(
+fn settle<N: ListName, R: Wait>(
     rt: &R,
     alloc: Global,
     live: Live<N>,

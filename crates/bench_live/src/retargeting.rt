@@ -2,7 +2,7 @@
 
 use crate::request::Request;
 use crate::signals::Signals;
-use mh_live::{Declared, Live, Name};
+use mh_live::{Declared, ListName, Live};
 use std::sync::Wait;
 use std::thread;
 use std::time::{Clock, Duration, Instant};
@@ -26,7 +26,7 @@ pub(crate) struct Retargetings {
 }
 
 /// Retargets once all are there, and then signals to the workers that the calls may end.
-pub(crate) fn retarget_beside<N: Name, R: Clock + Wait>(
+pub(crate) fn retarget_beside<N: ListName, R: Clock + Wait>(
     rt: &R,
     live: &Live<N>,
     tree: &Declared,
@@ -39,7 +39,7 @@ pub(crate) fn retarget_beside<N: Name, R: Clock + Wait>(
 }
 
 /// The retargetings, or a rest where there are none.
-fn retarget_timed<N: Name, R: Clock + Wait>(
+fn retarget_timed<N: ListName, R: Clock + Wait>(
     rt: &R,
     live: &Live<N>,
     tree: &Declared,
@@ -70,7 +70,7 @@ fn retarget_timed<N: Name, R: Clock + Wait>(
 
 /// Gives the site the tree, and answers the nanoseconds of that. The site's owner of the tree is
 /// made before.
-fn retarget<N: Name, R: Clock + Wait>(
+fn retarget<N: ListName, R: Clock + Wait>(
     rt: &R,
     live: &Live<N>,
     tree: &Declared,

@@ -14,12 +14,14 @@
 #![tactic(auto)]
 
 mod display;
+mod limits;
 mod listing;
 mod memory;
 mod numbers;
 mod order;
 
 pub use display::Numbers;
+pub use limits::{MOST_NEEDS, MOST_WORKERS};
 pub use listing::Listing;
 pub use memory::NoMemory;
 pub use numbers::{are_below, is_ascending};

@@ -7,7 +7,7 @@ use Rattle.std.proofs.lemmas.List.FromFn.{take-map-range_with_len, length-map-ra
 use Rattle.std.proofs.Math.ListN.{length-set}
 use Rattle.mh_type.specs.Operations.{op_signature}
 use Rattle.mh_type.specs.Signature.{Signature}
-use Rattle.mh_tree.specs.Code.{Code, leaf, apply, bind, branch, switch, call}
+use Rattle.mh_tree.specs.Code.{Code, leaf, apply, bind, branch, point as code_point, invoke as code_invoke}
 use Rattle.mh_tree.specs.Prepared.{operand_at, prepared, prepared_filters}
 use Rattle.mh_tree.specs.Tree.{Tree, Filters, constant, identity, operation, insert, discard, permute, filter, filter_return, fold, guard, point, invoke, no_more, absent, present}
 use Rattle.mh_tree.specs.Typing.{IsTyped}
@@ -81,10 +81,10 @@ prepared_more (guard c x y) m env e d s (ks, test, begins, one, two) wide =
     let few = shorter ks m.parameters begins in
     λ i. branch (s + 1) (prepared_more c _ env e d 0 test (omega arith) i) (prepared_more x m env e d 0 one wide i) (prepared_more y m env e d 0 two wide i)
 prepared_more (point p x y) m env e d s (one, two) wide =
-    λ i. switch (s + 1) p (prepared_more x m env e d 0 one wide i) (prepared_more y m env e d 0 two wide i)
+    λ i. code_point (s + 1) p (prepared_more x m env e d 0 one wide i) (prepared_more y m env e d 0 two wide i)
 prepared_more (invoke k n) m env e d s (few, made) wide =
     let many = ap (λ (q : Signature). length q.parameters) made in
-    ap (call (s + 1) k) (take-append-le (length n.parameters) env e (omega arith))
+    ap (code_invoke (s + 1) k) (take-append-le (length n.parameters) env e (omega arith))
 
 -- the arguments of a call of n parameters
 abbrev arguments : ℕ → List Operand

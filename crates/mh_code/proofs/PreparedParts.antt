@@ -5,8 +5,8 @@ use Rattle.std.specs.List.{range_with_len}
 use Rattle.mh_base.specs.Laws.{made_is}
 use Rattle.mh_type.specs.declared.kind.Kind.TheVariants as kind
 use Rattle.mh_type.specs.Signature.{Signature}
-use Rattle.mh_tree.specs.Code.{branch, switch}
-use Rattle.mh_code.specs.Routine.{Routine, answer, truth, switch as switch_routine}
+use Rattle.mh_tree.specs.Code.{branch, point as code_point}
+use Rattle.mh_code.specs.Routine.{Routine, answer, truth, point as point_routine}
 use Rattle.mh_code.specs.PieceOf.{piece_step, entry_step, routine_of}
 use Rattle.mh_code.specs.RoutineOf.{routine, handle_routine}
 use Rattle.mh_code.specs.declared.code.Piece.{Piece}
@@ -51,16 +51,16 @@ guard_has_routine c x y h k is sc sx sy sh made =
     let P : TypedTree → Type 0 = λ g. IsTyped g.tree g.signature in
     made ∙ ap (λ code. routine code 0 0 answer) (guarded_code c x y sc sx sy (subst P (sym same) sh.typed) ∙ ap handle_code same)
 
-pointed_code : (p : ℕ) (x y : TypedTree) → IsSound y.tree y.signature → IsTyped (point p x.tree y.tree) x.signature → switch 1 p (handle_code x) (handle_code y) ≡ handle_code (pointed p x y)
+pointed_code : (p : ℕ) (x y : TypedTree) → IsSound y.tree y.signature → IsTyped (point p x.tree y.tree) x.signature → code_point 1 p (handle_code x) (handle_code y) ≡ handle_code (pointed p x y)
 pointed_code p x y sy (one, two) =
     let others : y.signature ≡ x.signature = sym (type_computed y.tree y.signature sy.typed) ∙ type_computed y.tree x.signature two in
-    λ i. switch 1 p (handle_code x) (in_call y.tree _ _ others i)
+    λ i. code_point 1 p (handle_code x) (in_call y.tree _ _ others i)
 
-pub point_has_routine : (p : ℕ) (x y h : TypedTree) (k : Routine) → point_made p x y ≡ Ok h → IsSound y.tree y.signature → IsSound h.tree h.signature → k ≡ switch_routine 1 p (handle_routine x) (handle_routine y) → k ≡ handle_routine h
+pub point_has_routine : (p : ℕ) (x y h : TypedTree) (k : Routine) → point_made p x y ≡ Ok h → IsSound y.tree y.signature → IsSound h.tree h.signature → k ≡ point_routine 1 p (handle_routine x) (handle_routine y) → k ≡ handle_routine h
 point_has_routine p x y h k is sy sh made =
     let same = point_is p x y h is in
     let P : TypedTree → Type 0 = λ g. IsTyped g.tree g.signature in
     made ∙ ap (λ code. routine code 0 0 answer) (pointed_code p x y sy (subst P (sym same) sh.typed) ∙ ap handle_code same)
 
-pub routine_of_point : (p : ℕ) (x y : Arc Piece Global) (s : ℕ) → routine_of (Point p x y s) ≡ switch_routine s p (routine_of (arc_value x)) (routine_of (arc_value y))
+pub routine_of_point : (p : ℕ) (x y : Arc Piece Global) (s : ℕ) → routine_of (Point p x y s) ≡ point_routine s p (routine_of (arc_value x)) (routine_of (arc_value y))
 routine_of_point p x y s = ap routine_of (sym (rolls-Point p x y s)) ∙ fold-roll-Piece Routine Routine piece_step entry_step (open_piece.Point p x y s)

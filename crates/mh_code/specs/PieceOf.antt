@@ -7,7 +7,7 @@ use Rattle.mh_type.specs.declared.operation.Op.TheVariants as Op
 use Rattle.mh_type.specs.declared.value.Value.TheVariants.{Int}
 use Rattle.mh_tree.specs.Prepared.{leading_arguments}
 use Rattle.mh_tree.specs.declared.operand.Operand.TheVariants.{Argument, Constant}
-use Rattle.mh_code.specs.Routine.{Source, operand, operation, invocation, Routine, give, keep, pick, switch}
+use Rattle.mh_code.specs.Routine.{Source, operand, operation, invocation, Routine, give, keep, pick, point as routine_point}
 use Rattle.mh_code.specs.RoutineOf.{after_steps}
 use Rattle.mh_code.specs.declared.code.KeyTest.{KeyTest}
 use Rattle.mh_code.specs.declared.index.Row.{Row}
@@ -38,7 +38,7 @@ piece_step (open_piece.Call site operands place then steps) = keep steps (invoca
 piece_step (open_piece.Truth o target fallback steps) = pick steps (operand o) target.value fallback.value
 piece_step (open_piece.Test op first second target fallback steps) = pick steps (operation op first second) target.value fallback.value
 piece_step (open_piece.Case test target fallback steps) = pick steps (key_source test) target.value fallback.value
-piece_step (open_piece.Point point target fallback steps) = switch steps point target.value fallback.value
+piece_step (open_piece.Point point target fallback steps) = routine_point steps point target.value fallback.value
 piece_step (open_piece.Switch place index targets otherwise) = chain place index.value (map (λ t. t.value) targets.items) otherwise.value
 piece_step (open_piece.Go code steps) = after_steps steps code.value
 

@@ -18,7 +18,7 @@ pub data Routine : Type 0 where
   -- a source's truth chooses one of two
   pick : ℕ → Source → Routine → Routine → Routine
   -- a point's validity chooses one of two
-  switch : ℕ → ℕ → Routine → Routine → Routine
+  point : ℕ → ℕ → Routine → Routine → Routine
 
 -- what the value of a part is for: it is the answer, a local that a routine reads, the truth that chooses one of two, or one whose `not`,
 -- with a step of its own, chooses

@@ -6,12 +6,12 @@ use Rattle.mh_type.specs.Operations.{op_signature}
 use Rattle.mh_type.specs.declared.kind.Kind.TheVariants as kind
 use Rattle.mh_type.specs.declared.operation.Op.{Op}
 use Rattle.mh_type.specs.declared.operation.Op.TheVariants.{Not}
-use Rattle.mh_tree.specs.Code.{Code, leaf, apply, bind, branch, switch as switch_code, call}
+use Rattle.mh_tree.specs.Code.{Code, leaf, apply, bind, branch, point as point_code, invoke}
 use Rattle.mh_tree.specs.Handle.{TypedTree}
 use Rattle.mh_tree.specs.Prepared.{handle_code}
 use Rattle.mh_tree.specs.declared.operand.Operand.{Operand}
 use Rattle.mh_tree.specs.declared.operand.Operand.TheVariants.{Local}
-use Rattle.mh_code.specs.Routine.{Source, operand, operation, invocation, Routine, give, keep, pick, switch, Purpose, answer, local, truth, untruth}
+use Rattle.mh_code.specs.Routine.{Source, operand, operation, invocation, Routine, give, keep, pick, point, Purpose, answer, local, truth, untruth}
 
 -- whether an operation gives a truth, which it does on any values
 abbrev pub gives_truth : Op → Bool
@@ -69,8 +69,8 @@ routine (leaf n o) d s u = used d (s + n) (operand o) u
 routine (apply n op x y) d s u = used d (s + n) (operation op x y) u
 routine (bind n f g) d s u = routine f d (s + n) (bound d g u (routine g (d + 1) 0 u))
 routine (branch n c x y) d s u = routine c d (s + n) (truth (routine x d 0 u) (routine y d 0 u))
-routine (switch_code n p x y) d s u = switch (s + n) p (routine x d 0 u) (routine y d 0 u)
-routine (call n site os) d s u = used d (s + n) (invocation site os) u
+routine (point_code n p x y) d s u = point (s + n) p (routine x d 0 u) (routine y d 0 u)
+routine (invoke n site os) d s u = used d (s + n) (invocation site os) u
 
 -- the routine of a handle
 abbrev pub handle_routine : TypedTree → Routine
@@ -81,4 +81,4 @@ abbrev pub after_steps : ℕ → Routine → Routine
 after_steps s (give n x) = give (s + n) x
 after_steps s (keep n x i r) = keep (s + n) x i r
 after_steps s (pick n x r q) = pick (s + n) x r q
-after_steps s (switch n p r q) = switch (s + n) p r q
+after_steps s (point n p r q) = point (s + n) p r q

@@ -4,7 +4,7 @@ ghost use Rattle.std.specs.Prelude.{◌≡◌, ◌+◌, ◌≤◌, Ok, IfOk, IfE
 ghost use Rattle.std.specs.Arc.{arc_value};
 ghost use Rattle.mh_base.specs.Tests.{Refuses};
 ghost use Rattle.mh_code.specs.PieceOf.{routine_of_code};
-ghost use Rattle.mh_code.specs.Routine.{switch, truth};
+ghost use Rattle.mh_code.specs.Routine.{point as routine_point, truth};
 ghost use Rattle.mh_code.specs.RoutineOf.{handle_routine, routine};
 ghost use Rattle.mh_tree.specs.Constructors.{refusals, guard_made, point_made};
 ghost use Rattle.mh_tree.specs.Handle.{IsSound};
@@ -196,7 +196,7 @@ fn point_code(
     fallback: Arc<Code>,
 ) -> Result<Arc<Code>, NoMemory>
     ensures value { IfOk result (λ c. routine_of_code (arc_value c)
-        ≡ switch 1 point (routine_of_code (arc_value target))
+        ≡ routine_point 1 point (routine_of_code (arc_value target))
         (routine_of_code (arc_value fallback))) }
 {
     let target = use_code(alloc, target)?;

@@ -8,7 +8,7 @@ ghost use Rattle.mh_code.specs.RoutineOf.{routine, used};
 ghost use Rattle.mh_tree.specs.Limits.{size, total_size, most_nodes};
 ghost use Rattle.mh_tree.specs.Tree.{Filters as FiltersData, filters_of};
 ghost use Rattle.mh_tree.specs.TreeOf.{tree_of, filter_trees};
-ghost use Rattle.mh_tree.specs.Code.{Code as CodeData, bind as bind_code, branch as branch_code, switch as switch_code};
+ghost use Rattle.mh_tree.specs.Code.{Code as CodeData, bind as bind_code, branch as branch_code, point as point_code};
 ghost use Rattle.mh_code.specs.Routine.{operand as operand_source, operation as operation_source};
 ghost use Rattle.mh_type.specs.Operations.{op_signature};
 ghost use Rattle.mh_tree.specs.Prepared.{operand_at, prepared, prepared_filters};
@@ -404,7 +404,7 @@ fn prepare_point(
         + size (tree_of (arc_value branches.now.fallback.now)) ≤ most_nodes }
     requires low { place.now.depth + (size (tree_of (arc_value branches.now.target.now))
         + size (tree_of (arc_value branches.now.fallback.now))) ≤ most_nodes }
-    ensures value { IfOk result (λ p. routine_of (arc_value p) ≡ routine (switch_code steps point
+    ensures value { IfOk result (λ p. routine_of (arc_value p) ≡ routine (point_code steps point
         (prepared (tree_of (arc_value branches.now.target.now)) place.now.operands.now
         place.now.depth 0)
         (prepared (tree_of (arc_value branches.now.fallback.now)) place.now.operands.now

@@ -28,7 +28,7 @@ use Rattle.mh_text.specs.declared.json.problem.ProblemRows.{ProblemRows}
 use Rattle.mh_text.specs.declared.key.Field.TheVariants as field
 use Rattle.mh_text.specs.declared.key.Key.TheVariants.{Member}
 use Rattle.mh_text.specs.declared.streams.claim.Claim.{Claim}
-use Rattle.mh_command.specs.Findings.{event_of, fault_in}
+use Rattle.mh_command.specs.inner.Findings.{event_of, fault_in}
 use Rattle.mh_command.proofs.Placed.{AreOutside, IsOutside, both_outside, member_outside, no_err, ok_outside, same_err, script_fails}
 use Rattle.mh_text.proofs.ProblemTests.{decided}
 

@@ -22,7 +22,7 @@ use Rattle.mh_text.specs.declared.json.form.InputForm.TheVariants.{Script, Probl
 use Rattle.mh_explain.specs.Explanations.{ExplainsMisread, ExplainsRead}
 use Rattle.mh_explain.specs.Unread.{first_of_read, first_unread, first_unread_in}
 use Rattle.mh_command.specs.Answers.{FailsIn, FailsOn, IsFaultOf, IsHelp}
-use Rattle.mh_command.specs.Findings.{fault_in, first_refused, AreFindings, EndsBefore, IsExplainedIn, IsFaultBefore}
+use Rattle.mh_command.specs.inner.Findings.{fault_in, first_refused, AreFindings, EndsBefore, IsExplainedIn, IsFaultBefore}
 use Rattle.mh_command.specs.Readings.{fault_explained, fault_told, form_of, refused_at, unread_fault, unread_in, ExplainsAs, ExplainsFault, IsExplained, IsExplainedWith}
 use Rattle.mh_command.specs.declared.request.Asked.{Asked}
 use Rattle.mh_command.specs.declared.request.Request.{Request}

@@ -20,7 +20,7 @@ use Rattle.mh_text.specs.declared.key.Field.{Field}
 use Rattle.mh_text.specs.declared.key.Field.TheVariants as field
 use Rattle.mh_text.specs.declared.key.Key.{Key}
 use Rattle.mh_text.specs.declared.key.Key.TheVariants.{Member, Item}
-use Rattle.mh_command.specs.Findings.{event_of, fault_in}
+use Rattle.mh_command.specs.inner.Findings.{event_of, fault_in}
 
 -- an error of this type
 abbrev err : (A : Type 0) {E : Type 0} → E → Result A E

@@ -6,7 +6,7 @@ use Rattle.clap.specs.Words.{App, Row, Rule, new_app, new_rule, one_of, subcomma
 use Rattle.clap.specs.declared.builder.action.ArgAction.TheVariants.{SetTrue}
 use Rattle.clap.specs.declared.builder.value_parser.ValueParser.TheVariants.{Signed}
 use Rattle.clap.specs.declared.error.kind.ErrorKind.{ErrorKind}
-use Rattle.mh_text.specs.Script.{most_workers}
+use Rattle.mh_base.specs.Limits.{most_workers}
 use Rattle.mh_text.specs.declared.streams.planning.PlanOptions.{PlanOptions}
 use Rattle.mh_text.specs.declared.streams.run.RunOptions.{RunOptions}
 use Rattle.mh_profile.specs.declared.planning.ProfileOptions.{ProfileOptions}

@@ -1,6 +1,6 @@
 pub mod Answers
 pub mod CommandLine
-pub mod Findings
 pub mod Readings
 pub mod Statuses
 pub mod Streams
+pub mod inner

@@ -11,7 +11,7 @@ ghost use Rattle.mh_command.specs.Statuses.{status_answered};
 ghost use Rattle.mh_command.specs.Streams.{IsCut, IsTold, IsShown, IsDone};
 
 use crate::status::{COMMAND_LINE, DONE, IO_FAILED, NO_MEMORY, status_of_fault};
-use crate::work::Outcome;
+use crate::work::Ending;
 use clap::Error;
 use clap::error::ErrorKind;
 use mh_text::{Fault, TextFault, Watched};
@@ -65,7 +65,7 @@ fn tell_alone<E: Write>(help: &str, err: &mut Watched<E>, status: u8) -> u8
 /// status.
 pub(crate) fn end<W: Write, E: Write>(
     alloc: Global,
-    outcome: &Outcome,
+    outcome: &Ending,
     out: &mut Watched<W>,
     err: &mut Watched<E>,
 ) -> u8

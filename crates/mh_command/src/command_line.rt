@@ -61,13 +61,12 @@ fn perform<T: Threads + Wait + Sync, P: ShowRounds + Sync, R: Read, W: Write, E:
 /// `--report`. `mhlink check` reads a problem and a plan, and writes to `out` whether the plan is
 /// accepted; with `--profile` it reads a profile, and behind it a plan. `mhlink plan` reads a
 /// problem, and writes its best plan to `out`; it takes `--workers N`, N from 1 to 64,
-/// `--certificate` and `--phases`, and starts threads by the stage. `mhlink stress` reads a script, runs
-/// its calls in threads, and writes the sums of their hits to `out`; it takes `--workers N`, N from
-/// 1 to 64, `--rounds N`, N from 1 to 1,000,000, and `--report`; the stage shows the rounds that are
-/// done. `mhlink profile` reads a profile,
-/// line by line, and writes to `out` what becomes of each of its names in a best plan; it takes
-/// `--workers N`, N from 1 to 64, and `--certificate`, and starts threads too. A fault is one line
-/// on `err`.
+/// `--certificate` and `--phases`, and starts threads by the stage. `mhlink stress` reads a script,
+/// runs its calls in threads, and writes the sums of their hits to `out`; it takes `--workers N`, N
+/// from 1 to 64, `--rounds N`, N from 1 to 1,000,000, and `--report`; the stage shows the rounds
+/// that are done. `mhlink profile` reads a profile, line by line, and writes to `out` what becomes
+/// of each of its names in a best plan; it takes `--workers N`, N from 1 to 64, and
+/// `--certificate`, and starts threads too. A fault is one line on `err`.
 ///
 /// Each takes `--explain`, and each but `profile` takes `--strict`. With `--explain` the input is
 /// read whole first, and the line of a fault is followed on `err` by lines that explain it. They

@@ -9,7 +9,7 @@ ghost use Rattle.mh_text.specs.declared.fault.InputFault.TheVariants.{NoMemory a
 ghost use Rattle.mh_text.specs.declared.fault.TextFault.TheVariants.{Input};
 ghost use Rattle.mh_explain.specs.Explanations.{misread_of};
 ghost use Rattle.mh_explain.specs.Unread.{first_unread_in};
-ghost use Rattle.mh_command.specs.Findings.{event_bound, event_of as number_of_event, fault_in, first_refused, AreFindings, IsExplainedIn, IsFaultBefore};
+ghost use Rattle.mh_command.specs.inner.Findings.{event_bound, event_of as number_of_event, fault_in, first_refused, AreFindings, IsExplainedIn, IsFaultBefore};
 ghost use Rattle.mh_command.specs.Readings.{form_of, unread_fault as fault_unread};
 
 use crate::request::Asked;

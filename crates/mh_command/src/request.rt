@@ -3,7 +3,7 @@ ghost use Rattle.std.specs.Prelude.{◌≡◌, ◌<◌, ◌≤◌, ◌⊎◌, []
 ghost use Rattle.clap.specs.Words.{app_of, fault_of, found_of, kind_of, new_app, rows_of, rule_of, subcommand_rows_of, with_rule};
 ghost use Rattle.clap.specs.declared.builder.command.Command.TheViews.{out-Command};
 ghost use Rattle.clap.specs.declared.error.kind.ErrorKind.{ErrorKind};
-ghost use Rattle.mh_text.specs.Script.{most_workers};
+ghost use Rattle.mh_base.specs.Limits.{most_workers};
 ghost use Rattle.mh_text.specs.declared.streams.run.RunOptions.{RunOptions};
 ghost use Rattle.mh_stress.specs.Stress.{AreLawful};
 ghost use Rattle.mh_stress.specs.declared.stress.StressOptions.{StressOptions};
@@ -16,6 +16,7 @@ ghost use Rattle.mh_command.specs.declared.request.Asked.{Asked};
 use crate::flags::{flag, with_option};
 use crate::options::{Reading, plain_reading_of, reading_of, with_explain, with_reading};
 use clap::{Arg, ArgMatches, Command, Error, value_parser};
+use mh_base::MOST_WORKERS;
 use mh_explain::InputForm;
 use mh_profile::ProfileOptions;
 use mh_stress::{MOST_ROUNDS, StressOptions};
@@ -330,10 +331,11 @@ fn workers_of(matches: &ArgMatches) -> Option<usize>
     ensures few { IfSome result (λ workers. workers ≤ most_workers) }
 {
     let workers = matches.get_one::<u8>("workers")?;
-    if workers == 0 || workers > 64 {
+    let workers = usize::from(workers);
+    if workers == 0 || workers > MOST_WORKERS as usize {
         return None;
     }
-    Some(usize::from(workers))
+    Some(workers)
 }
 
 /// The options of the words after `plan`; none where clap refuses the number of workers itself.
@@ -379,7 +381,7 @@ fn lawful(options: StressOptions) -> Option<StressOptions>
     ensures lawful { IfSome result AreLawful }
 {
     if let Some(workers) = options.workers {
-        if workers == 0 || workers > 64 {
+        if workers == 0 || workers > MOST_WORKERS {
             return None;
         }
     }

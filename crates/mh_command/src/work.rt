@@ -33,7 +33,7 @@ use std::thread::Threads;
 
 /// What became of the work.
 #[derive(Drop)]
-pub(crate) struct Outcome {
+pub(crate) struct Ending {
     /// The status, or the fault that ended the work.
     pub(crate) end: Result<u8, Fault>,
     /// The help: lines for the stream of errors, or nothing.
@@ -42,23 +42,23 @@ pub(crate) struct Outcome {
     pub(crate) refused: Vec<RefusedEvent>,
 }
 
-impl Outcome {
+impl Ending {
     /// An end without help.
-    fn alone(alloc: Global, end: Result<u8, Fault>) -> Outcome
+    fn alone(alloc: Global, end: Result<u8, Fault>) -> Ending
         ensures end { result.end ≡ end }
         ensures alone { string_bytes result.help ≡ [] }
         ensures clear { result.refused.items ≡ [] }
     {
-        Outcome::beside(alloc, end, String::new(alloc))
+        Ending::beside(alloc, end, String::new(alloc))
     }
 
     /// An end with help that speaks of no refused event.
-    fn beside(alloc: Global, end: Result<u8, Fault>, help: String) -> Outcome
+    fn beside(alloc: Global, end: Result<u8, Fault>, help: String) -> Ending
         ensures end { result.end ≡ end }
         ensures help { result.help ≡ help }
         ensures clear { result.refused.items ≡ [] }
     {
-        Outcome {
+        Ending {
             end,
             help,
             refused: Vec::new(alloc),
@@ -195,7 +195,7 @@ fn work_on<T: Threads + Wait + Sync, S: ShowRounds + Sync, W: Write>(
     asked: Asked,
     input: &[u8],
     out: &mut Watched<W>,
-) -> Outcome
+) -> Ending
     requires formless { form_of asked.request ≡ None }
     requires workers { HasWorkers asked.request }
     ensures works { IfOk result.end (Works asked (Some input.now) result.refused.items
@@ -212,7 +212,7 @@ fn work_on<T: Threads + Wait + Sync, S: ShowRounds + Sync, W: Write>(
         (string_bytes result.help) }
 {
     let end = work_over(stage, alloc, asked.request, input, out);
-    Outcome::beside(alloc, end, help_for(alloc, asked, input, fault_of(end)))
+    Ending::beside(alloc, end, help_for(alloc, asked, input, fault_of(end)))
 }
 
 /// What the work gives: its status, and the refused events of a run.
@@ -319,7 +319,7 @@ fn work_or_refuse<T: Threads + Wait + Sync, S: ShowRounds + Sync, W: Write>(
     asked: Asked,
     parsed: Parsed<'_>,
     out: &mut Watched<W>,
-) -> Outcome
+) -> Ending
     requires formed { form_of asked.request ≡ Some parsed.form }
     requires parsed { json_of_input parsed.input.now ≡ Ok (view parsed.value.now) }
     requires workers { HasWorkers asked.request }
@@ -338,15 +338,15 @@ fn work_or_refuse<T: Threads + Wait + Sync, S: ShowRounds + Sync, W: Write>(
 {
     let Findings { fault, help } = findings_in(alloc, asked, parsed.form, parsed.value);
     if let Some(fault) = fault {
-        return Outcome::beside(alloc, Err(fault), help);
+        return Ending::beside(alloc, Err(fault), help);
     }
     match work_parsed(stage, alloc, asked.request, parsed, out) {
-        Ok(Worked { status, refused }) => Outcome {
+        Ok(Worked { status, refused }) => Ending {
             end: Ok(status),
             help: with_refused(alloc, asked, help, parsed.value, refused.as_slice()),
             refused,
         },
-        Err(fault) => Outcome::beside(alloc, Err(fault), help),
+        Err(fault) => Ending::beside(alloc, Err(fault), help),
     }
 }
 
@@ -358,7 +358,7 @@ fn work_read<T: Threads + Wait + Sync, S: ShowRounds + Sync, W: Write>(
     form: InputForm,
     input: &[u8],
     out: &mut Watched<W>,
-) -> Outcome
+) -> Ending
     requires formed { form_of asked.request ≡ Some form }
     requires short { length input.now ≤ most_bytes }
     requires workers { HasWorkers asked.request }
@@ -387,7 +387,7 @@ fn work_read<T: Threads + Wait + Sync, S: ShowRounds + Sync, W: Write>(
         Err(misread) => {
             let fault = Fault::from(misread.fault());
             let help = help_for_text(alloc, asked, input, misread);
-            Outcome::beside(alloc, Err(fault), help)
+            Ending::beside(alloc, Err(fault), help)
         }
     }
 }
@@ -400,7 +400,7 @@ fn work_whole<T: Threads + Wait + Sync, S: ShowRounds + Sync, R: Read, W: Write>
     form: InputForm,
     reader: &mut Watched<R>,
     out: &mut Watched<W>,
-) -> Outcome
+) -> Ending
     requires formed { form_of asked.request ≡ Some form }
     requires workers { HasWorkers asked.request }
     ensures works { IfOk result.end (Works asked (R.remaining reader.old.inner) result.refused.items
@@ -421,7 +421,7 @@ fn work_whole<T: Threads + Wait + Sync, S: ShowRounds + Sync, R: Read, W: Write>
 {
     match read_input(alloc, reader) {
         Ok(input) => work_read(stage, alloc, asked, form, &input, out),
-        Err(kind) => Outcome::alone(alloc, Err(Fault::from(kind))),
+        Err(kind) => Ending::alone(alloc, Err(Fault::from(kind))),
     }
 }
 
@@ -459,7 +459,7 @@ fn work_lines<T: Threads + Wait + Sync, S: ShowRounds + Sync, R: Read, W: Write>
     asked: Asked,
     reader: &mut Watched<R>,
     out: &mut Watched<W>,
-) -> Outcome
+) -> Ending
     requires formless { form_of asked.request ≡ None }
     requires workers { HasWorkers asked.request }
     ensures works { IfOk result.end (Works asked (R.remaining reader.old.inner) result.refused.items
@@ -480,7 +480,7 @@ fn work_lines<T: Threads + Wait + Sync, S: ShowRounds + Sync, R: Read, W: Write>
 {
     match keep_lines(alloc, asked.request, reader) {
         Ok(input) => work_on(stage, alloc, asked, &input, out),
-        Err(fault) => Outcome::alone(alloc, Err(fault)),
+        Err(fault) => Ending::alone(alloc, Err(fault)),
     }
 }
 
@@ -491,7 +491,7 @@ pub(crate) fn work_asked<T: Threads + Wait + Sync, S: ShowRounds + Sync, R: Read
     asked: Asked,
     reader: &mut Watched<R>,
     out: &mut Watched<W>,
-) -> Outcome
+) -> Ending
     requires workers { HasWorkers asked.request }
     ensures works { IfOk result.end (Works asked (R.remaining reader.old.inner) result.refused.items
         (W.contents out.old.inner) (W.contents out.new.inner)) }
@@ -510,7 +510,7 @@ pub(crate) fn work_asked<T: Threads + Wait + Sync, S: ShowRounds + Sync, R: Read
         result.refused.items (string_bytes result.help) }
 {
     if !asked.reads_whole() {
-        return Outcome::alone(alloc, work(stage, alloc, asked.request, reader, out));
+        return Ending::alone(alloc, work(stage, alloc, asked.request, reader, out));
     }
     match asked.request.form() {
         Some(form) => work_whole(stage, alloc, asked, form, reader, out),

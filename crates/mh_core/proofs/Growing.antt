@@ -12,7 +12,7 @@ use Rattle.mh_core.specs.Installations.{PublishedPlan}
 use Rattle.mh_core.specs.PlanTables.{plans_of}
 use Rattle.mh_core.specs.Records.{total}
 use Rattle.mh_core.specs.Replayed.{world}
-use Rattle.mh_core.specs.Rows.{tests}
+use Rattle.mh_core.specs.Rows.{tests_of_record}
 use Rattle.mh_core.specs.Snapshots.{SnapshotState, snapshots_of}
 use Rattle.mh_base.specs.Tests.{Passes}
 use Rattle.mh_core.specs.Laws.Worlds.{world_front, newest_push}
@@ -22,7 +22,7 @@ book_room b is =
     let front : b.world.front ≡ (world b.definition b.records).front = ap (λ (w : WorldState). w.front) is.world in
     omega (arith, front, world_front b.definition b.records, is.few, is.limits.history)
 
-pub fits_in : (d : DefinitionData) (l : LimitsData) (n : ℕ) (r : List Record) (e : Record) → Passes (tests d l n r e) → n < l.history
+pub fits_in : (d : DefinitionData) (l : LimitsData) (n : ℕ) (r : List Record) (e : Record) → Passes (tests_of_record d l n r e) → n < l.history
 fits_in d l n r (Flushed w hits) passes = passes.0
 fits_in d l n r (Targeted s tree) passes = passes.1.1.1.1.0
 fits_in d l n r (Invalidated points) passes = passes.1.0
@@ -46,7 +46,7 @@ pushed k b r w t s n = record { definition = b.definition; limits = b.limits; re
 
 -- a book that takes a record, which is pushed behind the others
 pub book_grows : {k : Bool} (b : BookState) (calls : ℕ) (e : Record) (older newer : List Record) (w : WorldState) (t : TotalsState) (s : List SnapshotState) (n : List PublishedPlan) → IsBook b
-    → Passes (tests b.definition b.limits (length b.records + calls) b.records e) → Made b (e ∷ b.records) w t s n → reverse older ≡ b.records → newer ≡ older ++ e ∷ [] → IsBook (pushed k b (reverse newer) w t s n)
+    → Passes (tests_of_record b.definition b.limits (length b.records + calls) b.records e) → Made b (e ∷ b.records) w t s n → reverse older ≡ b.records → newer ≡ older ++ e ∷ [] → IsBook (pushed k b (reverse newer) w t s n)
 book_grows {k} b calls e older newer w t s n is passes made was push =
     let few = fits_in b.definition b.limits (length b.records + calls) b.records e passes in
     let items : reverse newer ≡ e ∷ b.records = ap reverse push ∙ (newest_push older e ∙ ap (λ (r : List Record). e ∷ r) was) in

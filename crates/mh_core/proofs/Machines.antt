@@ -23,7 +23,7 @@ use Rattle.mh_core.specs.Limits.{IsLimits, LimitsData, most_events}
 use Rattle.mh_core.specs.Machines.{AreCounted, IsMachine, machine_of}
 use Rattle.mh_core.specs.Pending.{IsNoFlush}
 use Rattle.mh_core.specs.Records.{hits_in}
-use Rattle.mh_core.specs.Rows.{HasRoomForPlan, tests}
+use Rattle.mh_core.specs.Rows.{HasRoomForPlan, tests_of_record}
 use Rattle.mh_core.specs.Runtimes.{CountsHit, RefusesFlush, RuntimeState, flush_of, opened_runtime, room_tests}
 use Rattle.mh_core.specs.Steps.{IsAccepted, IsRefused}
 use Rattle.mh_core.specs.Runtimes as runtime
@@ -54,13 +54,13 @@ module _ (r : RuntimeState) (h : List Event) (is : IsMachine r h) where
   module _ (n : ℕ) (count : length r.book.records + n ≡ length h) (e : Record) where
     pub passes : MayTake r.book n e → Passes (record_tests x h e)
     passes p =
-        let behind = subst (λ (g : List Record). Passes (tests r.book.definition r.book.limits (length r.book.records + n) g e)) is.records p in
-        subst (λ (k : ℕ). Passes (tests r.book.definition r.book.limits k (records r.book.definition h) e)) count behind
+        let behind = subst (λ (g : List Record). Passes (tests_of_record r.book.definition r.book.limits (length r.book.records + n) g e)) is.records p in
+        subst (λ (k : ℕ). Passes (tests_of_record r.book.definition r.book.limits k (records r.book.definition h) e)) count behind
 
     pub refuses : (told : Refusal) → MayRefuse r.book n e told → Refuses (record_tests x h e) told
     refuses told p =
-        let behind = subst (λ (g : List Record). Refuses (tests r.book.definition r.book.limits (length r.book.records + n) g e) told) is.records p in
-        subst (λ (k : ℕ). Refuses (tests r.book.definition r.book.limits k (records r.book.definition h) e) told) count behind
+        let behind = subst (λ (g : List Record). Refuses (tests_of_record r.book.definition r.book.limits (length r.book.records + n) g e) told) is.records p in
+        subst (λ (k : ℕ). Refuses (tests_of_record r.book.definition r.book.limits k (records r.book.definition h) e) told) count behind
 
     -- with one record more
     module _ (new : RuntimeState) (takes : Takes r.book n e new.book) where

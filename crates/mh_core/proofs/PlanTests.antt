@@ -11,7 +11,7 @@ use Rattle.mh_core.specs.declared.refusal.Refusal.{Refusal}
 use Rattle.mh_core.specs.declared.refusal.Refusal.TheVariants.{NoMemory, PlanRefused}
 use Rattle.mh_core.specs.Limits.{LimitsData}
 use Rattle.mh_core.specs.Problems.{IsTaken, problem_at}
-use Rattle.mh_core.specs.Rows.{tests}
+use Rattle.mh_core.specs.Rows.{tests_of_record}
 use Rattle.mh_base.specs.Tests.{Refuses}
 
 -- out of memory, or the first part of the plan that is wrong
@@ -19,12 +19,12 @@ abbrev pub Refused : ProblemData → Plan → Refusal → Type 0
 Refused P plan told = (told ≡ NoMemory) ⊎ ((Matches P plan → ⊥) × ((fault : CheckFault) × (told ≡ PlanRefused fault) × Refuses (plan_tests P plan) fault))
 
 plan_is_refused : (d : DefinitionData) (l : LimitsData) (accepted : ℕ) (r : List Record) (n : ℕ) (plan : Plan) (told : Refusal) → IsTaken r n → Refused (problem_at d r n) plan told
-    → Refuses (tests d l accepted r (Published n plan)) told
+    → Refuses (tests_of_record d l accepted r (Published n plan)) told
 plan_is_refused d l accepted r n plan told taken (inl wanting) = inr (taken, inl wanting)
 plan_is_refused d l accepted r n plan told taken (inr wrong) = inr (taken, inr (inl wrong))
 
 pub plan_refused : (d : DefinitionData) (l : LimitsData) (accepted : ℕ) (r : List Record) (n : ℕ) (plan given : Plan) (P : ProblemData) (told : Refusal) → IsTaken r n → P ≡ problem_at d r n → given ≡ plan
-    → Refused P given told → Refuses (tests d l accepted r (Published n plan)) told
+    → Refused P given told → Refuses (tests_of_record d l accepted r (Published n plan)) told
 plan_refused d l accepted r n plan given P told taken problem same refused =
     plan_is_refused d l accepted r n plan told taken
     (subst (λ (p : Plan). Refused (problem_at d r n) p told) same (subst (λ (Q : ProblemData). Refused Q given told) problem refused))

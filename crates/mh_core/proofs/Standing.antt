@@ -4,7 +4,7 @@ use Rattle.std.specs.List.{All, sum_by}
 use Rattle.std.specs.Prelude.{reverse}
 use Rattle.std.proofs.lemmas.List.{ext_get_or, length-reverse, reverse-reverse}
 use Rattle.std.proofs.lemmas.List.FromFn.{length-map-range_with_len}
-use Rattle.mh_ledger.specs.Ledgers.{at, flushed_into, HasRoom, LedgerState, TotalsState}
+use Rattle.mh_ledger.specs.Ledgers.{at, flushed_into, FlushFits, LedgerState, TotalsState}
 use Rattle.mh_ledger.specs.Laws.{length-added}
 use Rattle.mh_network.specs.Problems.{kept_gain, problem_of, sum_of_gains}
 use Rattle.mh_site.specs.Defined.{DefinitionData}
@@ -26,12 +26,12 @@ use Rattle.mh_core.specs.Laws.ProblemRows.{costs_of, rows_in}
 use Rattle.mh_core.specs.Laws.Worlds.{read, valid_is}
 
 -- ---- room for a flush
-pub room_fits : (b : BookState) (l : LedgerState) → IsBook b → HasRoom b.totals l → TotalsFit b.definition b.limits b.records (hits_in l.unflushed)
+pub room_fits : (b : BookState) (l : LedgerState) → IsBook b → FlushFits b.totals l → TotalsFit b.definition b.limits b.records (hits_in l.unflushed)
 room_fits b l is room j h =
     let fits = room j (omega (arith, h, is.totals.count)) in
     omega (arith, fits, is.totals.sums j h, is.totals.limit, hits_counted l.unflushed j)
 
-pub fits_room : (b : BookState) (l : LedgerState) → IsBook b → TotalsFit b.definition b.limits b.records (hits_in l.unflushed) → HasRoom b.totals l
+pub fits_room : (b : BookState) (l : LedgerState) → IsBook b → TotalsFit b.definition b.limits b.records (hits_in l.unflushed) → FlushFits b.totals l
 fits_room b l is fit j h =
     let inside : j < length (links b.definition) = omega (arith, h, is.totals.count) in
     omega (arith, fit j inside, is.totals.sums j inside, is.totals.limit, hits_counted l.unflushed j)

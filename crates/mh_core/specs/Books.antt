@@ -20,7 +20,7 @@ use Rattle.mh_core.specs.Installations.{PublishedPlan, report}
 use Rattle.mh_core.specs.PlanTables.{coded_published, plans_of}
 use Rattle.mh_core.specs.Records.{plans, snapshots, total}
 use Rattle.mh_core.specs.Replayed.{world}
-use Rattle.mh_core.specs.Rows.{tests}
+use Rattle.mh_core.specs.Rows.{tests_of_record}
 use Rattle.mh_core.specs.Snapshots.{SnapshotState, coded_snapshot, snapshots_of}
 use Rattle.mh_base.specs.Tests.{Passes, Refuses}
 
@@ -64,7 +64,7 @@ opened_book d workers l =
 -- each record passed its tests, where as many events had been accepted as there were records, or more
 abbrev pub Legal : DefinitionData → LimitsData → List Record → Type 0
 Legal d l [] = Unit {0}
-Legal d l (e ∷ r) = ((accepted : ℕ) × ((length r ≤ accepted) × Passes (tests d l accepted r e))) × Legal d l r
+Legal d l (e ∷ r) = ((accepted : ℕ) × ((length r ≤ accepted) × Passes (tests_of_record d l accepted r e))) × Legal d l r
 
 -- the totals are the sums that the records give
 pub record AreTotals (d : DefinitionData) (l : LimitsData) (r : List Record) (t : TotalsState) : Type 0 where
@@ -85,11 +85,11 @@ pub record IsBook (b : BookState) : Type 0 where
 
 -- a record passes its tests, where so many calls were accepted beside the records
 abbrev pub MayTake : BookState → ℕ → Record → Type 0
-MayTake b calls e = Passes (tests b.definition b.limits (length b.records + calls) b.records e)
+MayTake b calls e = Passes (tests_of_record b.definition b.limits (length b.records + calls) b.records e)
 
 -- the refusal of the first failing test of a record, or out of memory where none fails
 abbrev pub MayRefuse : BookState → ℕ → Record → Refusal → Type 0
-MayRefuse b calls e told = Refuses (tests b.definition b.limits (length b.records + calls) b.records e) told
+MayRefuse b calls e told = Refuses (tests_of_record b.definition b.limits (length b.records + calls) b.records e) told
 
 -- what a record is answered with, behind others
 abbrev pub reply_to : DefinitionData → List Record → Record → Reply

@@ -19,7 +19,7 @@ use Rattle.mh_core.specs.Hits.{hits, unflushed, moved}
 use Rattle.mh_core.specs.Limits.{LimitsData}
 use Rattle.mh_core.specs.Installations.{environment_of_links, linked, linked_sites, report}
 use Rattle.mh_core.specs.Records.{base, environment_of_bases, snapshots, plans}
-use Rattle.mh_core.specs.Rows as rows
+use Rattle.mh_core.specs.Rows.{tests_of_record}
 use Rattle.mh_base.specs.Tests.{Tests, test, only, Refuses, Passes}
 use Rattle.mh_core.specs.Refusals.{memory_last}
 
@@ -60,7 +60,7 @@ module _ (x : Setting) where
 
   -- the tests of a record behind those of a history
   abbrev pub record_tests : List Event → Record → Tests Refusal
-  record_tests h e = rows.tests x.definition x.limits (length h) (records x.definition h) e
+  record_tests h e = tests_of_record x.definition x.limits (length h) (records x.definition h) e
 
   -- the tests of an event after a history, in order
   abbrev pub tests : List Event → Event → Tests Refusal

@@ -22,7 +22,7 @@ pub mod Renewals
 pub mod Resumptions
 pub mod Extensions
 pub mod Machines
-pub mod ArgumentViews
+pub mod Arguments
 pub mod Pasts
 pub use Rattle.mh_base.specs.Tests
 pub use Rattle.mh_cert.specs.Plans

@@ -34,28 +34,28 @@ abbrev pub HasRoomForPlan : LimitsData → ℕ → List Record → Type 0
 HasRoomForPlan l accepted r = (accepted < l.history) × (plans r < most_plans)
 
 -- the tests of a record behind others, in order, where so many events were accepted
-abbrev pub tests : DefinitionData → LimitsData → ℕ → List Record → Record → Tests Refusal
-tests d l accepted r (Flushed w hits) =
+abbrev pub tests_of_record : DefinitionData → LimitsData → ℕ → List Record → Record → Tests Refusal
+tests_of_record d l accepted r (Flushed w hits) =
     test (accepted < l.history) (only HistoryFull)
     (test (TotalsFit d l r hits) (only TotalTooLarge) memory_last)
-tests d l accepted r (Targeted s tree) =
+tests_of_record d l accepted r (Targeted s tree) =
     test ((s < length d.sites) × (site_bound tree.tree ≤ length d.sites)) (only NoSite)
     (test ((tree.signature ≡ (site_at d s).method_type) × InvokesOfType d.sites tree.tree) (only WrongType)
     (test (point_bound tree.tree ≤ length d.points) (only NoPoint)
     (test (InvokesLower d.sites (site_at d s).level tree.tree) (only WrongLevel)
     (test (accepted < l.history) (only HistoryFull) memory_last))))
-tests d l accepted r (Invalidated points) =
+tests_of_record d l accepted r (Invalidated points) =
     test (All (λ p. p < length d.points) points) (only NoPoint)
     (test (accepted < l.history) (only HistoryFull) memory_last)
-tests d l accepted r Snapped =
+tests_of_record d l accepted r Snapped =
     test ((accepted < l.history) × (snapshots r < most_snapshots)) (only HistoryFull)
     (test (sum_of_gains (problem_after d r) ≤ greatest_sum) (only GainTooLarge) memory_last)
-tests d l accepted r (Published n plan) =
+tests_of_record d l accepted r (Published n plan) =
     test (IsTaken r n) (only NoSnapshot)
     (take_memory
     (test (Matches (problem_at d r n) plan) (tells_fault d r n plan)
     (test (HasRoomForPlan l accepted r) (only HistoryFull) memory_last)))
-tests d l accepted r (Installed m) =
+tests_of_record d l accepted r (Installed m) =
     test (IsPublished r m) (only NoPlan)
     (test (m ≡ plans r) (only (OldPlan (plans r)))
     (test (accepted < l.history) (only HistoryFull) memory_last))

@@ -1,4 +1,4 @@
--- What stands after a history, for who reports it.
+-- What stands after a history, as a report shows it.
 use Rattle.std.specs.Prelude.{ℕ, ◌+◌, List, [], ◌∷◌}
 use Rattle.std.specs.List.{sum_by}
 use Rattle.mh_network.specs.Problems.{kept_gain}

@@ -29,7 +29,7 @@ impl Model for Arguments {
 
     ghost Value = { List Held };
 
-    ghost use Rattle.mh_core.specs.ArgumentViews.{arguments};
+    ghost use Rattle.mh_core.specs.Arguments.{arguments};
 
     ghost view = { arguments };
 }

@@ -21,7 +21,7 @@ use Rattle.mh_tree.specs.Tree.{Tree, Filters, constant, identity, operation, ins
 use Rattle.mh_tree.specs.TypeOf.{type_of}
 use Rattle.mh_tree.specs.Typing.{IsTyped, AreTyped}
 use Rattle.mh_tree.specs.Laws.{few_parameters, type_computed, mean_leading, filtered_length, Reads, reads_now, reads_at, reads_inserted, reads_discarded, reads_permuted, reads_one, reads_newest, reads_set, reads_nothing, permuted_wide, filter_wide, shorter, one_more, means}
-use Rattle.mh_tree.specs.Code.{Code, leaf, apply, bind, branch, switch, call}
+use Rattle.mh_tree.specs.Code.{Code, leaf, apply, bind, branch, point as code_point, invoke as code_invoke}
 use Rattle.mh_tree.specs.Running.{value_of}
 use Rattle.mh_eval.proofs.EntersLeading.{chosen_along, one_along, enters_leading}
 use Rattle.mh_eval.specs.Entered.{WithValue, Chosen, OneOf, IsPlainKind, ArePlain, IsPlain, WithArguments, EntersPlain, FiltersPlain, plain_below}

@@ -5,7 +5,7 @@ use Rattle.mh_type.specs.declared.operation.Op.TheVariants.{Concat}
 use Rattle.mh_type.specs.declared.value.Value.{Value}
 use Rattle.mh_type.specs.Kinds.{kind_of}
 use Rattle.mh_tree.specs.Meaning.{is_valid}
-use Rattle.mh_tree.specs.Code.{Code, leaf, apply, bind, branch, switch, call}
+use Rattle.mh_tree.specs.Code.{Code, leaf, apply, bind, branch, point, invoke}
 use Rattle.mh_tree.specs.Running.{run_code, value_of}
 use Rattle.mh_eval.specs.Entered.{WithValue, Chosen, OneOf, IsPlainKind, plain_below}
 use Rattle.mh_eval.specs.declared.answer.Answer.{Answer}
@@ -23,8 +23,8 @@ IsQuiet v (leaf s o) a l = kind_of (value_of a l o) ≡ kind.Text → ⊥
 IsQuiet v (apply s op x y) a l = op ≡ Concat → ⊥
 IsQuiet v (bind s f g) a l = IsQuiet v f a l × WithValue (run_code (env v) f a l) (λ x. IsQuiet v g a (l ++ x ∷ []))
 IsQuiet v (branch s c x y) a l = IsQuiet v c a l × WithValue (run_code (env v) c a l) (λ b. Chosen b (IsQuiet v x a l) (IsQuiet v y a l))
-IsQuiet v (switch s p x y) a l = OneOf (is_valid (env v) p) (IsQuiet v x a l) (IsQuiet v y a l)
-IsQuiet v (call s k os) a l = NoTexts (map (value_of a l) os) × plain_below v.level v.valid v.targets k (map (value_of a l) os)
+IsQuiet v (point s p x y) a l = OneOf (is_valid (env v) p) (IsQuiet v x a l) (IsQuiet v y a l)
+IsQuiet v (invoke s k os) a l = NoTexts (map (value_of a l) os) × plain_below v.level v.valid v.targets k (map (value_of a l) os)
 
 -- how many locals there may be at once
 abbrev pub deep : Code → ℕ
@@ -32,8 +32,8 @@ deep (leaf s o) = 0
 deep (apply s op x y) = 0
 deep (bind s f g) = max (deep f) (1 + deep g)
 deep (branch s c x y) = max (deep c) (max (deep x) (deep y))
-deep (switch s p x y) = max (deep x) (deep y)
-deep (call s k os) = 0
+deep (point s p x y) = max (deep x) (deep y)
+deep (invoke s k os) = 0
 
 -- memory was not refused
 abbrev pub IsAnswered : Answer → Type 0

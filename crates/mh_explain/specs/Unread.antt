@@ -14,12 +14,12 @@ use Rattle.mh_text.specs.declared.json.form.InputForm.{InputForm}
 use Rattle.mh_text.specs.declared.json.form.InputForm.TheVariants as input
 use Rattle.mh_text.specs.declared.key.Field.{Field}
 use Rattle.mh_text.specs.declared.key.Field.TheVariants as field
-use Rattle.mh_explain.specs.declared.unread.Step.{Step}
-use Rattle.mh_explain.specs.declared.unread.Step.TheVariants.{At, Each, Offered}
+use Rattle.mh_explain.specs.declared.unread.Reach.{Reach}
+use Rattle.mh_explain.specs.declared.unread.Reach.TheVariants.{At, Each, Offered}
 
 -- objects of one kind: the steps that lead to them, and the keys that are known of each
 pub record Objects : Type 0 where
-  pub steps : List Step
+  pub steps : List Reach
   pub keys : List Field
 
 -- the keys of a link, whose charge version 1 does not read; its name is known, for those who read the input, and is never read
@@ -71,7 +71,7 @@ script_objects version =
     ∷ offered_objects ∷ []
 
 -- a problem, which stands at the end of these steps, and each link in it
-abbrev pub problem_at : List Step → Version → List Objects
+abbrev pub problem_at : List Reach → Version → List Objects
 problem_at steps version =
     record { steps = steps; keys = field.Version ∷ field.Costs ∷ field.Links ∷ [] }
     ∷ record { steps = steps ++ At field.Links ∷ Each ∷ []; keys = row_keys version } ∷ []
@@ -167,7 +167,7 @@ offered_in d = if is_word (codes "offer") (text_in (at 0 d)) then at 2 d else No
 
 -- the number of the first event with an object, at the end of these steps, that has a key that nothing reads; at n where
 -- the steps lead through no event
-abbrev pub first_along : List Field → List Step → ℕ → Data → Option ℕ
+abbrev pub first_along : List Field → List Reach → ℕ → Data → Option ℕ
 first_along keys [] n d = if has_unread keys d then Some n else None
 first_along keys (At key ∷ steps) n d = first_where (first_along keys steps n) (get (field_name key) d)
 first_along keys (Each ∷ steps) n d = first_in (λ _. first_along keys steps n) 1 (items_in d)

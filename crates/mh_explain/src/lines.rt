@@ -8,7 +8,7 @@ ghost use Rattle.mh_explain.specs.Explanations.{misread_of, place_text, script_a
 use crate::faulty::{FaultyPart, faulty_part};
 use crate::found::found;
 use crate::no_json::Text;
-use crate::path::Path;
+use crate::path::ShownPath;
 use crate::spot::Spot;
 use crate::values::value_at;
 use crate::why::why;
@@ -25,7 +25,7 @@ fn path_text(alloc: Global, keys: &[Key]) -> Result<String, NoMemory>
     if keys.is_empty() {
         return Ok(String::from_str(alloc, "the input itself")?);
     }
-    let path = Path { keys };
+    let path = ShownPath { keys };
     Ok(format!(in alloc; "{path}")?)
 }
 

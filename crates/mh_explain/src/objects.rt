@@ -53,7 +53,7 @@ pub(crate) const PLAN_KEYS: &[Field] = &[
     Field::Charges,
 ];
 
-/// The keys that are known of a link of a site. Its name is not read: it is for who reads the
+/// The keys that are known of a link of a site. Its name is not read: it is for a reader of the
 /// input.
 pub(crate) fn link_keys(version: Version) -> &'static [Field]
     ensures value { result.now ≡ keys_of_link version }

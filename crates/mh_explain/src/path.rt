@@ -11,12 +11,12 @@ use std::fmt;
 
 /// Keys that lead from an input to a part of it.
 #[derive(Clone, Copy)]
-pub(crate) struct Path<'a> {
+pub(crate) struct ShownPath<'a> {
     pub keys: &'a [Key],
 }
 
 /// The keys with a dot, and the numbers of items in brackets: `definition.sites[3].target[1]`.
-impl fmt::Display for Path<'_> {
+impl fmt::Display for ShownPath<'_> {
     ghost output = { λ path. Some (path_text path.keys.now) };
 
     fn fmt<W: fmt::Write>(&self, f: &mut fmt::Formatter<W>) -> fmt::Result {

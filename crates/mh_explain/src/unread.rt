@@ -1,7 +1,7 @@
 //! The keys of an input that nothing reads.
 ghost use Rattle.std.specs.Prelude.{◌≡◌, ◌∷◌, [], map, option_map, Some, None, if◌then◌else◌, IfOk, OnOk};
 ghost use Rattle.serde_json.specs.View.{view, members_view};
-ghost use Rattle.mh_explain.specs.declared.unread.Step.TheVariants.{At};
+ghost use Rattle.mh_explain.specs.declared.unread.Reach.TheVariants.{At};
 ghost use Rattle.mh_explain.specs.Unread.{first_along, first_in, first_of, first_unread_in, first_where, has_other, is_read as is_among, offered_in, or_later, version_in, objects_of, script_objects, problem_objects, claim_objects};
 
 use crate::near::nearest;
@@ -9,7 +9,7 @@ use crate::objects::{
     CLAIM_KEYS, DEFINITION_KEYS, LIMIT_KEYS, PLAN_KEYS, POINT_KEYS, PROBLEM_KEYS, SCRIPT_KEYS,
     SITE_KEYS, link_keys, row_keys,
 };
-use crate::path::{Path, longer};
+use crate::path::{ShownPath, longer};
 use crate::values::{items, version_of};
 use mh_base::NoMemory;
 use mh_site::Version;
@@ -19,7 +19,7 @@ use std::alloc::Global;
 
 /// A step from a value to values inside it.
 #[derive(Clone, Copy, Debug, PartialEq, Eq)]
-pub(crate) enum Step {
+pub(crate) enum Reach {
     /// To what an object has at a key.
     At(Field),
     /// To each item of a list.
@@ -129,7 +129,7 @@ impl UnreadKeys {
         &mut self,
         alloc: Global,
         look: &Look<'_>,
-        steps: &[Step],
+        steps: &[Reach],
         value: &Value,
     ) -> Result<(), NoMemory>
         ensures first { OnOk result (self.new.first ≡ or_later self.old.first
@@ -139,9 +139,9 @@ impl UnreadKeys {
             return self.add_here(alloc, look, value);
         };
         match step {
-            Step::At(field) => self.add_at(alloc, look, *field, rest, value),
-            Step::Each => self.add_each(alloc, look, rest, items(value)),
-            Step::Offered => self.add_offered(alloc, look, rest, items(value)),
+            Reach::At(field) => self.add_at(alloc, look, *field, rest, value),
+            Reach::Each => self.add_each(alloc, look, rest, items(value)),
+            Reach::Offered => self.add_offered(alloc, look, rest, items(value)),
         }
     }
 
@@ -152,7 +152,7 @@ impl UnreadKeys {
         alloc: Global,
         look: &Look<'_>,
         field: Field,
-        steps: &[Step],
+        steps: &[Reach],
         value: &Value,
     ) -> Result<(), NoMemory>
         ensures first { OnOk result (self.new.first ≡ or_later self.old.first
@@ -176,7 +176,7 @@ impl UnreadKeys {
         &mut self,
         alloc: Global,
         look: &Look<'_>,
-        steps: &[Step],
+        steps: &[Reach],
         items: &[Value],
     ) -> Result<(), NoMemory>
         ensures first { OnOk result (self.new.first ≡ or_later self.old.first
@@ -200,7 +200,7 @@ impl UnreadKeys {
         &mut self,
         alloc: Global,
         look: &Look<'_>,
-        steps: &[Step],
+        steps: &[Reach],
         events: &[Value],
     ) -> Result<(), NoMemory>
         ensures first { OnOk result (self.new.first ≡ or_later self.old.first
@@ -226,7 +226,7 @@ impl UnreadKeys {
     fn add_objects(
         &mut self,
         alloc: Global,
-        steps: &[Step],
+        steps: &[Reach],
         keys: &[Field],
         value: &Value,
     ) -> Result<(), NoMemory>
@@ -245,7 +245,7 @@ impl UnreadKeys {
 /// The note of a key that nothing reads.
 fn note(alloc: Global, look: &Look<'_>, key: &str) -> Result<String, NoMemory> {
     let mut note = String::new(alloc);
-    let place = Path { keys: look.path };
+    let place = ShownPath { keys: look.path };
     write!(note, "note: {place}")?;
     push_key(alloc, &mut note, look.path.is_empty(), key)?;
     note.push_str(" is not read")?;
@@ -321,18 +321,23 @@ impl UnreadKeys {
         ensures first { OnOk result (self.new.first ≡ or_later self.old.first
             (first_of (script_objects version) (view script.now))) }
     {
-        let definition = Step::At(Field::Definition);
-        let (points, sites) = (Step::At(Field::Points), Step::At(Field::Sites));
-        let (links, limits) = (Step::At(Field::Links), Step::At(Field::Limits));
-        let events = Step::At(Field::Events);
+        let definition = Reach::At(Field::Definition);
+        let (points, sites) = (Reach::At(Field::Points), Reach::At(Field::Sites));
+        let (links, limits) = (Reach::At(Field::Links), Reach::At(Field::Limits));
+        let events = Reach::At(Field::Events);
         self.add_objects(alloc, &[], SCRIPT_KEYS, script)?;
         self.add_objects(alloc, &[definition], DEFINITION_KEYS, script)?;
-        self.add_objects(alloc, &[definition, points, Step::Each], POINT_KEYS, script)?;
-        self.add_objects(alloc, &[definition, sites, Step::Each], SITE_KEYS, script)?;
-        let to_links = [definition, sites, Step::Each, links, Step::Each];
+        self.add_objects(
+            alloc,
+            &[definition, points, Reach::Each],
+            POINT_KEYS,
+            script,
+        )?;
+        self.add_objects(alloc, &[definition, sites, Reach::Each], SITE_KEYS, script)?;
+        let to_links = [definition, sites, Reach::Each, links, Reach::Each];
         self.add_objects(alloc, &to_links, link_keys(version), script)?;
         self.add_objects(alloc, &[limits], LIMIT_KEYS, script)?;
-        self.add_objects(alloc, &[events, Step::Offered], PLAN_KEYS, script)?;
+        self.add_objects(alloc, &[events, Reach::Offered], PLAN_KEYS, script)?;
         Ok(())
     }
 
@@ -346,9 +351,9 @@ impl UnreadKeys {
         ensures first { OnOk result (self.new.first ≡ or_later self.old.first
             (first_of (problem_objects version) (view problem.now))) }
     {
-        let links = Step::At(Field::Links);
+        let links = Reach::At(Field::Links);
         self.add_objects(alloc, &[], PROBLEM_KEYS, problem)?;
-        self.add_objects(alloc, &[links, Step::Each], row_keys(version), problem)
+        self.add_objects(alloc, &[links, Reach::Each], row_keys(version), problem)
     }
 
     /// Adds the keys of a problem and a plan that nothing reads.
@@ -356,13 +361,13 @@ impl UnreadKeys {
         ensures first { OnOk result (self.new.first ≡ or_later self.old.first
             (first_of (claim_objects version) (view claim.now))) }
     {
-        let problem = Step::At(Field::Problem);
-        let (links, plan) = (Step::At(Field::Links), Step::At(Field::Plan));
+        let problem = Reach::At(Field::Problem);
+        let (links, plan) = (Reach::At(Field::Links), Reach::At(Field::Plan));
         self.add_objects(alloc, &[], CLAIM_KEYS, claim)?;
         self.add_objects(alloc, &[problem], PROBLEM_KEYS, claim)?;
         self.add_objects(
             alloc,
-            &[problem, links, Step::Each],
+            &[problem, links, Reach::Each],
             row_keys(version),
             claim,
         )?;

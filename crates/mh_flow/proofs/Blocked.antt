@@ -6,7 +6,7 @@ use Rattle.std.proofs.lemmas.List.{get_or_past}
 use Rattle.std.proofs.lemmas.List.Sums.{sum_by-set}
 use Rattle.mh_flow.specs.declared.need_row.NeedRow.{NeedRow}
 use Rattle.mh_flow.specs.Carried.{row_at, number_at}
-use Rattle.mh_flow.specs.Layers.{IsPushed}
+use Rattle.mh_flow.specs.Paths.{IsPushed}
 use Rattle.mh_flow.specs.Levels.{IsLower}
 use Rattle.mh_flow.specs.LayerData.{LayerData, IsLayerRun, IsEnd, IsPathPushed}
 use Rattle.mh_flow.specs.inner.Over.{IsOpen, IsOver, IsSameLevels}

@@ -6,7 +6,7 @@ use Rattle.std.proofs.lemmas.List.{get_or_past}
 use Rattle.std.proofs.lemmas.List.Sums.{count_by-le-length}
 use Rattle.mh_network.specs.Problems.{needs_point}
 use Rattle.mh_flow.specs.Carried.{row_at, no_row, number_at}
-use Rattle.mh_flow.specs.Distances.{Node, IsNode, HasRoom, Reaches, level_of, AreDistances}
+use Rattle.mh_flow.specs.Distances.{Node, IsNode, IsResidual, Reaches, level_of, AreDistances}
 use Rattle.mh_flow.specs.Distances.Node.{source, link, point, sink}
 use Rattle.mh_flow.specs.Levels.{far, reached_count}
 use Rattle.mh_flow.specs.LayerData.{LayerData, IsLayerRun, IsSinkLevel}
@@ -17,7 +17,7 @@ module _ (a : LayerData) (kept : IsLayerRun a) (layered : IsLayered a.rows a.gai
   few : reached_count a.links + reached_count a.points + 2 < far
   few = omega (arith, count_by-le-length (λ v. nat_lt v far) a.links, count_by-le-length (λ v. nat_lt v far) a.points, kept.link_levels, kept.point_levels, kept.known.links, kept.known.points)
 
-  onward : (u v : Node) → HasRoom a u v → level_of a u < far → (level_of a v ≤ level_of a u + 1) × (level_of a v < far)
+  onward : (u v : Node) → IsResidual a u v → level_of a u < far → (level_of a v ≤ level_of a u + 1) × (level_of a v < far)
   onward source (link j) room f = (omega (arith, layered.spare j room), omega (arith, layered.spare j room))
   onward (link j) (point p) room f =
       let row = kept.run.complete j p room in

@@ -4,7 +4,7 @@ use Rattle.mh_flow.specs.declared.need_row.NeedRow.{NeedRow}
 use Rattle.mh_flow.specs.Carried.{row_at, number_at}
 use Rattle.mh_flow.specs.Levels.{far}
 use Rattle.mh_flow.specs.Run.{IsLayered}
-use Rattle.mh_flow.specs.Layers.{IsPushed}
+use Rattle.mh_flow.specs.Paths.{IsPushed}
 use Rattle.mh_flow.specs.inner.Spent.{IsPhase}
 
 -- the phase is over: what the source reaches by edges that lead up one level lies in D and E, and there the sink is not next

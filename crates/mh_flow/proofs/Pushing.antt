@@ -7,7 +7,7 @@ use Rattle.mh_network.specs.Sums.{amount_at}
 use Rattle.mh_flow.specs.declared.need_row.NeedRow.{NeedRow}
 use Rattle.mh_flow.specs.declared.path.Turn.{Turn}
 use Rattle.mh_flow.specs.Carried.{row_at, no_row, number_at}
-use Rattle.mh_flow.specs.Layers.{IsPath, IsPushed, IsSent, IsMoved, IsSameRow, IsTurn, least_of, room, times}
+use Rattle.mh_flow.specs.Paths.{IsPath, IsPushed, IsSent, IsMoved, IsSameRow, IsTurn, least_of, room, times}
 
 -- a row with another amount
 abbrev pub with_amount : NeedRow → ℕ → NeedRow

@@ -12,7 +12,7 @@ use Rattle.mh_flow.specs.declared.need_row.NeedRow.{NeedRow}
 use Rattle.mh_flow.specs.Carried.{row_at, no_row, number_at}
 use Rattle.mh_flow.specs.Charged.{paid_of}
 use Rattle.mh_flow.specs.Chains.{IsChained}
-use Rattle.mh_flow.specs.Layers.{IsPushed}
+use Rattle.mh_flow.specs.Paths.{IsPushed}
 use Rattle.mh_flow.specs.Levels.{IsInRange, far}
 use Rattle.mh_flow.specs.Run.{IsRun, needs_below}
 use Rattle.mh_flow.specs.inner.Spent.{IsSpent}

@@ -16,7 +16,7 @@ use Rattle.mh_network.specs.declared.link_row.LinkRow.{LinkRow}
 use Rattle.mh_flow.specs.declared.need_row.NeedRow.{NeedRow}
 use Rattle.mh_flow.specs.Carried.{carried, row_at, no_row, number_at, into_point}
 use Rattle.mh_flow.specs.Charged.{paid_of}
-use Rattle.mh_flow.specs.Layers.{IsPushed, IsWithin, IsSameRow}
+use Rattle.mh_flow.specs.Paths.{IsPushed, IsWithin, IsSameRow}
 use Rattle.mh_flow.specs.Run.{IsRun, IsOrdered, needs_below, row_of}
 
 abbrev idle : ℕ → ℕ → NeedRow

@@ -8,7 +8,7 @@ use Rattle.mh_flow.specs.declared.need_row.NeedRow.{NeedRow}
 use Rattle.mh_flow.specs.declared.path.Turn.{Turn}
 use Rattle.mh_flow.specs.Carried.{row_at, no_row, number_at}
 use Rattle.mh_flow.specs.Chains.{IsLastBelow}
-use Rattle.mh_flow.specs.Layers.{IsPath, IsFirst, IsWalk, IsTurn}
+use Rattle.mh_flow.specs.Paths.{IsPath, IsFirst, IsWalk, IsTurn}
 use Rattle.mh_flow.specs.Levels.{far, IsInRange, IsLower}
 use Rattle.mh_flow.specs.inner.Spent.{IsPhase, IsSpent, IsSpentForth, IsSpentBack, IsRowBack}
 use Rattle.mh_flow.specs.Spreads.{link_key, point_key}

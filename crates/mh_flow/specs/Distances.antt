@@ -1,4 +1,4 @@
--- Distances from the source over edges with room left.
+-- Distances from the source over residual edges.
 use Rattle.std.specs.Prelude.{ℕ, zero, suc, ◌≡◌, ◌≤◌, ◌<◌, true, length}
 use Rattle.mh_network.specs.Problems.{charge_of, needs_point}
 use Rattle.mh_flow.specs.Carried.{row_at, number_at}
@@ -18,20 +18,20 @@ IsNode a (link j) = j < length a.problem.links
 IsNode a (point p) = p < length a.problem.costs
 IsNode a sink = Unit {0}
 
--- an edge with room left: to a link with spare gain, to a point that a link needs, back to a link that carries something
+-- a residual edge: to a link with spare gain, to a point that a link needs, back to a link that carries something
 -- to a point, and to the sink from a point with spare cost and from a link with spare charge
-abbrev pub HasRoom : LayerData → Node → Node → Type 0
-HasRoom a source (link j) = 0 < number_at a.gain_left j
-HasRoom a (link j) (point p) = needs_point a.problem j p ≡ true
-HasRoom a (point p) (link j) = (k : ℕ) × (k < length a.rows) × ((row_at a.rows k).link ≡ j) × ((row_at a.rows k).point ≡ p) × (0 < (row_at a.rows k).amount)
-HasRoom a (point p) sink = 0 < number_at a.cost_left p
-HasRoom a (link j) sink = paid_of a.problem j < charge_of a.problem j
-HasRoom a u v = ⊥
+abbrev pub IsResidual : LayerData → Node → Node → Type 0
+IsResidual a source (link j) = 0 < number_at a.gain_left j
+IsResidual a (link j) (point p) = needs_point a.problem j p ≡ true
+IsResidual a (point p) (link j) = (k : ℕ) × (k < length a.rows) × ((row_at a.rows k).link ≡ j) × ((row_at a.rows k).point ≡ p) × (0 < (row_at a.rows k).amount)
+IsResidual a (point p) sink = 0 < number_at a.cost_left p
+IsResidual a (link j) sink = paid_of a.problem j < charge_of a.problem j
+IsResidual a u v = ⊥
 
--- n edges with room lead from the source to v
+-- n residual edges lead from the source to v
 abbrev pub Reaches : LayerData → ℕ → Node → Type 0
 Reaches a zero v = v ≡ source
-Reaches a (suc n) v = (u : Node) × Reaches a n u × HasRoom a u v
+Reaches a (suc n) v = (u : Node) × Reaches a n u × IsResidual a u v
 
 abbrev pub level_of : LayerData → Node → ℕ
 level_of a source = 0

@@ -6,7 +6,7 @@ use Rattle.mh_flow.specs.Carried.{carried, number_at, row_at}
 use Rattle.mh_flow.specs.Distances.{AreDistances}
 use Rattle.mh_flow.specs.FlowData.{FlowData}
 use Rattle.mh_flow.specs.LayerData.{LayerData, IsLayerRun, IsEnd, IsPathPushed, IsSameFlow}
-use Rattle.mh_flow.specs.Layers.{IsPath, IsSent, room}
+use Rattle.mh_flow.specs.Paths.{IsPath, IsSent, room}
 use Rattle.mh_flow.specs.Levels.{far}
 use Rattle.mh_flow.specs.Run.{positive_rows}
 

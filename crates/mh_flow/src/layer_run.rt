@@ -8,7 +8,7 @@ ghost use Rattle.mh_flow.specs.Carried.{carried, number_at};
 ghost use Rattle.mh_flow.specs.Charged.{paid_charges, paid_of};
 ghost use Rattle.mh_flow.specs.Distances.{AreDistances};
 ghost use Rattle.mh_flow.specs.LayerData.{HasNoLevels, IsLayerRun, IsSameFlow, IsEnd, IsPathPushed, IsSinkLevel};
-ghost use Rattle.mh_flow.specs.Layers.{IsPath, room};
+ghost use Rattle.mh_flow.specs.Paths.{IsPath, room};
 ghost use Rattle.mh_flow.specs.Levels.{far, IsLower};
 ghost use Rattle.mh_flow.specs.Phases.{IsSentAlong};
 ghost use Rattle.mh_flow.specs.Run.{IsLayered, is_reached, positive_rows};

@@ -3,7 +3,7 @@
 ghost use Rattle.std.specs.Prelude.{◌≡◌, ◌<◌, ◌≤◌, length, IfOk, OnOk, MatchOption};
 ghost use Rattle.mh_flow.specs.Carried.{number_at};
 ghost use Rattle.mh_flow.specs.LayerData.{IsIndexed};
-ghost use Rattle.mh_flow.specs.Layers.{IsPath};
+ghost use Rattle.mh_flow.specs.Paths.{IsPath};
 ghost use Rattle.mh_flow.specs.Levels.{far, IsInRange, IsLower};
 ghost use Rattle.mh_flow.specs.inner.Spent.{IsPhase, IsSpent, IsRowBack};
 ghost use Rattle.mh_flow.specs.Spreads.{point_key};

@@ -82,8 +82,8 @@ abbrev pub settled : LedgerState → LedgerState
 settled l = record { worker = l.worker; limit = l.limit; unflushed = replicate (length l.unflushed) 0; flushed = added l.flushed l.unflushed }
 
 -- no total would pass the limit by the flush of this ledger
-abbrev pub HasRoom : TotalsState → LedgerState → Type 0
-HasRoom t l = (j : ℕ) → j < length t.total → at t.total j + at l.unflushed j ≤ t.limit
+abbrev pub FlushFits : TotalsState → LedgerState → Type 0
+FlushFits t l = (j : ℕ) → j < length t.total → at t.total j + at l.unflushed j ≤ t.limit
 
 -- after the flush of this ledger
 abbrev pub flushed_into : TotalsState → LedgerState → TotalsState

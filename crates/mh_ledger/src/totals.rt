@@ -2,7 +2,7 @@
 
 ghost use Rattle.std.specs.Prelude.{◌≡◌, ◌≢◌, ◌+◌, ◌<◌, ◌≤◌, ◌^◌, ◌↔◌, ℕ, List, length, map, replicate, slice_set, IfOk, OnOk, OnErr, IsTrue};
 ghost use Rattle.std.specs.List.{All, range_with_len, sum_by};
-ghost use Rattle.mh_ledger.specs.Ledgers.{at, ledger_at, made, opened_ledger, opened_totals, settled, flushed_into, share_of, AreHeld, HasRoom, Holds, IsLedger, IsTotals, LedgerState};
+ghost use Rattle.mh_ledger.specs.Ledgers.{at, ledger_at, made, opened_ledger, opened_totals, settled, flushed_into, share_of, AreHeld, FlushFits, Holds, IsLedger, IsTotals, LedgerState};
 ghost use Rattle.mh_ledger.specs.Extensions.{extended_ledger, extended_totals, longer as with_zeros};
 ghost use Rattle.mh_ledger.specs.Limits.{greatest_limit};
 ghost use Rattle.mh_ledger.specs.Renewals.{left_of, renewed_ledger, renewed_totals};
@@ -179,7 +179,7 @@ impl Totals {
     /// Whether no total would pass the limit, if this ledger were flushed. O(links).
     pub fn has_room(&self, ledger: &Ledger) -> bool
         requires held { Holds self.now ledger.now }
-        ensures decides { IsTrue result ↔ HasRoom self.now ledger.now }
+        ensures decides { IsTrue result ↔ FlushFits self.now ledger.now }
     {
         let _worker = ledger.worker();
         all_fit(&self.totals, ledger.unflushed_hits(), self.limit)
@@ -192,7 +192,7 @@ impl Totals {
     /// Refused just where some total would pass the limit, and then nothing changes.
     pub fn flush(&mut self, ledger: &mut Ledger) -> Result<(), TotalTooLarge>
         requires held { Holds self.old ledger.old }
-        ensures room { OnOk result (HasRoom self.old ledger.old) }
+        ensures room { OnOk result (FlushFits self.old ledger.old) }
         ensures totals { OnOk result (self.new ≡ flushed_into self.old ledger.old) }
         ensures ledger { OnOk result (ledger.new ≡ settled ledger.old) }
         ensures rises { OnOk result ((j : ℕ) → at self.new.total j
@@ -204,7 +204,7 @@ impl Totals {
             → Holds self.new l }
         ensures all { (ledgers : List LedgerState) → AreHeld self.old ledgers
             → AreHeld self.new (slice_set ledgers ledger.old.worker ledger.new) }
-        ensures full { OnErr result (HasRoom self.old ledger.old → ⊥) }
+        ensures full { OnErr result (FlushFits self.old ledger.old → ⊥) }
         ensures same { OnErr result (self.new ≡ self.old) }
         ensures kept { OnErr result (ledger.new ≡ ledger.old) }
     {
@@ -219,7 +219,7 @@ impl Totals {
     // Adds the hits that a ledger has not flushed to the totals, and to its worker's share.
     fn take(&mut self, ledger: &Ledger)
         requires held { Holds self.old ledger.now }
-        requires room { HasRoom self.old ledger.now }
+        requires room { FlushFits self.old ledger.now }
         ensures value { self.new ≡ flushed_into self.old ledger.now }
         ensures totals { IsTotals self.old }
         ensures ledger { IsLedger ledger.now }

@@ -8,7 +8,7 @@ use Rattle.mh_site.specs.declared.control.Control.{Control}
 use Rattle.mh_core.specs.Books.{BookState, IsBook, Legal, Rejects, Takes}
 use Rattle.mh_core.specs.Pending.{IsReady, PendingState, SameBook, control_of}
 use Rattle.mh_core.specs.Replayed.{controls, world}
-use Rattle.mh_core.specs.Rows.{tests}
+use Rattle.mh_core.specs.Rows.{tests_of_record}
 use Rattle.mh_base.specs.Tests.{Tests, test, may_tell, no_more, Passes, Refuses}
 use Rattle.mh_core.specs.declared.record.Record.{Record}
 use Rattle.mh_core.specs.declared.record.Record.TheVariants.{Flushed, Targeted, Invalidated, Snapped, Published, Installed}
@@ -75,7 +75,7 @@ list_of_change b new p c front next ready none takes own known more =
     (plain, more ∙ (ap (λ (cs : List Control). cs ++ c ∷ []) known ∙ sym (list_push b new p.entry c (change_of b p.entry p.effect c ready.effect own) plain)))
 
 -- ---- refusals
--- want of memory may be told where all tests pass
+-- out of memory may be the refusal where all tests pass
 abbrev MayWant : Tests Refusal → Type 0
 MayWant (no_more tells) = tells NoMemory
 MayWant (test fact tells later) = MayWant later
@@ -86,7 +86,7 @@ passes_wanting (no_more tells) may passes = may
 passes_wanting (test fact tells later) may passes = inr (passes.0, passes_wanting later may passes.1)
 passes_wanting (may_tell tells later) may passes = inr (passes_wanting later may passes)
 
-may_want : (d : DefinitionData) (l : LimitsData) (n : ℕ) (r : List Record) (e : Record) → MayWant (tests d l n r e)
+may_want : (d : DefinitionData) (l : LimitsData) (n : ℕ) (r : List Record) (e : Record) → MayWant (tests_of_record d l n r e)
 may_want d l n r (Flushed w hits) = refl
 may_want d l n r (Targeted s tree) = refl
 may_want d l n r (Invalidated points) = refl
@@ -95,11 +95,11 @@ may_want d l n r (Published snapshot plan) = refl
 may_want d l n r (Installed plan) = refl
 
 -- where no call was accepted beside the records
-pub plain_refusal : (b : BookState) (e : Record) (told : Refusal) → Refuses (tests b.definition b.limits (length b.records + 0) b.records e) told → IsLegalRefusal b e told
-plain_refusal b e told refuses = subst (λ (n : ℕ). Refuses (tests b.definition b.limits n b.records e) told) (omega arith) refuses
+pub plain_refusal : (b : BookState) (e : Record) (told : Refusal) → Refuses (tests_of_record b.definition b.limits (length b.records + 0) b.records e) told → IsLegalRefusal b e told
+plain_refusal b e told refuses = subst (λ (n : ℕ). Refuses (tests_of_record b.definition b.limits n b.records e) told) (omega arith) refuses
 
 pub ready_refusal : (old mid : BookState) (p : PendingState) (told : Refusal) → SameBook old mid → p.calls ≡ 0 → IsReady mid p → told ≡ NoMemory → IsLegalRefusal old p.entry told
 ready_refusal old mid p told same none ready is =
     let moved : IsReady (record old { room = mid.room }) p = subst (λ (b : BookState). IsReady b p) same ready in
-    let legal : Refuses (tests old.definition old.limits (length old.records + p.calls) old.records p.entry) NoMemory = passes_wanting (tests old.definition old.limits (length old.records + p.calls) old.records p.entry) (may_want old.definition old.limits (length old.records + p.calls) old.records p.entry) moved.passes in
-    subst (IsLegalRefusal old p.entry) (sym is) (plain_refusal old p.entry NoMemory (subst (λ (n : ℕ). Refuses (tests old.definition old.limits (length old.records + n) old.records p.entry) NoMemory) none legal))
+    let legal : Refuses (tests_of_record old.definition old.limits (length old.records + p.calls) old.records p.entry) NoMemory = passes_wanting (tests_of_record old.definition old.limits (length old.records + p.calls) old.records p.entry) (may_want old.definition old.limits (length old.records + p.calls) old.records p.entry) moved.passes in
+    subst (IsLegalRefusal old p.entry) (sym is) (plain_refusal old p.entry NoMemory (subst (λ (n : ℕ). Refuses (tests_of_record old.definition old.limits (length old.records + n) old.records p.entry) NoMemory) none legal))

@@ -14,7 +14,7 @@ use Rattle.mh_core.specs.Limits.{LimitsData}
 use Rattle.mh_core.specs.Problems.{IsTaken, problem_at}
 use Rattle.mh_core.specs.Records.{hits_in}
 use Rattle.mh_core.specs.Replayed.{changes, controls}
-use Rattle.mh_core.specs.Rows.{tests}
+use Rattle.mh_core.specs.Rows.{tests_of_record}
 use Rattle.mh_base.specs.Tests.{Passes}
 use Rattle.mh_core.specs.declared.record.Record.{Record}
 use Rattle.mh_core.specs.declared.record.Record.TheVariants.{Flushed, Targeted, Invalidated, Installed}
@@ -37,7 +37,7 @@ receipt_of d l n o new e r office accepts =
     record {
       before = b.records;
       legal = office.lawful.legal;
-      passes = subst (λ (n : ℕ). Passes (tests b.definition b.limits n b.records e)) (omega arith) accepts.takes.passes;
+      passes = subst (λ (n : ℕ). Passes (tests_of_record b.definition b.limits n b.records e)) (omega arith) accepts.takes.passes;
       answers = accepts.answers;
       told_list = accepts.told_list ∙ (ap (λ (x : DefinitionData). reverse (controls x new.book.records)) accepts.takes.definition ∙ ap (λ (rs : List Record). reverse (controls b.definition rs)) accepts.takes.records);
     }

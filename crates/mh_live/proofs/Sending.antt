@@ -25,8 +25,8 @@ use Rattle.mh_live.specs.contracts.live.Live as Live
 use Rattle.mh_live.specs.contracts.office.Office as Office
 use Rattle.mh_live.specs.contracts.pass.Pass as Pass
 use Rattle.mh_live.specs.contracts.published.Published as Published
-use Rattle.mh_live.specs.contracts.published.Step as Step
-use Rattle.mh_live.specs.declared.front.Name.{Ghosts}
+use Rattle.mh_live.specs.contracts.published.Publication as Publication
+use Rattle.mh_live.specs.declared.front.ListName.{Ghosts}
 
 -- what is made of parts that may cross threads
 ruleset plain = (seen.the_send, seen.the_sync, crossing.crosses, sendable)
@@ -66,10 +66,10 @@ module _ (trees : TreesCross) (stacks : StacksCross) (worlds : WorldsCross) wher
         plain,
       ) depth 60 fits 20000
 
-  step_send : IsSend Step.the_row
+  step_send : IsSend Publication.the_row
   step_send = let a = worlds.control_part_send in search plain depth 60 fits 20000
 
-  step_sync : IsSync Step.the_row
+  step_sync : IsSync Publication.the_row
   step_sync = let a = worlds.control_part_sync in search plain depth 60 fits 20000
 
   record_send : IsSend Record.the_row

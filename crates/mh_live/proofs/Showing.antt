@@ -7,7 +7,7 @@ use Rattle.mh_site.specs.Defined.{DefinitionData}
 use Rattle.mh_site.specs.Worlds.{WorldState, after, opened}
 use Rattle.mh_site.specs.declared.control.Control.{Control}
 use Rattle.mh_live.specs.declared.published.Published.{Published}
-use Rattle.mh_live.specs.declared.published.Step.TheVariants.{Change, Stamp}
+use Rattle.mh_live.specs.declared.published.Publication.TheVariants.{Change, Stamp}
 use Rattle.mh_live.specs.Offices.{CanShow}
 use Rattle.mh_live.specs.Rules.{Stands, world_after}
 use Rattle.mh_core.specs.Standing.{AreStanding}

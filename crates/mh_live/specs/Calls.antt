@@ -13,7 +13,7 @@ use Rattle.mh_live.specs.Passes.{PassState}
 use Rattle.mh_live.specs.Rules.{world_after}
 use Rattle.mh_live.specs.declared.call_fault.CallFault.{CallFault}
 use Rattle.mh_live.specs.declared.call_fault.CallFault.TheVariants.{NoSite, WrongType, LedgerFull, NotEntered, NoMemory}
-use Rattle.mh_live.specs.declared.pass.Answer.{Answer}
+use Rattle.mh_live.specs.declared.pass.PassAnswer.{PassAnswer}
 
 -- all tests pass: the site is there, the arguments fit, and the ledger has room where the call hits a link
 pub record MayCall (d : DefinitionData) (l : LedgerState) (s : ℕ) (a : List Value) : Type 0 where
@@ -23,12 +23,12 @@ pub record MayCall (d : DefinitionData) (l : LedgerState) (s : ℕ) (a : List Va
 
 -- by the world after one list of controls, of which each tree that is invoked is too: what the base tree means over base trees, the nodes
 -- that were entered of the linked tree and of linked trees that it invokes, and how long the list is
-pub record AnswersBy (d : DefinitionData) (controls : List Control) (s : ℕ) (a : List Value) (answer : Answer) : Type 0 where
+pub record AnswersBy (d : DefinitionData) (controls : List Control) (s : ℕ) (a : List Value) (answer : PassAnswer) : Type 0 where
   pub value : let w = world_after d controls in answer.outcome ≡ mean (environment_of_bases w) (state_at w s).base.tree a
   pub entered : let w = world_after d controls in answer.steps ≡ steps (environment_of_links w) (state_at w s).linked.tree a
   pub count : answer.front ≡ length controls
 
--- the first test that fails is told; one of the last two, where none does
+-- a call is refused for the first test that fails; for one of the last two, where none does
 abbrev pub RefusesCall : DefinitionData → LedgerState → ℕ → List Value → CallFault → Type 0
 RefusesCall d l s a NoSite = length d.sites ≤ s
 RefusesCall d l s a WrongType = (s < length d.sites) × (Fits (site_at d s).method_type a → ⊥)

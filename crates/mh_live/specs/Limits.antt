@@ -1,10 +1,6 @@
 -- The limits of running threads.
 use Rattle.std.specs.Prelude.{ℕ, ◌^◌}
 
--- the most workers of an opening
-abbrev pub most_workers : ℕ
-most_workers = 64
-
 -- what a list of controls is shorter than, before one is added
 abbrev pub most_controls : ℕ
 most_controls = 2 ^ 62

@@ -16,7 +16,7 @@ use Rattle.mh_live.specs.Pasts.{coded_controls}
 use Rattle.mh_live.specs.Rules.{Stands}
 use Rattle.mh_live.specs.Steps.{stepped}
 use Rattle.mh_live.specs.declared.published.Published.{Published}
-use Rattle.mh_live.specs.declared.published.Step.{Step}
+use Rattle.mh_live.specs.declared.published.Publication.{Publication}
 
 -- the book, the list of controls that passes read now, oldest first, and whether a publication was refused
 pub record OfficeState : Type 0 where
@@ -42,7 +42,7 @@ abbrev pub list_of : BookState → List Control
 list_of b = reverse (controls b.definition b.records)
 
 -- The list that is published is that of the records. Nothing is pending while the office is open, and something where it is closed
-pub record InStep (name : Book) (d : DefinitionData) (l : LimitsData) (workers : ℕ) (shown : Published) (pending : List Step) (front : List Control) (b : BookState) (closed : Bool) : Type 0 where
+pub record InStep (name : Book) (d : DefinitionData) (l : LimitsData) (workers : ℕ) (shown : Published) (pending : List Publication) (front : List Control) (b : BookState) (closed : Bool) : Type 0 where
   pub stands : Stands name d shown
   pub published : shown.past.log ≡ list_of b
   pub known : front ≡ list_of b
@@ -53,7 +53,7 @@ pub record InStep (name : Book) (d : DefinitionData) (l : LimitsData) (workers :
   pub shares : length b.totals.shares ≡ workers
 
 -- what is pending leads to a world that may be published
-abbrev pub CanShow : Book → DefinitionData → Published → List Step → Type 0
+abbrev pub CanShow : Book → DefinitionData → Published → List Publication → Type 0
 CanShow name d shown pending = (next : Published) → next ≡ fold stepped shown pending → Stands name d next × IsPrefix shown.past.log next.past.log
 
 -- what was answered, and the list of controls up to it

@@ -10,7 +10,7 @@ use Rattle.mh_site.specs.Links.{links}
 use Rattle.mh_site.specs.Worlds.{WorldState, opened}
 use Rattle.mh_core.specs.Books.{BookState, opened_book}
 use Rattle.mh_core.specs.Limits.{LimitsData, coded_limits}
-use Rattle.mh_live.specs.Limits.{most_workers}
+use Rattle.mh_base.specs.Limits.{most_workers}
 
 -- which list of controls it begins, what is declared, how many workers, and the limits
 pub record OpeningState : Type 0 where

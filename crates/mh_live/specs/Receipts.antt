@@ -9,7 +9,7 @@ use Rattle.mh_core.specs.Pending.{SameBook}
 use Rattle.mh_core.specs.Problems.{IsTaken, problem_at}
 use Rattle.mh_core.specs.Records.{hits_in}
 use Rattle.mh_core.specs.Replayed.{controls}
-use Rattle.mh_core.specs.Rows.{tests}
+use Rattle.mh_core.specs.Rows.{tests_of_record}
 use Rattle.mh_base.specs.Tests.{Passes, Refuses}
 use Rattle.mh_core.specs.declared.record.Record.{Record}
 use Rattle.mh_core.specs.declared.record.Record.TheVariants.{Flushed, Installed, Invalidated, Published, Snapped, Targeted}
@@ -35,9 +35,9 @@ pub record Accepts (o : OfficeState) (e : Record) (r : ReceiptState) (new : Offi
   pub shows : new.published ≡ list_of new.book
   pub stays : new.closed ≡ o.closed
 
--- the first failing test of a record is told, or want of memory where none fails
+-- a record is refused for the first test that fails, or out of memory where none fails
 abbrev pub IsLegalRefusal : BookState → Record → Refusal → Type 0
-IsLegalRefusal b e told = Refuses (tests b.definition b.limits (length b.records) b.records e) told
+IsLegalRefusal b e told = Refuses (tests_of_record b.definition b.limits (length b.records) b.records e) told
 
 -- the flush of a ledger that is not held, or that the book refuses
 abbrev pub IsLegalFault : BookState → LedgerState → FlushFault → Type 0
@@ -61,7 +61,7 @@ ChangesWorld (Installed m) = Unit {0}
 -- owners, left_right refused it, or the office was closed. What was closed stays so
 pub record HasHalted (o : OfficeState) (e : Record) (told : Refusal) (new : OfficeState) : Type 0 where
   pub want : told ≡ NoMemory
-  pub passes : Passes (tests o.book.definition o.book.limits (length o.book.records) o.book.records e)
+  pub passes : Passes (tests_of_record o.book.definition o.book.limits (length o.book.records) o.book.records e)
   pub room : new.book.room ≡ true
   pub stays : o.closed ≡ true → new.closed ≡ true
 
@@ -69,7 +69,7 @@ pub record HasHalted (o : OfficeState) (e : Record) (told : Refusal) (new : Offi
 abbrev pub MayClose : OfficeState → Record → Refusal → OfficeState → Type 0
 MayClose o e told new = (new ≡ o) ⊎ HasHalted o e told new
 
--- What the change that a record tells answers, and what it leaves, of an office of this definition: it is accepted while the office is
+-- What the change of a record answers, and what it leaves, of an office of this definition: it is accepted while the office is
 -- open, or refused, and the totals stay as they are
 pub record Changes (d : DefinitionData) (l : LimitsData) (workers : ℕ) (o : OfficeState) (e : Record) (result : Result ReceiptState Refusal) (new : OfficeState) : Type 0 where
   pub office : IsOffice d l workers o
@@ -84,7 +84,7 @@ pub record Changes (d : DefinitionData) (l : LimitsData) (workers : ℕ) (o : Of
 pub record IsReceipt (d : DefinitionData) (l : LimitsData) (e : Record) (r : ReceiptState) : Type 0 where
   pub before : List Record
   pub legal : Legal d l before
-  pub passes : Passes (tests d l (length before) before e)
+  pub passes : Passes (tests_of_record d l (length before) before e)
   pub answers : r.reply ≡ reply_to d before e
   pub told_list : r.front ≡ reverse (controls d (e ∷ before))
 
@@ -92,7 +92,7 @@ pub record IsReceipt (d : DefinitionData) (l : LimitsData) (e : Record) (r : Rec
 pub record IsRefusal (d : DefinitionData) (l : LimitsData) (e : Record) (told : Refusal) : Type 0 where
   pub before : List Record
   pub legal : Legal d l before
-  pub refuses : Refuses (tests d l (length before) before e) told
+  pub refuses : Refuses (tests_of_record d l (length before) before e) told
 
 -- a fault of a flush: the totals of some legal records do not hold the ledger, or a refusal
 abbrev pub IsFlushRefusal : DefinitionData → LimitsData → ℕ → LedgerState → FlushFault → Type 0

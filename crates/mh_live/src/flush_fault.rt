@@ -9,7 +9,7 @@ use thiserror::Error;
 /// Why the hits of a pass were not flushed. Nothing changed.
 #[derive(Clone, Copy, Debug, PartialEq, Eq, Error)]
 pub enum FlushFault {
-    /// The totals do not hold the ledger. It is told before all others.
+    /// The totals do not hold the ledger. This is tested first.
     #[error("16 NotHeld")]
     NotHeld,
     /// The book refused the flush.

@@ -67,7 +67,7 @@ pub type Intent = Offer<Control, u64, Law, Nothing>;
 /// Which list of controls it is, of which definition, within which limits and for how many workers:
 /// an opening makes a list, and its office, passes and receipts all carry its name. A caller takes
 /// it as a type parameter and picks it where it opens.
-pub trait Name {
+pub trait ListName {
     ghost use Rattle.std.specs.Prelude.{ℕ};
     ghost use Rattle.logbook.specs.Pages.{Book};
     ghost use Rattle.mh_site.specs.Defined.{DefinitionData};
@@ -82,7 +82,7 @@ pub trait Name {
     ghost workers: { ℕ };
 }
 
-impl Name for Brand {
+impl ListName for Brand {
     ghost use Rattle.std.specs.Prelude.{[]};
 
     ghost book = { record { number = 0; log_name = 0; cells_name = 0 } };
@@ -96,7 +96,7 @@ impl Name for Brand {
 
 /// The word that counts the controls.
 #[derive(Drop)]
-pub struct Head<N: Name> {
+pub struct Head<N: ListName> {
     word: Word<Control, u64, Law>,
     of: PhantomData<N>,
     ghost head_is: { word ≡ head_of N.book },
@@ -122,7 +122,7 @@ impl Unnamed {
     }
 
     /// The list under its name: the word, and the front without controls.
-    pub fn with_name<N: Name>(self) -> (Head<N>, Front<N>)
+    pub fn with_name<N: ListName>(self) -> (Head<N>, Front<N>)
         requires name { self.past.book ≡ N.book }
         ensures value { result.1 ≡ [] }
     {
@@ -142,13 +142,13 @@ impl Unnamed {
 /// A beginning of the list of controls that was reached. Contracts see it as its controls, oldest
 /// first. It takes 8 bytes whatever its length.
 #[derive(Drop)]
-pub struct Front<N: Name> {
+pub struct Front<N: ListName> {
     count: u64,
     past: Past,
     of: PhantomData<N>,
 }
 
-impl<N: Name> Model for Front<N> {
+impl<N: ListName> Model for Front<N> {
     ghost use Rattle.std.specs.Prelude.{◌≡◌, List, [], length};
     ghost use Rattle.mh_site.specs.declared.control.Control.{Control};
     ghost use Rattle.mh_live.specs.Pasts.{coded_controls};
@@ -163,13 +163,13 @@ impl<N: Name> Model for Front<N> {
 }
 
 /// How many controls it has.
-impl<N: Name> fmt::Debug for Front<N> {
+impl<N: ListName> fmt::Debug for Front<N> {
     fn fmt<W: fmt::Write>(&self, f: &mut fmt::Formatter<W>) -> fmt::Result {
         write!(f, "Front({} controls)", self.len())
     }
 }
 
-impl<N: Name> Front<N> {
+impl<N: ListName> Front<N> {
     /// How many controls it has.
     pub fn len(&self) -> u64
         ensures value { result ≡ length self.now }

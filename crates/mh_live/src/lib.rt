@@ -19,7 +19,7 @@
 //! for mut pass in passes {
 //!     let receipt = live.set_target(rt, 0, successor(alloc)?)?;
 //!     pass.learn(&receipt);
-//!     let Answer { outcome, steps, front } = pass.call(0, &[Value::Int(1)])?;
+//!     let PassAnswer { outcome, steps, front } = pass.call(0, &[Value::Int(1)])?;
 //!     let receipt = live.flush(rt, &mut pass)?;
 //! }
 //! ```
@@ -45,8 +45,9 @@ mod settled;
 pub use call_fault::CallFault;
 pub use crossing::cross_threads;
 pub use flush_fault::FlushFault;
-pub use front::{Front, Name};
+pub use front::{Front, ListName};
 pub use live::Live;
+pub use mh_base::MOST_WORKERS;
 pub use mh_core;
 pub use mh_core::{
     Book, Declared, Definition, Ledger, Limits, Listing, Outcome, Plan, Problem, Refusal, Reply,
@@ -54,8 +55,8 @@ pub use mh_core::{
 };
 pub use office::Office;
 pub use open_fault::OpenFault;
-pub use opening::{MOST_WORKERS, Opening};
-pub use pass::{Answer, Pass};
+pub use opening::Opening;
+pub use pass::{Pass, PassAnswer};
 pub use receipt::Receipt;
 pub use settle_fault::SettleFault;
 pub use settled::{Settled, Unsettled};

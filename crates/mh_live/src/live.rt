@@ -12,7 +12,7 @@ ghost use Rattle.mh_live.specs.Receipts.{IsFlushRefusal, IsNoProblem, IsProblem,
 ghost use Rattle.mh_live.specs.Settled.{IsUnsettled, Settles};
 
 use crate::flush_fault::FlushFault;
-use crate::front::Name;
+use crate::front::ListName;
 use crate::office::Office;
 use crate::pass::Pass;
 use crate::receipt::Receipt;
@@ -32,18 +32,18 @@ use std::sync::{Mutex, MutexGuard, Wait};
 /// A method that says `rt` may wait for the lock. One that changes the world also waits for the
 /// passes that are inside a call.
 #[derive(Drop)]
-pub struct Live<N: Name> {
+pub struct Live<N: ListName> {
     office: Mutex<Office<N>>,
 }
 
 /// Its name alone: what it keeps stands under its lock.
-impl<N: Name> fmt::Debug for Live<N> {
+impl<N: ListName> fmt::Debug for Live<N> {
     fn fmt<W: fmt::Write>(&self, f: &mut fmt::Formatter<W>) -> fmt::Result {
         f.write_str("Live")
     }
 }
 
-impl<N: Name> Live<N> {
+impl<N: ListName> Live<N> {
     /// The office, behind a lock.
     pub(crate) fn new(office: Office<N>) -> Live<N> {
         Live {

@@ -10,7 +10,7 @@ ghost use Rattle.mh_live.specs.Receipts.{Accepts, Changes, ChangesWorld, IsLegal
 ghost use Rattle.mh_live.specs.Rules.{Stands};
 
 use crate::flush_fault::FlushFault;
-use crate::front::{Front, Head, Name};
+use crate::front::{Front, Head, ListName};
 use crate::publishing::{Halt, show};
 use crate::receipt::Receipt;
 use crate::rule::WorldWriter;
@@ -26,7 +26,7 @@ use std::sync::Wait;
 /// A book with the writer of the published world. What changes the world is published in one step,
 /// and the book takes it after that. End it by `close`: a drop leaks the published world, since it
 /// may not wait for readers.
-pub struct Office<N: Name> {
+pub struct Office<N: ListName> {
     book: Book,
     head: Head<N>,
     front: Front<N>,
@@ -34,7 +34,7 @@ pub struct Office<N: Name> {
     closed: bool,
 }
 
-impl<N: Name> Model for Office<N> {
+impl<N: ListName> Model for Office<N> {
     ghost use Rattle.std.specs.Prelude.{drop};
     ghost use Rattle.mh_live.specs.Offices.{OfficeState, InStep, coded_office};
 
@@ -52,13 +52,13 @@ impl<N: Name> Model for Office<N> {
 }
 
 /// Its book.
-impl<N: Name> fmt::Debug for Office<N> {
+impl<N: ListName> fmt::Debug for Office<N> {
     fn fmt<W: fmt::Write>(&self, f: &mut fmt::Formatter<W>) -> fmt::Result {
         write!(f, "Office({:?})", self.book)
     }
 }
 
-impl<N: Name> Drop for Office<N> {
+impl<N: ListName> Drop for Office<N> {
     fn drop(self) {
         let Self {
             book: _,
@@ -72,11 +72,11 @@ impl<N: Name> Drop for Office<N> {
 }
 
 /// Gives a writer up with no wait. Its two worlds are leaked.
-pub fn leak<N: Name>(writer: WorldWriter<N>) {
+pub fn leak<N: ListName>(writer: WorldWriter<N>) {
     let _leaked = unsafe { ManuallyDrop::new_unchecked(writer) };
 }
 
-impl<N: Name> Office<N> {
+impl<N: ListName> Office<N> {
     /// The office of a book without records, and of the world before any control.
     pub(crate) fn new(
         book: Book,

@@ -7,11 +7,11 @@ ghost use Rattle.mh_site.specs.Lawful.{IsDefinition};
 ghost use Rattle.mh_site.specs.Links.{links};
 ghost use Rattle.mh_site.specs.Worlds.{opened};
 ghost use Rattle.mh_core.specs.Books.{opened_book};
-ghost use Rattle.mh_live.specs.Limits.{most_workers};
+ghost use Rattle.mh_base.specs.Limits.{most_workers};
 ghost use Rattle.mh_live.specs.Passes.{new_pass, new_passes};
 ghost use Rattle.mh_live.specs.Rules.{Stands};
 
-use crate::front::{Front, Name, Unnamed};
+use crate::front::{Front, ListName, Unnamed};
 use crate::live::Live;
 use crate::office::{Office, leak};
 use crate::open_fault::OpenFault;
@@ -25,9 +25,6 @@ use mh_site::{Definition, World};
 use std::alloc::{AllocError, Global};
 use std::fmt;
 use std::marker::Model;
-
-/// The most workers of an opening.
-pub const MOST_WORKERS: u32 = 64;
 
 /// What an office and its passes are made of. It makes a list of controls, which still has to get
 /// its name.
@@ -112,7 +109,7 @@ impl Opening {
     ///
     /// Refused with `NoMemory`, which leaves nothing behind, and with `NoReader` where no reader of
     /// the published world can be made, which leaks its two worlds.
-    pub fn open<N: Name>(self) -> Result<(Live<N>, Vec<Pass<N>>), OpenFault>
+    pub fn open<N: ListName>(self) -> Result<(Live<N>, Vec<Pass<N>>), OpenFault>
         requires name { self.name ≡ N.book }
         requires definition { self.definition ≡ N.definition }
         requires limits { self.limits ≡ N.limits }
@@ -157,7 +154,7 @@ struct Seat {
 }
 
 // The writer of the published world, with no control.
-fn desk<N: Name>(
+fn desk<N: ListName>(
     alloc: Global,
     first: World,
     second: World,
@@ -204,7 +201,7 @@ fn make_seats(
 }
 
 // A pass for each seat, in order, in the room that is there for them.
-fn seat_all<N: Name>(
+fn seat_all<N: ListName>(
     writer: &WorldWriter<N>,
     front: &Front<N>,
     seats: Vec<Seat>,

@@ -14,7 +14,7 @@ ghost use Rattle.mh_live.specs.Calls.{MayCall, AnswersBy, RefusesCall, IsKeptOut
 ghost use Rattle.mh_live.specs.Rules.{Stands, newcomer, world_after};
 
 use crate::call_fault::CallFault;
-use crate::front::{Front, Name};
+use crate::front::{Front, ListName};
 use crate::published::Published;
 use crate::receipt::Receipt;
 use crate::rule::{Sees, WorldReader};
@@ -33,7 +33,7 @@ use std::marker::Model;
 /// A pass that is inside a call holds up the next change of the world, and what waits behind it; a
 /// pass between calls holds up nobody.
 #[derive(Drop)]
-pub struct Pass<N: Name> {
+pub struct Pass<N: ListName> {
     reader: WorldReader<N>,
     front: Front<N>,
     pub(crate) ledger: Ledger,
@@ -41,7 +41,7 @@ pub struct Pass<N: Name> {
     definition: Definition,
 }
 
-impl<N: Name> Model for Pass<N> {
+impl<N: ListName> Model for Pass<N> {
     ghost use Rattle.std.specs.Prelude.{◌≡◌, length};
     ghost use Rattle.mh_site.specs.Links.{links};
     ghost use Rattle.left_right.specs.Sides.{view as view_of};
@@ -61,7 +61,7 @@ impl<N: Name> Model for Pass<N> {
 }
 
 /// Its worker, and the controls that it has seen.
-impl<N: Name> fmt::Debug for Pass<N> {
+impl<N: ListName> fmt::Debug for Pass<N> {
     fn fmt<W: fmt::Write>(&self, f: &mut fmt::Formatter<W>) -> fmt::Result {
         let (worker, front) = (self.worker(), &self.front);
         write!(f, "Pass(worker {worker}, {front:?})")
@@ -70,7 +70,7 @@ impl<N: Name> fmt::Debug for Pass<N> {
 
 /// What a call gave.
 #[derive(Debug, Drop)]
-pub struct Answer {
+pub struct PassAnswer {
     /// A value, or a throw.
     pub outcome: Outcome,
     /// The number of nodes that were entered.
@@ -89,14 +89,14 @@ struct Request<'a> {
 
 // The list whose world was entered, and what the site gave there.
 #[derive(Drop)]
-struct Visited<N: Name> {
+struct Visited<N: ListName> {
     front: Front<N>,
     given: Result<(Outcome, u128), NoMemory>,
 }
 
 // Enters once, evaluates by the one world that is found there, and leaves. None where the world
 // could not be entered.
-fn visit<N: Name>(
+fn visit<N: ListName>(
     reader: WorldReader<N>,
     request: Request<'_>,
 ) -> (WorldReader<N>, Option<Visited<N>>)
@@ -132,7 +132,7 @@ fn visit<N: Name>(
     }
 }
 
-impl<N: Name> Pass<N> {
+impl<N: ListName> Pass<N> {
     /// The pass of a worker, which has seen no control.
     pub(crate) fn new(
         reader: WorldReader<N>,
@@ -213,7 +213,7 @@ impl<N: Name> Pass<N> {
     /// what this pass has seen, and then with `NoMemory`, which is not returned where no node that
     /// is entered has String in its type; no hit is counted. At the last the pass may have seen
     /// more controls than before.
-    pub fn call(&mut self, site: usize, arguments: &[Value]) -> Result<Answer, CallFault>
+    pub fn call(&mut self, site: usize, arguments: &[Value]) -> Result<PassAnswer, CallFault>
         ensures passes { OnOk result (MayCall N.definition self.old.ledger site arguments.now) }
         ensures answer { IfOk result (λ answer. AnswersBy N.definition self.new.seen site
             arguments.now answer) }
@@ -240,7 +240,7 @@ impl<N: Name> Pass<N> {
         }
         let (outcome, steps) = self.enter(site, arguments)?;
         count(&mut self.ledger, link);
-        Ok(Answer {
+        Ok(PassAnswer {
             outcome,
             steps,
             front: self.front.len(),

@@ -15,7 +15,7 @@ pub struct Published {
 
 /// A control, and the list that has it at its end: the two steps of a change.
 #[derive(Drop)]
-pub enum Step {
+pub enum Publication {
     Change(Control),
     Stamp(Past),
 }
@@ -26,7 +26,7 @@ pub struct View {
     pub entered: LinkedList<LinkedList<Control>>,
 }
 
-impl Absorb<Step> for Published {
+impl Absorb<Publication> for Published {
     ghost use Rattle.mh_live.specs.Steps.{stepped};
 
     type State = Published;
@@ -35,26 +35,34 @@ impl Absorb<Step> for Published {
 
     ghost applied = { stepped };
 
-    fn absorb_first(&mut self, operation: &Step, _other: &Published) -> Result<(), AllocError> {
+    fn absorb_first(
+        &mut self,
+        operation: &Publication,
+        _other: &Published,
+    ) -> Result<(), AllocError> {
         match operation {
-            Step::Change(control) => self.world.try_absorb(control).map_err(|_| AllocError),
-            Step::Stamp(past) => {
+            Publication::Change(control) => self.world.try_absorb(control).map_err(|_| AllocError),
+            Publication::Stamp(past) => {
                 self.past = past.again();
                 Ok(())
             }
         }
     }
 
-    fn absorb_second(&mut self, operation: Step, _other: &Published) -> Result<(), Step> {
+    fn absorb_second(
+        &mut self,
+        operation: Publication,
+        _other: &Published,
+    ) -> Result<(), Publication> {
         match operation {
-            Step::Change(control) => {
+            Publication::Change(control) => {
                 if self.world.front() == u64::MAX {
-                    return Err(Step::Change(control));
+                    return Err(Publication::Change(control));
                 }
                 self.world.absorb(control);
                 Ok(())
             }
-            Step::Stamp(past) => {
+            Publication::Stamp(past) => {
                 self.past = past;
                 Ok(())
             }

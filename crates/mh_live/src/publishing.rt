@@ -8,8 +8,8 @@ ghost use Rattle.mh_live.specs.Offices.{CanShow};
 ghost use Rattle.mh_live.specs.Rules.{Stands};
 ghost use Rattle.mh_live.specs.Steps.{stepped};
 
-use crate::front::{Front, Head, Name};
-use crate::published::Step;
+use crate::front::{Front, Head, ListName};
+use crate::published::Publication;
 use crate::rule::{Sees, WorldWriter};
 use core::mem::replace_with;
 use mh_site::Control;
@@ -26,7 +26,7 @@ pub(crate) enum Halt {
 }
 
 // Shows what is pending, in one step.
-fn publish<N: Name, R: Wait>(
+fn publish<N: ListName, R: Wait>(
     writer: WorldWriter<N>,
     rt: &R,
 ) -> (WorldWriter<N>, Result<(), AllocError>)
@@ -43,7 +43,7 @@ fn publish<N: Name, R: Wait>(
 }
 
 // Makes a step pending, and says whether there was memory for it.
-fn append<N: Name>(writer: &mut WorldWriter<N>, step: Step) -> bool
+fn append<N: ListName>(writer: &mut WorldWriter<N>, step: Publication) -> bool
     ensures desk { writer.new.desk ≡ writer.old.desk }
     ensures pending { MatchBool result (drop writer.new.behind writer.new.log.items
         ≡ drop writer.old.behind writer.old.log.items ++ step ∷ [])
@@ -57,7 +57,7 @@ fn append<N: Name>(writer: &mut WorldWriter<N>, step: Step) -> bool
 }
 
 // Adds a control to the list and to the published world.
-pub(crate) fn show<N: Name, R: Wait>(
+pub(crate) fn show<N: ListName, R: Wait>(
     rt: &R,
     writer: &mut WorldWriter<N>,
     head: &Head<N>,
@@ -80,13 +80,13 @@ pub(crate) fn show<N: Name, R: Wait>(
         → 0 < length (drop writer.new.behind writer.new.log.items)) }
 {
     let intent = front.intend(&control);
-    if !append(writer, Step::Change(control)) {
+    if !append(writer, Publication::Change(control)) {
         return Err(Halt::Before);
     }
     let Some(longer) = front.with_control(head, intent) else {
         return Err(Halt::Midway);
     };
-    if !append(writer, Step::Stamp(longer.past())) {
+    if !append(writer, Publication::Stamp(longer.past())) {
         return Err(Halt::Midway);
     }
     match replace_with(writer, rt, publish::<N, R>) {

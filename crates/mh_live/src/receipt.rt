@@ -2,19 +2,19 @@
 
 ghost use Rattle.std.specs.Prelude.{◌≡◌};
 
-use crate::front::{Front, Name};
+use crate::front::{Front, ListName};
 use mh_core::Reply;
 use std::fmt;
 use std::marker::Model;
 
 /// The reply to an event that was accepted, and the list of controls up to it. Contracts see both.
 #[derive(Drop)]
-pub struct Receipt<N: Name> {
+pub struct Receipt<N: ListName> {
     reply: Reply,
     front: Front<N>,
 }
 
-impl<N: Name> Model for Receipt<N> {
+impl<N: ListName> Model for Receipt<N> {
     ghost use Rattle.mh_live.specs.Offices.{ReceiptState, coded_receipt};
 
     ghost Value = { ReceiptState };
@@ -25,13 +25,13 @@ impl<N: Name> Model for Receipt<N> {
 }
 
 /// What was answered, and the list of controls up to it.
-impl<N: Name> fmt::Debug for Receipt<N> {
+impl<N: ListName> fmt::Debug for Receipt<N> {
     fn fmt<W: fmt::Write>(&self, f: &mut fmt::Formatter<W>) -> fmt::Result {
         write!(f, "Receipt({:?}, {:?})", self.reply, self.front)
     }
 }
 
-impl<N: Name> Receipt<N> {
+impl<N: ListName> Receipt<N> {
     /// The receipt of a reply.
     pub(crate) fn new(reply: Reply, front: Front<N>) -> Receipt<N>
         ensures value { result ≡ record { reply = reply; front = front } }

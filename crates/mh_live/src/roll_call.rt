@@ -7,7 +7,7 @@ ghost use Rattle.mh_live.specs.Limits.{most_hits_of_all};
 ghost use Rattle.mh_live.specs.Receipts.{IsOffice};
 ghost use Rattle.mh_live.specs.Settled.{AreBack, IsUnsettledBy, IsWithin, unflushed_by};
 
-use crate::front::{Front, Name};
+use crate::front::{Front, ListName};
 use crate::office::Office;
 use crate::pass::Pass;
 use crate::settle_fault::SettleFault;
@@ -15,7 +15,7 @@ use mh_ledger::Totals;
 use std::alloc::Global;
 
 // The hits of each link that the passes have not flushed, where all passes are back.
-pub(crate) fn unflushed_hits<N: Name>(
+pub(crate) fn unflushed_hits<N: ListName>(
     alloc: Global,
     office: &Office<N>,
     passes: &[Pass<N>],
@@ -44,7 +44,7 @@ pub(crate) fn unflushed_hits<N: Name>(
 }
 
 // The hits of a link that the passes have not flushed.
-fn unflushed_of<N: Name>(totals: &Totals, passes: &[Pass<N>], link: usize) -> u128
+fn unflushed_of<N: ListName>(totals: &Totals, passes: &[Pass<N>], link: usize) -> u128
     requires back { AreBack totals.now passes.now }
     requires inside { link < length totals.now.total }
     ensures value { result ≡ unflushed_by passes.now link }
@@ -63,7 +63,7 @@ fn unflushed_of<N: Name>(totals: &Totals, passes: &[Pass<N>], link: usize) -> u1
 }
 
 // Whether each worker has one pass among these, and the totals hold the ledgers of all.
-fn are_back<N: Name>(totals: &Totals, passes: &[Pass<N>]) -> bool
+fn are_back<N: ListName>(totals: &Totals, passes: &[Pass<N>]) -> bool
     ensures decides { IsTrue result ↔ AreBack totals.now passes.now }
 {
     let once = has_each_once(totals.workers(), passes);
@@ -71,7 +71,7 @@ fn are_back<N: Name>(totals: &Totals, passes: &[Pass<N>]) -> bool
 }
 
 // Whether each worker has one pass.
-fn has_each_once<N: Name>(workers: usize, passes: &[Pass<N>]) -> bool
+fn has_each_once<N: ListName>(workers: usize, passes: &[Pass<N>]) -> bool
     ensures decides { IsTrue result
         ↔ ((w : ℕ) → w < workers → count_by (λ p. p.ledger.worker == w) passes.now ≡ 1) }
 {
@@ -84,21 +84,21 @@ fn has_each_once<N: Name>(workers: usize, passes: &[Pass<N>]) -> bool
 }
 
 // How many passes a worker has.
-fn passes_of<N: Name>(worker: usize, passes: &[Pass<N>]) -> usize
+fn passes_of<N: ListName>(worker: usize, passes: &[Pass<N>]) -> usize
     ensures value { result ≡ count_by (λ p. p.ledger.worker == worker) passes.now }
 {
     passes.iter().filter(|pass| pass.worker() == worker).count()
 }
 
 // Whether the totals hold the ledgers of all passes.
-fn are_held<N: Name>(totals: &Totals, passes: &[Pass<N>]) -> bool
+fn are_held<N: ListName>(totals: &Totals, passes: &[Pass<N>]) -> bool
     ensures decides { IsTrue result ↔ All (λ p. Holds totals.now p.ledger) passes.now }
 {
     passes.iter().all(|pass| totals.holds(pass.ledger()))
 }
 
 // Of what each pass has seen and the list one begins the other.
-pub(crate) fn compare_all<N: Name>(passes: &[Pass<N>], front: &Front<N>)
+pub(crate) fn compare_all<N: ListName>(passes: &[Pass<N>], front: &Front<N>)
     ensures within { All (IsWithin front.now) passes.now }
 {
     for pass in passes {

@@ -1,7 +1,7 @@
 //! The rule over the published world.
 
-use crate::front::Name;
-use crate::published::{Published, Step, View};
+use crate::front::ListName;
+use crate::published::{Publication, Published, View};
 use crossbeam_utils::rule::{Outcome, Protocol};
 use left_right::reader::Reader;
 use left_right::writer::Writer;
@@ -10,11 +10,11 @@ use std::marker::PhantomData;
 /// Each published world is the replay of a beginning of the list that N names, its trees are of
 /// their sites' types and mean what the base trees mean, and no reader enters a list shorter than
 /// one that it has seen.
-pub struct Fronts<N: Name> {
+pub struct Fronts<N: ListName> {
     of: PhantomData<N>,
 }
 
-impl<N: Name> Protocol<Published, View> for Fronts<N> {
+impl<N: ListName> Protocol<Published, View> for Fronts<N> {
     ghost use Rattle.mh_live.specs.Rules.{Keeps, newcomer};
 
     ghost holds = { Keeps N.book N.definition };
@@ -23,11 +23,11 @@ impl<N: Name> Protocol<Published, View> for Fronts<N> {
 }
 
 /// A reader that enters, and a writer that publishes.
-pub struct Sees<N: Name> {
+pub struct Sees<N: ListName> {
     of: PhantomData<N>,
 }
 
-impl<N: Name> Outcome<Published, View> for Sees<N> {
+impl<N: ListName> Outcome<Published, View> for Sees<N> {
     ghost use Rattle.mh_live.specs.Rules.{Looks};
 
     ghost then = { Looks N.book N.definition };
@@ -37,4 +37,4 @@ impl<N: Name> Outcome<Published, View> for Sees<N> {
 pub type WorldReader<N> = Reader<Published, View, Fronts<N>>;
 
 /// What an office publishes by.
-pub type WorldWriter<N> = Writer<Published, Step, View, Fronts<N>>;
+pub type WorldWriter<N> = Writer<Published, Publication, View, Fronts<N>>;

@@ -7,11 +7,12 @@ ghost use Rattle.mh_ledger.specs.Ledgers.{at};
 ghost use Rattle.mh_site.specs.Links.{links};
 ghost use Rattle.mh_ledger.specs.Limits.{greatest_limit};
 ghost use Rattle.mh_core.specs.Renewals.{AreKnown, again_tests};
-ghost use Rattle.mh_live.specs.Limits.{most_hits_of_all, most_workers};
+ghost use Rattle.mh_base.specs.Limits.{most_workers};
+ghost use Rattle.mh_live.specs.Limits.{most_hits_of_all};
 ghost use Rattle.mh_live.specs.Offices.{list_of};
 ghost use Rattle.mh_live.specs.Settled.{IsSettled, Reopens};
 
-use crate::front::{Front, Name};
+use crate::front::{Front, ListName};
 use crate::live::Live;
 use crate::opening::Opening;
 use crate::pass::Pass;
@@ -24,13 +25,13 @@ use std::marker::Model;
 /// What running threads leave once all their passes are back: the book, and for each link how often
 /// the passes hit it.
 #[derive(Drop)]
-pub struct Settled<N: Name> {
+pub struct Settled<N: ListName> {
     book: Book,
     unflushed: Vec<u128>,
     front: Front<N>,
 }
 
-impl<N: Name> Model for Settled<N> {
+impl<N: ListName> Model for Settled<N> {
     ghost use Rattle.mh_live.specs.Settled.{SettledState, IsSettled, coded_settled};
 
     ghost Value = { SettledState };
@@ -47,13 +48,13 @@ impl<N: Name> Model for Settled<N> {
 }
 
 /// The list of controls of its office.
-impl<N: Name> fmt::Debug for Settled<N> {
+impl<N: ListName> fmt::Debug for Settled<N> {
     fn fmt<W: fmt::Write>(&self, f: &mut fmt::Formatter<W>) -> fmt::Result {
         write!(f, "Settled({:?})", self.front)
     }
 }
 
-impl<N: Name> Settled<N> {
+impl<N: ListName> Settled<N> {
     /// The book of an office with the list of its controls, and for each link the hits that were
     /// not flushed.
     pub(crate) fn new(book: Book, unflushed: Vec<u128>, front: Front<N>) -> Settled<N>
@@ -170,7 +171,7 @@ impl<N: Name> Settled<N> {
 
 /// What could not be settled, as it was.
 #[derive(Drop)]
-pub struct Unsettled<N: Name> {
+pub struct Unsettled<N: ListName> {
     /// The office that threads share.
     pub live: Live<N>,
     /// The passes, as they were handed in.
@@ -180,7 +181,7 @@ pub struct Unsettled<N: Name> {
 }
 
 /// Why it was not settled.
-impl<N: Name> fmt::Debug for Unsettled<N> {
+impl<N: ListName> fmt::Debug for Unsettled<N> {
     fn fmt<W: fmt::Write>(&self, f: &mut fmt::Formatter<W>) -> fmt::Result {
         write!(f, "Unsettled({:?})", self.fault)
     }

@@ -1,15 +1,12 @@
 -- The limits of problems.
 use Rattle.std.specs.Prelude.{ℕ, ◌^◌}
 
--- the most links, points, and needs of a link, of a problem that `Problem::new` makes
+-- the most links, and the most points, of a problem that `Problem::new` makes
 abbrev pub most_links : ℕ
 most_links = 16384
 
 abbrev pub most_points : ℕ
 most_points = 4096
-
-abbrev pub most_needs : ℕ
-most_needs = 8
 
 -- the most links, the most points, and the most needs of a link, of a problem that `Problem::large` makes: no problem has more
 abbrev pub greatest_count : ℕ

@@ -10,7 +10,8 @@ use Rattle.mh_network.specs.declared.fault.ProblemFault.TheVariants.{NoMemory, G
 use Rattle.mh_network.specs.declared.place.ProblemMisfit.{ProblemMisfit}
 use Rattle.mh_network.specs.declared.place.ProblemPlace.{ProblemPlace}
 use Rattle.mh_network.specs.declared.place.ProblemPlace.TheVariants.{Whole, Links, Points, Needs}
-use Rattle.mh_network.specs.Limits.{most_links, most_points, most_needs, greatest_count, greatest_sum}
+use Rattle.mh_base.specs.Limits.{most_needs}
+use Rattle.mh_network.specs.Limits.{most_links, most_points, greatest_count, greatest_sum}
 use Rattle.mh_network.specs.Problems.{no_link, problem_of, sum_of_gains, sum_of_costs, sum_of_charges}
 
 -- the first link of which a fact does not hold, where there is one

@@ -20,9 +20,6 @@ pub const MOST_LINKS: usize = 16384;
 /// The most points of a problem that `Problem::new` makes.
 pub const MOST_POINTS: usize = 4096;
 
-/// The most needs of a link of a problem that `Problem::new` makes.
-pub const MOST_NEEDS: usize = 8;
-
 /// The most links, the most points, and the most needs of a link, of a problem that
 /// `Problem::large` makes.
 pub const GREATEST_COUNT: usize = 1048576;

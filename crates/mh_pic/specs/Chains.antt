@@ -12,7 +12,8 @@ use Rattle.mh_tree.specs.Tree.{Tree, guard, point}
 use Rattle.mh_tree.specs.Typing.{IsTyped, kind_at}
 use Rattle.mh_pic.specs.Keys.{key_test}
 use Rattle.mh_pic.specs.Specialised.{specialised}
-use Rattle.mh_pic.specs.Limits.{most_needs, most_entries}
+use Rattle.mh_base.specs.Limits.{most_needs}
+use Rattle.mh_pic.specs.Limits.{most_entries}
 use Rattle.mh_tree.specs.Environment.{Environment}
 use Rattle.mh_tree.specs.Handle.{TypedTree}
 use Rattle.mh_tree.specs.Sites.{target_at}

@@ -1,12 +1,9 @@
 -- The limits of an inline cache, whose base tree is a declared one.
 use Rattle.std.specs.Prelude.{ℕ}
 
--- the most entries, and the most needs of an entry
+-- the most entries
 abbrev pub most_entries : ℕ
 most_entries = 4
-
-abbrev pub most_needs : ℕ
-most_needs = 8
 
 -- the depth and the size of the greatest
 abbrev pub deepest_chain : ℕ

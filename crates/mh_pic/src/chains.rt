@@ -9,7 +9,8 @@ ghost use Rattle.mh_tree.specs.Typing.{kind_at};
 ghost use Rattle.mh_pic.specs.Keys.{key_test as key_test_of};
 ghost use Rattle.mh_pic.specs.Specialised.{specialised};
 ghost use Rattle.mh_type.specs.Limits.{most_parameters};
-ghost use Rattle.mh_pic.specs.Limits.{most_needs, deepest_chain, most_chain_nodes};
+ghost use Rattle.mh_base.specs.Limits.{most_needs};
+ghost use Rattle.mh_pic.specs.Limits.{deepest_chain, most_chain_nodes};
 
 use crate::entry::Entry;
 use crate::fault::expect_made;

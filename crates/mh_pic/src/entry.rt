@@ -3,14 +3,12 @@
 ghost use Rattle.std.specs.Prelude.{◌≡◌, ◌↔◌, IsTrue};
 ghost use Rattle.mh_pic.specs.Chains.{MayChain};
 
+use mh_base::MOST_NEEDS;
 use mh_type::{MethodType, Value};
 use std::marker::Model;
 
 /// The most entries of a chain.
 pub const MOST_ENTRIES: usize = 4;
-
-/// The most needs of an entry.
-pub const MOST_NEEDS: usize = 8;
 
 /// A case that an inline cache holds (Hölzle, Chambers and Ungar, Optimizing Dynamically-Typed
 /// Object-Oriented Languages With Polymorphic Inline Caches, 1991): a key, and the points that the

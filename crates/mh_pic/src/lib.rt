@@ -21,12 +21,12 @@ mod specialising;
 mod stripping;
 
 pub use chains::{chain, prepared_chain};
-pub use entry::{Entry, MOST_ENTRIES, MOST_NEEDS, may_chain};
+pub use entry::{Entry, MOST_ENTRIES, may_chain};
 pub use laws::{
     chains_are_faithful, faithful_trees_keep_meaning, key_tests_ask_for_keys,
     retired_points_keep_meaning, specialised_trees_agree,
 };
-pub use mh_base::NoMemory;
+pub use mh_base::{MOST_NEEDS, NoMemory};
 pub use retiring::retire;
 pub use specialising::specialise;
 pub use stripping::strip;

@@ -10,7 +10,7 @@ use Rattle.mh_network.specs.declared.part.Part.{Part}
 use Rattle.mh_network.specs.Problems.{ProblemData}
 use Rattle.mh_network.specs.Parts.{part_at, part_problem}
 use Rattle.mh_flow.specs.FlowData.{FlowData}
-use Rattle.mh_plan.specs.Shares.{IsShare, share_of}
+use Rattle.mh_plan.specs.inner.Shares.{IsShare, share_of}
 use Rattle.mh_plan.specs.Solved.{IsSolved, no_run}
 
 found_share : (P : ProblemData) (parts : List Part) (workers worker : ℕ) (share : Result (List FlowData) NoMemory) → IsOk share → IfOk share (λ runs. IsShare P parts workers worker runs) → IsShare P parts workers worker (share_of share)

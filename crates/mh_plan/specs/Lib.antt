@@ -1,5 +1,4 @@
-pub mod Limits
 pub mod Solved
-pub mod Shares
 pub mod Joined
 pub mod Phases
+pub mod inner

@@ -4,7 +4,7 @@ ghost use Rattle.std.specs.Prelude.{◌≡◌, ◌<◌, ◌+◌, ◌*◌, ◌++�
 ghost use Rattle.std.specs.List.Sorted.{IsNonDecreasingBy, IsPermutation};
 ghost use Rattle.mh_network.specs.Parts.{part_at};
 ghost use Rattle.mh_plan.specs.Joined.{joined, charge_key, charges_of, links_of, rows_of, row_key, whole_charge, whole_link, whole_row};
-ghost use Rattle.mh_plan.specs.Shares.{AreShared, run_at};
+ghost use Rattle.mh_plan.specs.inner.Shares.{AreShared, run_at};
 
 use crate::runs::Runs;
 use mh_base::NoMemory;

@@ -8,9 +8,9 @@ ghost use Rattle.mh_network.specs.Problems.{IsProblem, sum_of_gains};
 ghost use Rattle.mh_network.specs.Selection.{IsLeast, member, value_of};
 ghost use Rattle.mh_plan.specs.Joined.{joined, rows_of};
 ghost use Rattle.mh_plan.specs.Phases.{AreCounted, ArePhases};
-ghost use Rattle.mh_plan.specs.Shares.{AreShared, run_at};
+ghost use Rattle.mh_plan.specs.inner.Shares.{AreShared, run_at};
 ghost use Rattle.mh_plan.specs.Solved.{AreSolved};
-ghost use Rattle.mh_plan.specs.Limits.{most_workers};
+ghost use Rattle.mh_base.specs.Limits.{most_workers};
 ghost use Rattle.mh_network.specs.Limits.{greatest_sum};
 
 use crate::gate::{Gate, OpenGate};

@@ -3,7 +3,7 @@
 ghost use Rattle.std.specs.Prelude.{◌≡◌, ◌<◌, ◌≤◌, ◌+◌, ◌^◌, ◌↔◌, length, All, IfOk, IsOk, IsTrue};
 ghost use Rattle.mh_network.specs.Parts.{AreParts};
 ghost use Rattle.mh_network.specs.Problems.{IsProblem};
-ghost use Rattle.mh_plan.specs.Shares.{AreShared, IsShare, run_at};
+ghost use Rattle.mh_plan.specs.inner.Shares.{AreShared, IsShare, run_at};
 ghost use Rattle.mh_plan.specs.Solved.{AreSolved};
 
 use crate::gate::Gate;

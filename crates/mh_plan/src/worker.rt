@@ -3,7 +3,7 @@
 ghost use Rattle.std.specs.Prelude.{◌≡◌, ◌<◌, ◌+◌, ◌^◌, length, IfOk};
 ghost use Rattle.mh_network.specs.Parts.{AreParts, IsPartOf, part_problem};
 ghost use Rattle.mh_network.specs.Problems.{IsProblem};
-ghost use Rattle.mh_plan.specs.Shares.{IsShare};
+ghost use Rattle.mh_plan.specs.inner.Shares.{IsShare};
 ghost use Rattle.mh_plan.specs.Solved.{IsSolved};
 
 use crate::gate::Gate;

@@ -15,7 +15,7 @@ abbrev pub IsNamed : Profile → NamedProblem → Type 0
 IsNamed x n =
     Passes (large_tests x.links x.costs) × (n ≡ record { points = x.points; links = x.names; problem = problem_of x.links x.costs })
 
--- a profile that is told the first test that fails, at its last line
+-- a profile that is refused for the first test that fails, at its last line
 abbrev pub IsNotMade : Profile → Fault → Type 0
 IsNotMade x e = (cause : ProblemFault) × Refuses (large_tests x.links x.costs) cause × (e ≡ record { kind = Input (Problem cause); at = x.last })
 

@@ -21,7 +21,7 @@ use std::io::{Read, Write};
 /// that line is the profile, which is read and made before the plan is looked at. The input is read
 /// to its end, or to the first byte past 134,217,728. A fault of the input, or of memory, writes
 /// nothing; that of the plan has the number of its line. A failing write leaves a beginning of the
-/// line, and is told of no line.
+/// line, and is a fault of no line.
 pub fn check_profile<R: Read, W: Write>(
     alloc: Global,
     reader: &mut Watched<R>,

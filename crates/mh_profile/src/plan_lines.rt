@@ -276,7 +276,7 @@ fn push_points(
 ///
 /// A link that is left out spends all that it gains, on its charge and on points that it needs
 /// (`mh_network::left_links_spend_all`), and an unpaid point gets what such links give to it. What
-/// is given is that of one flow; another could share it otherwise. `slack` tells by how much the
+/// is given is that of one flow; another could share it otherwise. `slack` is by how much the
 /// cost of a chosen point may rise, or that of an unpaid one fall, and the chosen links are still
 /// worth most.
 pub fn profile_lines(alloc: Global, named: &NamedProblem, plan: &Plan) -> Result<String, NoMemory>

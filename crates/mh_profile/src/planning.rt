@@ -2,7 +2,7 @@
 ghost use Rattle.std.specs.Prelude.{◌≡◌, ◌≢◌, ◌<◌, ◌≤◌, ◌+◌, ℕ, List, string_bytes, IfOk, IfErr, IfSome, OnOk};
 ghost use Rattle.std.specs.Io.KnownBytes.{Appends, IsAtEnd};
 ghost use Rattle.mh_cert.specs.Plans.{Matches};
-ghost use Rattle.mh_plan.specs.Limits.{most_workers};
+ghost use Rattle.mh_base.specs.Limits.{most_workers};
 ghost use Rattle.mh_text.specs.Bytes.{HasFailed, LosesAtMost};
 ghost use Rattle.mh_text.specs.Gives.{IsHonest, IsHonestReading, NoOtherFailed};
 ghost use Rattle.mh_text.specs.Output.{IsUnread};
@@ -22,7 +22,7 @@ use std::alloc::Global;
 use std::io::{Read, Write};
 use std::thread::Threads;
 
-/// How the plan of a profile is made, and what is told of it.
+/// How the plan of a profile is made, and what is written of it.
 #[derive(Clone, Copy, Debug, PartialEq, Eq)]
 pub struct ProfileOptions {
     /// How many workers plan, from 1 to 64. The plan does not depend on them.
@@ -85,7 +85,7 @@ fn plan_named<T: Threads + Sync>(
 /// several sets are best.
 ///
 /// The input is read as by `read_profile`. A fault of the input, or of memory, writes nothing. A
-/// failing write leaves a beginning of the lines, and is told of no line.
+/// failing write leaves a beginning of the lines, and is a fault of no line.
 pub fn plan_profile<T: Threads + Sync, R: Read, W: Write>(
     rt: &T,
     alloc: Global,

@@ -55,7 +55,7 @@ fn split_line(bytes: &[u8]) -> Option<(&[u8], &[u8])>
     }
 }
 
-/// A fault of line `at`; want of memory is that of no line.
+/// A fault of line `at`; out of memory is a fault of no line.
 pub(crate) fn placed(fault: InputFault, at: u64) -> Fault
     ensures memory { fault ≡ InputFault.NoMemory → result ≡ outside no_memory }
     ensures other { (fault ≡ InputFault.NoMemory → ⊥)

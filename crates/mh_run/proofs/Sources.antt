@@ -1,7 +1,7 @@
 -- What a piece leads to, from what its source answers.
 use Rattle.std.proofs.Common.{◌≡◌, Bool, true, false, ℕ, ◌+◌, ◌≤◌, ◌<◌, refl, ap, sym, subst, ◌∙◌, List, [], ◌∷◌, take, length, length-append, length-take, arith, if◌then◌else◌}
 use Rattle.std.specs.Prelude.{max, Result, IfOk, IsOk}
-use Rattle.mh_code.specs.Routine.{Source, Routine, give, keep, pick, switch}
+use Rattle.mh_code.specs.Routine.{Source, Routine, give, keep, pick, point}
 use Rattle.mh_code.specs.RoutineOf.{after_steps}
 use Rattle.mh_code.specs.inner.Runs.{source_outcome, source_steps, source_weight, put, run_routine, routine_steps, weight}
 use Rattle.mh_code.specs.inner.Scope.{IsRoutineIn}
@@ -187,7 +187,7 @@ module _ (v : Setting) (a l : List Value) (x : Source) (s m : ℕ) (r : Answer) 
     }
 
 -- one of two routines, by whether a point is valid
-pub switches : (v : Setting) (a l : List Value) (s m j : ℕ) → j ≡ m + s → (p : ℕ) (q w r : Routine) → MayRun v a l (switch s p q w) m → (b : Bool) → b ≡ is_valid (env v) p → r ≡ (if b then q else w) → Leaves v a l (switch s p q w) m l r j
+pub switches : (v : Setting) (a l : List Value) (s m j : ℕ) → j ≡ m + s → (p : ℕ) (q w r : Routine) → MayRun v a l (point s p q w) m → (b : Bool) → b ≡ is_valid (env v) p → r ≡ (if b then q else w) → Leaves v a l (point s p q w) m l r j
 switches v a l s m j total p q w r may true is at = record {
   outcome = ap (λ e. run_routine (env v) e a l) at ∙ ap (λ b. if b then run_routine (env v) q a l else run_routine (env v) w a l) is;
   steps = omega (arith, total, ap (λ e. routine_steps (env v) e a l) at, ap (λ b. if b then routine_steps (env v) q a l else routine_steps (env v) w a l) is);
@@ -239,7 +239,7 @@ goes_on v a l s m j total (pick n x r q) may = record {
   quiet = λ e. e;
   own = omega arith;
 }
-goes_on v a l s m j total (switch n p r q) may = record {
+goes_on v a l s m j total (point n p r q) may = record {
   outcome = refl;
   steps = omega (arith, total);
   few = omega (arith, total);

@@ -14,7 +14,8 @@ use Rattle.mh_site.specs.declared.fault.DefinitionFault.{DefinitionFault}
 use Rattle.mh_site.specs.Ascending.{ascending}
 use Rattle.mh_site.specs.Names.{is_name}
 use Rattle.mh_site.specs.Defined.{no_point, no_site}
-use Rattle.mh_site.specs.Limits.{most_points, most_sites, most_links, most_needs, greatest_charge, greatest_cost, greatest_weight}
+use Rattle.mh_base.specs.Limits.{most_needs}
+use Rattle.mh_site.specs.Limits.{most_points, most_sites, most_links, greatest_charge, greatest_cost, greatest_weight}
 use Rattle.mh_site.specs.Definitions.{all_differ, same_key, link_in_order, site_in_order}
 use Rattle.mh_site.specs.Rules.{HasPlace, point_rules, site_rules, rules_at_point, rules_at_site, definition_rules}
 use Rattle.mh_type.specs.Signature.{Signature}

@@ -16,7 +16,8 @@ use Rattle.mh_site.specs.declared.place.DefinitionMisfit.{DefinitionMisfit}
 use Rattle.mh_site.specs.Defined.{DefinitionData, no_link, no_point, no_site}
 use Rattle.mh_site.specs.Definitions.{all_differ, same_key, costs_little, definition_fault, definition_made, definition_tests, fits_place, needs_differ, needs_few, needs_known, point_tests, site_in_order, site_tests, tests_at_point, tests_at_site, tests_of_points, tests_of_sites, weighs_little}
 use Rattle.mh_site.specs.Lawful.{HasKey}
-use Rattle.mh_site.specs.Limits.{greatest_charge, greatest_cost, greatest_weight, most_links, most_needs, most_points, most_sites}
+use Rattle.mh_base.specs.Limits.{most_needs}
+use Rattle.mh_site.specs.Limits.{greatest_charge, greatest_cost, greatest_weight, most_links, most_points, most_sites}
 use Rattle.mh_site.specs.Names.{is_name}
 use Rattle.mh_site.specs.Places.{at_link, key_twice, none_found, out_of_memory, placed_at_point, placed_at_site, placed_fault, placed_made, placed_point_rules, placed_point_tests, placed_points, placed_rules, placed_rules_at_point, placed_rules_at_site, placed_site_rules, placed_site_tests, placed_sites, placed_tests, rules_of_links, unfit}
 use Rattle.mh_site.specs.Rules.{definition_rules}

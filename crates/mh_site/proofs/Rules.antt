@@ -28,7 +28,8 @@ use Rattle.mh_site.specs.Defined.{no_point, no_site}
 use Rattle.mh_site.specs.Names.{is_name}
 use Rattle.mh_site.specs.Definitions.{all_differ, point_tests, tests_at_point, tests_of_points, site_tests, tests_at_site, tests_of_sites, definition_tests, definition_fault, needs_few, weighs_little, costs_little, has_no, has_place, fits_place, same_key, needs_known, needs_differ}
 use Rattle.mh_site.specs.Lawful.{HasKey}
-use Rattle.mh_site.specs.Limits.{most_points, most_sites, most_links, most_needs, greatest_charge, greatest_cost, greatest_weight}
+use Rattle.mh_base.specs.Limits.{most_needs}
+use Rattle.mh_site.specs.Limits.{most_points, most_sites, most_links, greatest_charge, greatest_cost, greatest_weight}
 use Rattle.mh_site.specs.Rules.{HasPlace, point_rules, site_rules, rules_at_point, rules_at_site, definition_rules}
 use Rattle.mh_site.proofs.Listed.{Agrees, none_agree, one_agrees, two_agree, each_agree}
 

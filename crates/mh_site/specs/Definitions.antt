@@ -18,7 +18,8 @@ use Rattle.mh_site.specs.Ascending.{ascending}
 use Rattle.mh_site.specs.Invoking.{invokes_known, invokes_lower, invokes_of_type}
 use Rattle.mh_site.specs.Names.{is_name}
 use Rattle.mh_type.specs.Values.{same_value}
-use Rattle.mh_site.specs.Limits.{most_points, most_sites, most_links, most_needs, greatest_charge, greatest_cost, greatest_weight}
+use Rattle.mh_base.specs.Limits.{most_needs}
+use Rattle.mh_site.specs.Limits.{most_points, most_sites, most_links, greatest_charge, greatest_cost, greatest_weight}
 
 abbrev pub fault_number : DefinitionFault → ℕ
 fault_number NoMemory = 1

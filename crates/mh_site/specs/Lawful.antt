@@ -14,7 +14,8 @@ use Rattle.mh_site.specs.Defined.{DefinitionData}
 use Rattle.mh_site.specs.Definitions.{all_differ, same_key}
 use Rattle.mh_site.specs.Invoking.{InvokesLower, InvokesOfType}
 use Rattle.mh_site.specs.Names.{is_name}
-use Rattle.mh_site.specs.Limits.{most_points, most_sites, most_links, most_needs, greatest_charge, greatest_cost, greatest_weight}
+use Rattle.mh_base.specs.Limits.{most_needs}
+use Rattle.mh_site.specs.Limits.{most_points, most_sites, most_links, greatest_charge, greatest_cost, greatest_weight}
 
 -- the key place is a parameter, and the key is of its kind
 pub record HasKey (s : Site) (l : Link) : Type 0 where

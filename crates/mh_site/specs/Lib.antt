@@ -14,6 +14,5 @@ pub mod Names
 pub mod NamesInOrder
 pub mod Places
 pub mod Rules
-pub mod SiteStates
 pub mod Targets
 pub mod Worlds

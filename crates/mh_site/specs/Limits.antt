@@ -12,12 +12,9 @@ abbrev pub most_sites : Version → ℕ
 most_sites One = 1024
 most_sites Two = 4096
 
--- the most links of a site, and the most needs of a link
+-- the most links of a site
 abbrev pub most_links : ℕ
 most_links = 4
-
-abbrev pub most_needs : ℕ
-most_needs = 8
 
 -- the greatest cost of a point, and the greatest weight and charge of a link
 abbrev pub greatest_cost : ℕ

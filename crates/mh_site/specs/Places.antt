@@ -25,7 +25,8 @@ use Rattle.mh_site.specs.Defined.{DefinitionData, no_link, no_point, no_site}
 use Rattle.mh_site.specs.Definitions.{names_point, names_site, needs_few, weighs_little, costs_little, has_place, fits_place, same_key, needs_known, needs_differ, site_in_order}
 use Rattle.mh_site.specs.Invoking.{InvokesLower, InvokesOfType, invokes_known, invokes_lower, invokes_of_type}
 use Rattle.mh_site.specs.Lawful.{HasKey}
-use Rattle.mh_site.specs.Limits.{most_points, most_sites, most_links, most_needs, greatest_charge, greatest_cost, greatest_weight}
+use Rattle.mh_base.specs.Limits.{most_needs}
+use Rattle.mh_site.specs.Limits.{most_points, most_sites, most_links, greatest_charge, greatest_cost, greatest_weight}
 use Rattle.mh_site.specs.Names.{is_name}
 use Rattle.mh_site.specs.Rules.{HasPlace}
 

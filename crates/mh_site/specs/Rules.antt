@@ -14,7 +14,8 @@ use Rattle.mh_site.specs.Defined.{no_point, no_site}
 use Rattle.mh_site.specs.Invoking.{InvokesLower, InvokesOfType}
 use Rattle.mh_site.specs.Names.{is_name}
 use Rattle.mh_site.specs.Lawful.{HasKey}
-use Rattle.mh_site.specs.Limits.{most_points, most_sites, most_links, most_needs, greatest_charge, greatest_cost, greatest_weight}
+use Rattle.mh_base.specs.Limits.{most_needs}
+use Rattle.mh_site.specs.Limits.{most_points, most_sites, most_links, greatest_charge, greatest_cost, greatest_weight}
 
 -- the key place is a parameter; a site with links has one
 pub record HasPlace (s : Site) : Type 0 where

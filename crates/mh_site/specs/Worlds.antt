@@ -1,5 +1,5 @@
 -- A world as tables, and how controls change it.
-use Rattle.std.specs.List.{All}
+use Rattle.std.specs.List.{All, zip}
 use Rattle.std.specs.Prelude.{ℕ, ◌≤◌, ◌+◌, List, [], map, fold, length, replicate, slice_set, slice_index_or, Bool, true, false, refl}
 use Rattle.std.specs.Coded.{Coded, code_by, coded×, coded_ℕ, coded_bool, coded_list}
 use Rattle.mh_tree.specs.Handle.{TypedTree}
@@ -12,6 +12,7 @@ use Rattle.mh_site.specs.Controls.{Relinked}
 use Rattle.mh_site.specs.Defined.{DefinitionData, no_tree}
 use Rattle.mh_tree.specs.Environment.{Environment}
 use Rattle.mh_tree.specs.Sites.{Setting, env, sites, with_sites}
+use Rattle.mh_site.specs.declared.world.SiteWorld.{SiteWorld}
 
 -- a site's base tree and linked tree, the links that the linked tree holds, and how often the site was retargeted
 pub record SiteState : Type 0 where
@@ -104,3 +105,14 @@ abbrev pub coded_world : Coded WorldState
 coded_world =
     code_by (List Bool × (List SiteState × ℕ)) (coded× (coded_list coded_bool) (coded× (coded_list coded_state) coded_ℕ))
     (λ w. (w.valid, (w.sites, w.front))) (λ p. record { valid = p.0; sites = p.1.0; front = p.1.1 }) (λ _. refl)
+
+-- a site, with its linked tree, as plain data
+abbrev pub site_state : SiteWorld × TypedTree → SiteState
+site_state x = record { base = x.0.base; linked = x.1; kept = x.0.kept.items; version = x.0.version }
+
+-- what a site has beside its linked tree
+abbrev pub plain_site : SiteWorld → TypedTree × (List ℕ × ℕ)
+plain_site x = (x.base, (x.kept.items, x.version))
+
+abbrev pub site_states : List SiteWorld → List TypedTree → List SiteState
+site_states sites linked = map site_state (zip sites linked)

@@ -14,15 +14,12 @@ use crate::link::Link;
 use crate::names::{Names, with_one_more};
 use crate::place::{DefinitionMisfit, LinkPart, SitePart, demand_of_links, demand_of_site};
 use crate::site::Site;
-use mh_base::are_below;
+use mh_base::{MOST_NEEDS, are_below};
 use mh_type::{Value, same_value};
 use std::alloc::Global;
 
 /// The most links of a site.
 pub const MOST_LINKS: usize = 4;
-
-/// The most needs of a link.
-pub const MOST_NEEDS: usize = 8;
 
 /// The greatest weight of a link.
 pub const GREATEST_WEIGHT: u64 = 1 << 20;

@@ -4,8 +4,7 @@ ghost use Rattle.std.specs.Prelude.{◌≡◌, ◌<◌, ◌+◌, ◌^◌, ℕ, l
 ghost use Rattle.std.specs.List.{All};
 ghost use Rattle.mh_tree.specs.Handle.{IsDeclared};
 ghost use Rattle.mh_tree.specs.Typing.{IsTyped};
-ghost use Rattle.mh_site.specs.Worlds.{WorldState, AreTyped, linkeds, opened, opening, after, replay, state_at, no_state, retargeted, relink_site, clear_point};
-ghost use Rattle.mh_site.specs.SiteStates.{plain_site, site_state, site_states};
+ghost use Rattle.mh_site.specs.Worlds.{WorldState, AreTyped, linkeds, opened, opening, after, replay, state_at, no_state, retargeted, relink_site, clear_point, plain_site, site_state, site_states};
 ghost use Rattle.mh_site.specs.declared.control.Control.{Control};
 
 use crate::base::BaseTree;
@@ -64,7 +63,7 @@ impl Model for World {
 
     ghost coded = { coded_world };
 
-    ghost use Rattle.mh_site.specs.SiteStates.{site_states};
+    ghost use Rattle.mh_site.specs.Worlds.{site_states};
 
     ghost view = { λ w. record {
       valid = w.valid.items;

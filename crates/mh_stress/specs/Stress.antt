@@ -11,7 +11,7 @@ use Rattle.mh_core.specs.Limits.{LimitsData}
 use Rattle.mh_core.specs.Records.{total}
 use Rattle.mh_core.specs.declared.record.Record.{Record}
 use Rattle.mh_ledger.specs.Ledgers.{at}
-use Rattle.mh_live.specs.Limits.{most_workers}
+use Rattle.mh_base.specs.Limits.{most_workers}
 use Rattle.mh_live.specs.declared.open_fault.OpenFault.{OpenFault}
 use Rattle.mh_live.specs.declared.open_fault.OpenFault.TheVariants as opening
 use Rattle.mh_text.specs.Inputs.{json_of_input}

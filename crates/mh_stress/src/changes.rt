@@ -1,16 +1,16 @@
 //! What the main thread does meanwhile.
 ghost use Rattle.std.specs.Prelude.{◌<◌, ◌≤◌};
-ghost use Rattle.mh_text.specs.Script.{most_workers};
+ghost use Rattle.mh_base.specs.Limits.{most_workers};
 
 use mh_core::{Event, Refusal};
-use mh_live::{Live, Name, Receipt};
+use mh_live::{ListName, Live, Receipt};
 use mh_text::{Step, best_plan};
 use std::alloc::Global;
 use std::sync::Wait;
 use std::thread::Threads;
 
 /// Makes the changes, one after another, each once. One that is refused is passed over.
-pub(crate) fn make_changes<N: Name, T: Threads + Wait + Sync>(
+pub(crate) fn make_changes<N: ListName, T: Threads + Wait + Sync>(
     rt: &T,
     alloc: Global,
     live: &Live<N>,
@@ -26,7 +26,7 @@ pub(crate) fn make_changes<N: Name, T: Threads + Wait + Sync>(
 }
 
 /// Makes one change. None where the step is a call or a flush, which workers make.
-fn make_change<N: Name, T: Threads + Wait + Sync>(
+fn make_change<N: ListName, T: Threads + Wait + Sync>(
     rt: &T,
     alloc: Global,
     live: &Live<N>,
@@ -43,7 +43,7 @@ fn make_change<N: Name, T: Threads + Wait + Sync>(
 }
 
 /// Makes a plan for a snapshot, and publishes it.
-fn publish<N: Name, T: Threads + Wait + Sync>(
+fn publish<N: ListName, T: Threads + Wait + Sync>(
     rt: &T,
     alloc: Global,
     live: &Live<N>,
@@ -59,7 +59,7 @@ fn publish<N: Name, T: Threads + Wait + Sync>(
 }
 
 /// What the office answers to an event.
-fn ask<N: Name, R: Wait>(
+fn ask<N: ListName, R: Wait>(
     rt: &R,
     live: &Live<N>,
     event: Event,

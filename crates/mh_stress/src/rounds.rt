@@ -4,11 +4,11 @@ ghost use Rattle.mh_stress.specs.Rounds.{HasCalled, HasWorked, MakesCall};
 
 use crate::division::Call;
 use crate::stage::ShowRounds;
-use mh_live::{Live, Name, Pass};
+use mh_live::{ListName, Live, Pass};
 use std::sync::Wait;
 
 /// Makes a call, where it names the pass's worker. One that is refused is passed over.
-fn make_call<N: Name>(pass: &mut Pass<N>, call: &Call)
+fn make_call<N: ListName>(pass: &mut Pass<N>, call: &Call)
     ensures made { MakesCall N.definition call.now pass.old pass.new }
 {
     if call.worker as usize == pass.worker() {
@@ -17,7 +17,7 @@ fn make_call<N: Name>(pass: &mut Pass<N>, call: &Call)
 }
 
 /// Makes its worker's calls among these, in their order.
-fn make_calls<N: Name>(pass: &mut Pass<N>, calls: &[Call])
+fn make_calls<N: ListName>(pass: &mut Pass<N>, calls: &[Call])
     ensures called { HasCalled N.definition calls.now pass.old pass.new }
 {
     for call in calls {
@@ -32,9 +32,9 @@ fn show_round<S: ShowRounds>(shows: &S, worker: usize, done: u32, rounds: u32) {
     }
 }
 
-/// Makes a worker's calls and flushes, so many times, and shows it of the first worker. A flush that
-/// is refused is passed over.
-pub(crate) fn make_rounds<N: Name, R: Wait, S: ShowRounds>(
+/// Makes a worker's calls and flushes, so many times; the rounds of the first worker are shown. A
+/// flush that is refused is passed over.
+pub(crate) fn make_rounds<N: ListName, R: Wait, S: ShowRounds>(
     rt: &R,
     shows: &S,
     live: &Live<N>,

@@ -8,12 +8,12 @@ ghost use Rattle.mh_live.specs.Settled.{IsSettled};
 ghost use Rattle.mh_stress.specs.Stress.{Settlement, most_unflushed, report_where, settlement_text};
 
 use crate::sums::{line, sums_of};
-use mh_live::{Name, Settled};
+use mh_live::{ListName, Settled};
 use mh_text::push_tables;
 use std::alloc::{AllocError, Global};
 
 /// The hits of each link that no worker flushed.
-fn unflushed_hits<N: Name>(alloc: Global, settled: &Settled<N>) -> Result<Vec<u128>, AllocError>
+fn unflushed_hits<N: ListName>(alloc: Global, settled: &Settled<N>) -> Result<Vec<u128>, AllocError>
     ensures value { IfOk result (λ v. v.items ≡ settled.now.unflushed) }
     ensures few { IfOk result (λ v. All (λ n. n ≤ most_hits_of_all) v.items) }
     ensures settled { IsSettled N.definition N.limits N.workers settled.now }
@@ -26,7 +26,7 @@ fn unflushed_hits<N: Name>(alloc: Global, settled: &Settled<N>) -> Result<Vec<u1
 }
 
 /// Appends a line for each point, site and link, where that is asked for.
-fn push_report<N: Name>(
+fn push_report<N: ListName>(
     lines: &mut String,
     alloc: Global,
     report: bool,
@@ -43,7 +43,7 @@ fn push_report<N: Name>(
 }
 
 /// The line of the sums, and a line for each point, site and link, where that is asked for.
-pub(crate) fn settled_lines<N: Name>(
+pub(crate) fn settled_lines<N: ListName>(
     alloc: Global,
     report: bool,
     settled: &Settled<N>,

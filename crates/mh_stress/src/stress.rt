@@ -6,7 +6,7 @@ ghost use Rattle.mh_text.specs.Bytes.{HasFailed, LosesAtMost, most_bytes};
 ghost use Rattle.mh_text.specs.Gives.{no_memory, IsHonest, NoOtherFailed};
 ghost use Rattle.mh_text.specs.Output.{outside};
 ghost use Rattle.mh_text.specs.declared.fault.TextFault.TheVariants.{NoReader, WriteFailed};
-ghost use Rattle.mh_live.specs.Limits.{most_workers};
+ghost use Rattle.mh_base.specs.Limits.{most_workers};
 ghost use Rattle.mh_stress.specs.Stress.{AreLawful, FailsStress, FailsStressBy, cause_of, IsSettledText, IsScript, IsScriptBy, IsSettledTextOf, IsStressed, IsStressedBy, workers_of};
 ghost use Rattle.mh_stress.specs.Rounds.{AreFresh};
 
@@ -14,7 +14,7 @@ use crate::division::{Division, divide};
 use crate::settled::settled_lines;
 use crate::stage::{ShowRounds, Stage};
 use crate::threads::work_beside;
-use mh_live::{Live, MOST_WORKERS, Name, OpenFault, Opening, Pass};
+use mh_live::{ListName, Live, MOST_WORKERS, OpenFault, Opening, Pass};
 use mh_text::readers::read_script_value;
 use mh_text::{Fault, InputFault, Script, TextFault, Watched, read_script_from, write_lines};
 use serde_json::Value;
@@ -50,8 +50,8 @@ fn fault_of(cause: OpenFault) -> Fault
     }
 }
 
-/// Has the workers make their rounds beside the changes, settles, and gives the lines of that.
-fn settle_rounds<N: Name + Send + Sync, T: Threads + Wait + Sync, S: ShowRounds + Sync>(
+/// Runs the workers' rounds beside the changes, settles, and returns the lines of what has settled.
+fn settle_rounds<N: ListName + Send + Sync, T: Threads + Wait + Sync, S: ShowRounds + Sync>(
     stage: &Stage<'_, T, S>,
     alloc: Global,
     live: Live<N>,
@@ -82,14 +82,14 @@ fn settle_rounds<N: Name + Send + Sync, T: Threads + Wait + Sync, S: ShowRounds 
     };
     match live.settle(stage.rt, alloc, passes) {
         Ok(settled) => Ok(settled_lines(alloc, options.report, &settled)?),
-        // No pass is missing that an opening made; so memory was.
+        // All passes of the opening are there: what fails is an allocation.
         Err(_) => Err(Fault::from(InputFault::NoMemory)),
     }
 }
 
 /// Opens the office, has the workers make their rounds beside the changes, settles, and gives the
 /// lines of that.
-fn run_threads<N: Name + Send + Sync, T: Threads + Wait + Sync, S: ShowRounds + Sync>(
+fn run_threads<N: ListName + Send + Sync, T: Threads + Wait + Sync, S: ShowRounds + Sync>(
     stage: &Stage<'_, T, S>,
     alloc: Global,
     opening: Opening,

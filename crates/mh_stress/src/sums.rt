@@ -6,7 +6,7 @@ ghost use Rattle.mh_site.specs.Links.{links};
 ghost use Rattle.mh_live.specs.Settled.{IsSettled};
 ghost use Rattle.mh_stress.specs.Stress.{most_unflushed, settled_line, settled_text, sums_over};
 
-use mh_live::{Name, Settled};
+use mh_live::{ListName, Settled};
 use std::alloc::{AllocError, Global};
 
 /// The hits of all links: those that were made, those that were flushed, and those that were not.
@@ -18,7 +18,7 @@ pub struct Sums {
 }
 
 /// The sums over all links.
-pub(crate) fn sums_of<N: Name>(settled: &Settled<N>) -> Sums
+pub(crate) fn sums_of<N: ListName>(settled: &Settled<N>) -> Sums
     requires small { (j : ℕ) → j < length (links N.definition)
         → at settled.now.unflushed j ≤ most_unflushed }
     ensures settled { IsSettled N.definition N.limits N.workers settled.now }

@@ -1,13 +1,13 @@
 //! The workers in threads of their own, and the changes beside them.
 ghost use Rattle.std.specs.Prelude.{◌<◌, ◌≤◌, IfOk, IfSome};
-ghost use Rattle.mh_live.specs.Limits.{most_workers};
+ghost use Rattle.mh_base.specs.Limits.{most_workers};
 ghost use Rattle.mh_stress.specs.Rounds.{HasWorked, HaveWorked};
 
 use crate::changes::make_changes;
 use crate::division::{Call, Division};
 use crate::rounds::make_rounds;
 use crate::stage::{ShowRounds, Stage};
-use mh_live::{Live, Name, Pass, cross_threads};
+use mh_live::{ListName, Live, Pass, cross_threads};
 use mh_type::values_cross_threads;
 use std::alloc::{AllocError, Global};
 use std::sync::Wait;
@@ -16,7 +16,7 @@ use std::thread::Threads;
 
 /// Has each worker make its rounds, in a thread of its own where one can be started, and gives the
 /// passes back in their order.
-fn work<N: Name + Send + Sync, T: Threads + Wait + Sync, S: ShowRounds + Sync>(
+fn work<N: ListName + Send + Sync, T: Threads + Wait + Sync, S: ShowRounds + Sync>(
     rt: &T,
     shows: &S,
     live: &Live<N>,
@@ -37,7 +37,11 @@ fn work<N: Name + Send + Sync, T: Threads + Wait + Sync, S: ShowRounds + Sync>(
 
 /// Runs the workers' rounds, and makes the changes meanwhile. Where no thread can be
 /// started, the rounds are made after the changes. None if an allocation is refused.
-pub(crate) fn work_beside<N: Name + Send + Sync, T: Threads + Wait + Sync, S: ShowRounds + Sync>(
+pub(crate) fn work_beside<
+    N: ListName + Send + Sync,
+    T: Threads + Wait + Sync,
+    S: ShowRounds + Sync,
+>(
     stage: &Stage<'_, T, S>,
     alloc: Global,
     live: &Live<N>,

@@ -13,7 +13,8 @@ use Rattle.mh_network.specs.declared.fault.ProblemFault.TheVariants.{NoMemory, G
 use Rattle.mh_network.specs.declared.place.ProblemMisfit.{ProblemMisfit}
 use Rattle.mh_network.specs.declared.place.ProblemPlace.{ProblemPlace}
 use Rattle.mh_network.specs.declared.place.ProblemPlace.TheVariants.{Whole, Links, Points, Needs}
-use Rattle.mh_network.specs.Limits.{greatest_sum, most_needs}
+use Rattle.mh_base.specs.Limits.{most_needs}
+use Rattle.mh_network.specs.Limits.{greatest_sum}
 use Rattle.mh_network.specs.Places.{misfit, out_of_memory, placed_tests, tests_of_needs}
 use Rattle.mh_network.specs.Problems.{ProblemData, no_link, problem_of, problem_tests, sum_of_charges, sum_of_costs, sum_of_gains}
 use Rattle.mh_site.specs.Places.{unfit}

@@ -7,7 +7,6 @@ pub mod Inputs
 pub mod Keys
 pub mod Lines
 pub mod Misfits
-pub mod MisreadViews
 pub mod Misreads
 pub mod Output
 pub mod PlanLines

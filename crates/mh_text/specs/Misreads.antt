@@ -1,7 +1,9 @@
 -- Why a part of an input could not be read, and where it stands.
-use Rattle.std.specs.Prelude.{List, [], ◌∷◌, Option, Some, None, Result, Ok, Err}
+use Rattle.std.specs.Prelude.{List, [], ◌∷◌, Option, Some, None, Result, Ok, Err, reverse, Vec}
 use Rattle.mh_text.specs.declared.fault.InputFault.{InputFault}
 use Rattle.mh_text.specs.declared.key.Key.{Key}
+use Rattle.mh_text.specs.declared.misread.Misread.TheInside.{Inside}
+use Rattle.std.specs.Global.{Global}
 
 -- a fault, and the keys that lead to the part that has it
 pub record MisreadData : Type 0 where
@@ -25,3 +27,12 @@ err_of (Err m) = Some m
 abbrev pub under : {A : Type 0} → Key → Result A MisreadData → Result A MisreadData
 under key (Ok x) = Ok x
 under key (Err m) = Err (behind key m)
+
+-- the keys that a misread keeps, which it has from the innermost out
+abbrev pub path_of : Option (Vec Key Global) → List Key
+path_of None = []
+path_of (Some keys) = reverse keys.items
+
+-- a misread as plain data
+abbrev pub misread_data : Inside → MisreadData
+misread_data m = record { fault = m.fault; path = path_of m.keys }

@@ -6,6 +6,7 @@ use Rattle.serde_json.specs.Data.{Data}
 use Rattle.serde_json.specs.Find.{as_bool}
 use Rattle.mh_network.specs.declared.link_row.LinkRow.{LinkRow}
 use Rattle.mh_base.specs.Listed.{Decided, first_failing, made_unless}
+use Rattle.mh_base.specs.Limits.{most_needs}
 use Rattle.mh_network.specs.Limits as network
 use Rattle.mh_network.specs.declared.fault.ProblemFault.{ProblemFault}
 use Rattle.mh_network.specs.declared.fault.ProblemFault.TheVariants.{GainTooLarge, CostTooLarge, NeedOutOfRange, NeedsNotAscending, TooManyLinks, TooManyPoints, TooManyNeeds}
@@ -105,7 +106,7 @@ decided_tests rows =
     ∷ (nat_le (length rows.costs) (most_points rows.version), TooManyPoints)
     ∷ (nat_le (length rows.links) network.most_links, TooManyLinks)
     ∷ (nat_le (length rows.costs) network.most_points, TooManyPoints)
-    ∷ (list_all (λ r. nat_le (length r.needs) network.most_needs) rows.links, TooManyNeeds)
+    ∷ (list_all (λ r. nat_le (length r.needs) most_needs) rows.links, TooManyNeeds)
     ∷ (list_all (needs_known (length rows.costs)) rows.links, NeedOutOfRange)
     ∷ (list_all (λ r. ascend r.needs) rows.links, NeedsNotAscending)
     ∷ (nat_le (sum_of_gains p) network.greatest_sum, GainTooLarge)
@@ -123,7 +124,7 @@ needs_of_first passes links = Member field.Links ∷ Item (unwrap_or (unfit pass
 abbrev pub place_in : List LinkRow → List ℕ → ProblemFault → List Key
 place_in links costs TooManyLinks = Member field.Links ∷ []
 place_in links costs TooManyPoints = Member field.Costs ∷ []
-place_in links costs TooManyNeeds = needs_of_first (λ r. nat_le (length r.needs) network.most_needs) links
+place_in links costs TooManyNeeds = needs_of_first (λ r. nat_le (length r.needs) most_needs) links
 place_in links costs NeedOutOfRange = needs_of_first (needs_known (length costs)) links
 place_in links costs NeedsNotAscending = needs_of_first (λ r. ascend r.needs) links
 place_in links costs GainTooLarge = Member field.Links ∷ []

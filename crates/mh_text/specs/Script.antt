@@ -4,6 +4,7 @@ use Rattle.std.specs.List.{list_any, slice_get}
 use Rattle.std.specs.Str.{bytes_eq}
 use Rattle.serde_json.specs.Data.{Data}
 use Rattle.serde_json.specs.Find.{get, as_null, as_object}
+use Rattle.mh_base.specs.Limits.{most_workers}
 use Rattle.mh_base.specs.Words.{at_word}
 use Rattle.mh_type.specs.declared.kind.Kind.{Kind}
 use Rattle.mh_type.specs.Signature.{Signature}
@@ -137,10 +138,6 @@ definition_of d = do
   sited ← sites_in version scope d
   definition ← fitted of_misfit (placed_made version points sited.sites)
   Ok (record { definition = definition; scope = sited.scope })
-
--- the most workers that call, or plan
-abbrev pub most_workers : ℕ
-most_workers = 64
 
 -- the number of workers: 1 to 64
 abbrev pub workers_of : Data → Result ℕ MisreadData

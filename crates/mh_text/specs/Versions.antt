@@ -5,6 +5,7 @@ use Rattle.mh_base.specs.Tests.{Tests, test, only}
 use Rattle.mh_network.specs.declared.link_row.LinkRow.{LinkRow}
 use Rattle.mh_network.specs.declared.fault.ProblemFault.{ProblemFault}
 use Rattle.mh_network.specs.declared.fault.ProblemFault.TheVariants.{TooManyLinks, TooManyPoints}
+use Rattle.mh_network.specs.Limits as network
 use Rattle.mh_network.specs.Problems.{problem_tests}
 use Rattle.mh_site.specs.declared.version.Version.{Version}
 use Rattle.mh_site.specs.declared.version.Version.TheVariants.{One, Two}
@@ -29,7 +30,7 @@ charge_of Two link = member_or 0 field.Charge (count_of (2 ^ 63 - 1)) link
 -- the most links of a problem
 abbrev pub most_links : Version → ℕ
 most_links One = 4096
-most_links Two = 16384
+most_links Two = network.most_links
 
 -- the tests of a problem's links and costs: the numbers that its version allows, and then those of all problems
 abbrev pub version_tests : Version → List LinkRow → List ℕ → Tests ProblemFault

@@ -118,7 +118,8 @@ pub(crate) fn line(
 }
 
 /// The line of a reply to a step of a script, by the step's number from 0: the script gives the
-/// names of points, and the snapshot or the plan that the step names. Refused where memory was.
+/// names of points, and the snapshot or the plan that the step names. Fails only if an allocation is
+/// refused.
 pub fn render(
     alloc: Global,
     script: &Script,

@@ -1,9 +1,8 @@
 //! Why a part of an input could not be read, and where it stands.
 ghost use Rattle.std.specs.Prelude.{◌≡◌, ◌⊎◌, ◌∷◌, Some, Result, IfOk};
-ghost use Rattle.mh_text.specs.MisreadViews.{path_of};
+ghost use Rattle.mh_text.specs.Misreads.{path_of, MisreadData, here, behind, err_of, under};
 ghost use Rattle.mh_text.specs.declared.fault.InputFault.TheVariants.{BadShape, BadValue, NoMemory as out_of_memory};
 ghost use Rattle.mh_text.specs.Gives.{Gives};
-ghost use Rattle.mh_text.specs.Misreads.{MisreadData, here, behind, err_of, under};
 
 use crate::fault::{Fault, InputFault};
 use crate::json::wanted::Wanted;
@@ -29,7 +28,7 @@ impl Model for Misread {
 
     ghost Value = { MisreadData };
 
-    ghost use Rattle.mh_text.specs.MisreadViews.{misread_data};
+    ghost use Rattle.mh_text.specs.Misreads.{misread_data};
 
     ghost view = { misread_data };
 }

@@ -13,6 +13,6 @@ pub data Code : Type 0 where
   -- test, target, fallback
   branch : ℕ → Code → Code → Code → Code
   -- point, target, fallback
-  switch : ℕ → ℕ → Code → Code → Code
+  point : ℕ → ℕ → Code → Code → Code
   -- an invocation: site, arguments
-  call : ℕ → ℕ → List Operand → Code
+  invoke : ℕ → ℕ → List Operand → Code

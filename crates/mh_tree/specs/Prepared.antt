@@ -6,7 +6,7 @@ use Rattle.mh_type.specs.declared.value.Value.TheVariants.{Boolean}
 use Rattle.mh_type.specs.Operations.{op_signature}
 use Rattle.mh_tree.specs.Tree.{Tree, Filters, constant, identity, operation, insert, discard, permute, filter, filter_return, fold, guard, point, invoke, no_more, absent, present}
 use Rattle.mh_tree.specs.Handle.{TypedTree}
-use Rattle.mh_tree.specs.Code.{Code, leaf, apply, bind, branch, switch, call}
+use Rattle.mh_tree.specs.Code.{Code, leaf, apply, bind, branch, point as code_point, invoke as code_invoke}
 use Rattle.mh_tree.specs.declared.operand.Operand.{Operand}
 use Rattle.mh_tree.specs.declared.operand.Operand.TheVariants.{Argument, Local, Constant}
 
@@ -28,8 +28,8 @@ abbrev mutual
   prepared (filter_return t f) env d s = bind (s + 1) (prepared t env d 0) (prepared f (Local d ∷ []) (d + 1) 0)
   prepared (fold t c) env d s = bind (s + 1) (prepared c env d 0) (prepared t (Local d ∷ env) (d + 1) 0)
   prepared (guard c x y) env d s = branch (s + 1) (prepared c env d 0) (prepared x env d 0) (prepared y env d 0)
-  prepared (point p x y) env d s = switch (s + 1) p (prepared x env d 0) (prepared y env d 0)
-  prepared (invoke k n) env d s = call (s + 1) k (take (length n.parameters) env)
+  prepared (point p x y) env d s = code_point (s + 1) p (prepared x env d 0) (prepared y env d 0)
+  prepared (invoke k n) env d s = code_invoke (s + 1) k (take (length n.parameters) env)
 
   -- the filters of the places from p on, and then the target
   pub prepared_filters : Filters → ℕ → List Operand → ℕ → ℕ → (List Operand → ℕ → ℕ → Code) → Code

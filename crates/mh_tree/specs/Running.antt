@@ -6,7 +6,7 @@ use Rattle.mh_type.specs.declared.outcome.Outcome.TheVariants as outcome
 use Rattle.mh_type.specs.Operations.{operate}
 use Rattle.mh_tree.specs.Meaning.{◌>>=◌, argument, choose, choose_steps, after, is_valid}
 use Rattle.mh_tree.specs.Environment.{Environment, Steps}
-use Rattle.mh_tree.specs.Code.{Code, leaf, apply, bind, branch, switch, call}
+use Rattle.mh_tree.specs.Code.{Code, leaf, apply, bind, branch, point, invoke}
 use Rattle.mh_tree.specs.declared.operand.Operand.{Operand}
 use Rattle.mh_tree.specs.declared.operand.Operand.TheVariants.{Argument, Local, Constant}
 
@@ -25,8 +25,8 @@ run_code v (bind s f g) a l = do
 run_code v (branch s c x y) a l = do
   b ← run_code v c a l
   choose b (run_code v x a l) (run_code v y a l)
-run_code v (switch s p x y) a l = if is_valid v p then run_code v x a l else run_code v y a l
-run_code v (call s k os) a l = v.calls k (map (value_of a l) os)
+run_code v (point s p x y) a l = if is_valid v p then run_code v x a l else run_code v y a l
+run_code v (invoke s k os) a l = v.calls k (map (value_of a l) os)
 
 -- the steps that it takes
 abbrev pub code_steps : Environment → Code → List Value → List Value → Steps
@@ -35,8 +35,8 @@ code_steps v (apply s op x y) a l = s
 code_steps v (bind s f g) a l = s + (code_steps v f a l + after (run_code v f a l) (λ x. code_steps v g a (l ++ x ∷ [])))
 code_steps v (branch s c x y) a l =
     s + (code_steps v c a l + after (run_code v c a l) (λ b. choose_steps b (code_steps v x a l) (code_steps v y a l)))
-code_steps v (switch s p x y) a l = s + (if is_valid v p then code_steps v x a l else code_steps v y a l)
-code_steps v (call s k os) a l = s + v.call_steps k (map (value_of a l) os)
+code_steps v (point s p x y) a l = s + (if is_valid v p then code_steps v x a l else code_steps v y a l)
+code_steps v (invoke s k os) a l = s + v.call_steps k (map (value_of a l) os)
 
 -- all steps together, where an invocation takes at most n beside its own
 abbrev pub weight : ℕ → Code → ℕ
@@ -44,5 +44,5 @@ weight n (leaf s o) = s
 weight n (apply s op x y) = s
 weight n (bind s f g) = s + (weight n f + weight n g)
 weight n (branch s c x y) = s + (weight n c + (weight n x + weight n y))
-weight n (switch s p x y) = s + (weight n x + weight n y)
-weight n (call s k os) = s + n
+weight n (point s p x y) = s + (weight n x + weight n y)
+weight n (invoke s k os) = s + n

@@ -23,8 +23,8 @@ use Rattle.mh_text.specs.declared.fault.InputFault.TheVariants as input
 use Rattle.mhlink_c.specs.Buffers.{IsCopied}
 use Rattle.mhlink_c.specs.Statuses.{part_of, status_of}
 use Rattle.mhlink_c.specs.Wording.{IsTold, fault_words, with_part, words_of}
-use Rattle.mhlink_c.specs.declared.fault.Fault.{Fault}
-use Rattle.mhlink_c.specs.declared.fault.Fault.TheVariants.{Refused, Input, Problem, Unknown, Short, BadValue, BadLimits}
+use Rattle.mhlink_c.specs.declared.failure.Failure.{Failure}
+use Rattle.mhlink_c.specs.declared.failure.Failure.TheVariants.{Refused, Input, Problem, Unknown, Short, BadValue, BadLimits}
 use Rattle.mhlink_c.proofs.Words.{with_some_part}
 
 some_check : (cause : CheckFault) → check_fault.fault_number cause ≢ 0
@@ -90,7 +90,7 @@ some_type type.BadText = λ none. omega arith
 one_digit : (n : ℕ) → n < 10 → codes "fault 9 Problem " ++ (48 + n) ∷ [] ≡ codes "fault " ++ codes "9 Problem " ++ decimal n
 one_digit n few = sym (ap (λ (digits : List ℕ). codes "fault 9 Problem " ++ digits) (decimal_digit n few))
 
-pub words_told : (e : Fault) → IsTold e → (words : List ℕ) × ((words_of (status_of e) ≡ Some words) × (with_part words (part_of e) ≡ fault_words e))
+pub words_told : (e : Failure) → IsTold e → (words : List ℕ) × ((words_of (status_of e) ≡ Some words) × (with_part words (part_of e) ≡ fault_words e))
 words_told (Refused NoMemory) is = (codes "refused 1 NoMemory", (refl, refl))
 words_told (Refused HistoryFull) is = (codes "refused 2 HistoryFull", (refl, refl))
 words_told (Refused NoSite) is = (codes "refused 3 NoSite", (refl, refl))
@@ -137,7 +137,7 @@ the_words (Some words) = words
 the_words None = []
 
 -- what is copied of a fault's status and part
-pub fault_copied : (status part count : ℕ) (buffer : List ℕ) → ((words : List ℕ) × ((words_of status ≡ Some words) × IsCopied (with_part words part) count buffer)) → (e : Fault) → IsTold e → status ≡ status_of e → part ≡ part_of e → IsCopied (fault_words e) count buffer
+pub fault_copied : (status part count : ℕ) (buffer : List ℕ) → ((words : List ℕ) × ((words_of status ≡ Some words) × IsCopied (with_part words part) count buffer)) → (e : Failure) → IsTold e → status ≡ status_of e → part ≡ part_of e → IsCopied (fault_words e) count buffer
 fault_copied status part count buffer told e is its_status its_part =
     let words = words_told e is in
     let same : told.0 ≡ words.0 = ap the_words (sym told.1.0 ∙ ap words_of its_status ∙ words.1.0) in

@@ -5,8 +5,8 @@ use Rattle.mh_core.specs.declared.refusal.Refusal.{Refusal}
 use Rattle.mh_core.specs.declared.refusal.Refusal.TheVariants.{NoMemory, HistoryFull, NoSite, NoPoint, WrongType, NoSnapshot, NoPlan, PlanRefused, OldPlan, TotalTooLarge, LedgerFull, GainTooLarge, NoWorker, WrongLevel}
 use Rattle.mh_core.specs.Refusals.{refusal_number}
 use Rattle.mhlink_c.specs.Statuses.{status_of}
-use Rattle.mhlink_c.specs.declared.fault.Fault.{Fault}
-use Rattle.mhlink_c.specs.declared.fault.Fault.TheVariants.{Refused}
+use Rattle.mhlink_c.specs.declared.failure.Failure.{Failure}
+use Rattle.mhlink_c.specs.declared.failure.Failure.TheVariants.{Refused}
 
 pub some_number : (told : Refusal) → 1 ≤ refusal_number told
 some_number NoMemory = omega arith
@@ -28,6 +28,6 @@ pub same_refusal : (told other : Refusal) → Refused told ≡ Refused other →
 same_refusal told other is = cc
 
 -- a status that is not 0 is that of the fault
-pub told_by : {X : Type 0} (r : Result X Fault) (n : ℕ) (P : Fault → Type 0) → OnOk r (n ≡ 0) → IfErr r (λ e. n ≡ status_of e) → IfErr r P → n ≢ 0 → (e : Fault) × ((n ≡ status_of e) × P e)
+pub told_by : {X : Type 0} (r : Result X Failure) (n : ℕ) (P : Failure → Type 0) → OnOk r (n ≡ 0) → IfErr r (λ e. n ≡ status_of e) → IfErr r P → n ≢ 0 → (e : Failure) × ((n ≡ status_of e) × P e)
 told_by (Ok x) n P ok status is some = absurd (some ok)
 told_by (Err e) n P ok status is some = (e, (status, is))

@@ -11,8 +11,8 @@ use Rattle.mh_share.specs.Desks.{RefusesLook}
 use Rattle.mhlink_c.specs.Calls.{answer_after}
 use Rattle.mhlink_c.specs.Crossing.{IsReply, text_of_reply}
 use Rattle.mhlink_c.specs.Desks.{HeldDeskState}
-use Rattle.mhlink_c.specs.declared.fault.Fault.{Fault}
-use Rattle.mhlink_c.specs.declared.fault.Fault.TheVariants.{Refused}
+use Rattle.mhlink_c.specs.declared.failure.Failure.{Failure}
+use Rattle.mhlink_c.specs.declared.failure.Failure.TheVariants.{Refused}
 use Rattle.mhlink_c.specs.declared.value.MhlinkReply.{MhlinkReply}
 
 -- the caller, and the text that its last call gave
@@ -39,7 +39,7 @@ abbrev pub looks : HeldDeskState → HeldCallerState → HeldCallerState
 looks desk h = record { caller = record { shown = desk.desk.shown; ledger = h.caller.ledger }; given = h.given }
 
 -- the desk does not hold the caller's ledger, or memory ran out
-abbrev pub RefusesToLook : HeldDeskState → LedgerState → Fault → Type 0
+abbrev pub RefusesToLook : HeldDeskState → LedgerState → Failure → Type 0
 RefusesToLook desk ledger e = (told : Refusal) × ((e ≡ Refused told) × RefusesLook desk.desk.book ledger told)
 
 -- the caller's ledger is this, and the world of its last look and its text stay

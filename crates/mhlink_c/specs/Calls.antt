@@ -11,8 +11,8 @@ use Rattle.mh_core.specs.declared.reply.Reply.{Reply}
 use Rattle.mhlink_c.specs.Crossing.{AreNoValues, AreValues, HaveNoText, IsReply, text_of_reply}
 use Rattle.mhlink_c.specs.Hosts.{HostState}
 use Rattle.mhlink_c.specs.Statuses.{IsRefusedBy, no_memory}
-use Rattle.mhlink_c.specs.declared.fault.Fault.{Fault}
-use Rattle.mhlink_c.specs.declared.fault.Fault.TheVariants.{BadValue}
+use Rattle.mhlink_c.specs.declared.failure.Failure.{Failure}
+use Rattle.mhlink_c.specs.declared.failure.Failure.TheVariants.{BadValue}
 use Rattle.mhlink_c.specs.declared.value.MhlinkReply.{MhlinkReply}
 use Rattle.mhlink_c.specs.declared.value.MhlinkValue.{MhlinkValue}
 
@@ -37,6 +37,6 @@ AsksForNone b s values texts =
     HaveNoText values × ((length values ≤ most_parameters) × ((a : List Value) → AreValues values texts a → TakesNoMemory b s a))
 
 -- a value is none, memory ran out in reading them, or the first failing test of the call with them
-abbrev pub RefusesCall : (List Value → Tests Refusal) → List MhlinkValue → List ℕ → Fault → Type 0
+abbrev pub RefusesCall : (List Value → Tests Refusal) → List MhlinkValue → List ℕ → Failure → Type 0
 RefusesCall tests values texts e =
     ((e ≡ BadValue) × AreNoValues values texts) ⊎ (e ≡ no_memory) ⊎ ((a : List Value) × (AreValues values texts a × IsRefusedBy (tests a) e))

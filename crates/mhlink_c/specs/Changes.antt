@@ -16,13 +16,13 @@ use Rattle.mh_text.specs.Plans.{plan_of_input}
 use Rattle.mh_text.specs.declared.json.scope.Scope.{Scope}
 use Rattle.mhlink_c.specs.Inputs.{IsFaultOf, tree_in}
 use Rattle.mhlink_c.specs.Statuses.{no_memory}
-use Rattle.mhlink_c.specs.declared.fault.Fault.{Fault}
-use Rattle.mhlink_c.specs.declared.fault.Fault.TheVariants.{Refused}
+use Rattle.mhlink_c.specs.declared.failure.Failure.{Failure}
+use Rattle.mhlink_c.specs.declared.failure.Failure.TheVariants.{Refused}
 use Rattle.mhlink_c.specs.declared.request.Change.{Change}
 use Rattle.mhlink_c.specs.declared.request.Change.TheVariants as change
 
 -- the first failing test of a record
-abbrev pub RefusesRecord : BookState → Record → Fault → Type 0
+abbrev pub RefusesRecord : BookState → Record → Failure → Type 0
 RefusesRecord b r e = (told : Refusal) × ((e ≡ Refused told) × MayRefuse b 0 r told)
 
 -- a site gets the tree that the text reads as
@@ -30,18 +30,18 @@ abbrev pub Retargets : (Record → Type 0) → Scope → ℕ → List ℕ → Ty
 Retargets Made scope s text = (tree : TypedTree) × ((tree_in scope text ≡ Ok tree) × Made (Targeted s tree))
 
 -- there is no such site; or else the text has a fault, or the book refuses the tree
-abbrev pub RefusesTarget : BookState → Scope → ℕ → List ℕ → Fault → Type 0
+abbrev pub RefusesTarget : BookState → Scope → ℕ → List ℕ → Failure → Type 0
 RefusesTarget b scope s text e =
     ((s < length b.definition.sites → ⊥) × (e ≡ Refused NoSite))
     ⊎ ((s < length b.definition.sites)
     × (IsFaultOf (tree_in scope text) e ⊎ ((tree : TypedTree) × ((tree_in scope text ≡ Ok tree) × RefusesRecord b (Targeted s tree) e))))
 
 -- no more owners of the tree can be counted, or the book refuses it
-abbrev pub RefusesTargetTree : BookState → ℕ → TypedTree → Fault → Type 0
+abbrev pub RefusesTargetTree : BookState → ℕ → TypedTree → Failure → Type 0
 RefusesTargetTree b s tree e = (e ≡ no_memory) ⊎ RefusesRecord b (Targeted s tree) e
 
 -- out of memory, or the first failing test of an invalidation
-abbrev pub RefusesInvalidation : BookState → List ℕ → Fault → Type 0
+abbrev pub RefusesInvalidation : BookState → List ℕ → Failure → Type 0
 RefusesInvalidation b points e = (e ≡ no_memory) ⊎ RefusesRecord b (Invalidated points) e
 
 -- a snapshot is taken, and has the next number
@@ -55,7 +55,7 @@ pub record Publishes (Made : Record → Type 0) (b : BookState) (snapshot : ℕ)
   pub number : n ≡ length b.plans + 1
 
 -- the first failing test of a plan's record, or out of memory
-abbrev pub RefusesPublished : BookState → ℕ → Plan → Fault → Type 0
+abbrev pub RefusesPublished : BookState → ℕ → Plan → Failure → Type 0
 RefusesPublished b snapshot plan e = (e ≡ no_memory) ⊎ RefusesRecord b (Published snapshot plan) e
 
 -- a best plan for a snapshot that was taken, of such the least
@@ -68,10 +68,10 @@ abbrev pub PublishesBest : (Record → Type 0) → BookState → ℕ → ℕ →
 PublishesBest Made b snapshot n = (plan : Plan) × (IsBest b snapshot plan × Publishes Made b snapshot plan n)
 
 -- there is no best plan for a snapshot that was not taken, and none where memory runs out
-abbrev pub HasNoBest : BookState → ℕ → Fault → Type 0
+abbrev pub HasNoBest : BookState → ℕ → Failure → Type 0
 HasNoBest b snapshot e = ((e ≡ Refused NoSnapshot) × (IsTaken b.records snapshot → ⊥)) ⊎ ((e ≡ no_memory) × IsTaken b.records snapshot)
 
-abbrev pub RefusesBest : BookState → ℕ → Fault → Type 0
+abbrev pub RefusesBest : BookState → ℕ → Failure → Type 0
 RefusesBest b snapshot e =
     HasNoBest b snapshot e ⊎ ((plan : Plan) × (IsBest b snapshot plan × RefusesPublished b snapshot plan e))
 
@@ -80,7 +80,7 @@ abbrev pub PublishesOffer : (Record → Type 0) → BookState → ℕ → List �
 PublishesOffer Made b snapshot text n =
     (plan : Plan) × ((plan_of_input None text ≡ Ok plan) × Publishes Made b snapshot plan n)
 
-abbrev pub RefusesOffer : BookState → ℕ → List ℕ → Fault → Type 0
+abbrev pub RefusesOffer : BookState → ℕ → List ℕ → Failure → Type 0
 RefusesOffer b snapshot text e =
     IsFaultOf (plan_of_input None text) e
     ⊎ ((plan : Plan) × ((plan_of_input None text ≡ Ok plan) × RefusesPublished b snapshot plan e))
@@ -100,7 +100,7 @@ MakesChange Made b scope (change.Offer snapshot plan) n = PublishesOffer Made b 
 MakesChange Made b scope (change.Install plan) n = Installs Made b plan n
 
 -- what a change is refused with
-abbrev pub RefusesChange : BookState → Scope → Change → Fault → Type 0
+abbrev pub RefusesChange : BookState → Scope → Change → Failure → Type 0
 RefusesChange b scope (change.Target s tree) e = RefusesTarget b scope s tree.now e
 RefusesChange b scope (change.Invalidate points) e = RefusesInvalidation b points.now e
 RefusesChange b scope change.Snapshot e = RefusesRecord b Snapped e

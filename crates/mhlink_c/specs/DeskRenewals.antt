@@ -11,8 +11,8 @@ use Rattle.mhlink_c.specs.Desks.{HeldDeskState}
 use Rattle.mhlink_c.specs.Renewals.{IsFresh, hits_number}
 use Rattle.mhlink_c.specs.Statuses.{IsRefusedBy}
 use Rattle.mhlink_c.specs.declared.caller_handle.MhlinkCaller.{MhlinkCaller}
-use Rattle.mhlink_c.specs.declared.fault.Fault.{Fault}
-use Rattle.mhlink_c.specs.declared.fault.Fault.TheVariants.{Unknown}
+use Rattle.mhlink_c.specs.declared.failure.Failure.{Failure}
+use Rattle.mhlink_c.specs.declared.failure.Failure.TheVariants.{Unknown}
 
 -- the callers that these handles lead to
 abbrev pub callers_of : List MhlinkCaller → List HeldCallerState
@@ -40,7 +40,7 @@ pub record DeskBeginsAnew (h : HeldDeskState) (callers : List HeldCallerState) (
   pub scope : new.scope ≡ h.scope
 
 -- the first failing test of a renewal with these callers
-abbrev pub RefusesDeskAnew : HeldDeskState → List HeldCallerState → List ℕ → Fault → Type 0
+abbrev pub RefusesDeskAnew : HeldDeskState → List HeldCallerState → List ℕ → Failure → Type 0
 RefusesDeskAnew h callers again e = IsRefusedBy (desk_tests h.desk.book (ledgers_of callers) again) e
 
 -- as the number that C passes says
@@ -49,7 +49,7 @@ IsRenewedDesk h callers again number new after =
     (hits : OldHits) × ((number ≡ hits_number hits) × DeskBeginsAnew h callers again hits new after)
 
 -- the number is none, or the first failing test of a renewal
-abbrev pub RefusesDeskRenewal : HeldDeskState → List HeldCallerState → List ℕ → ℕ → Fault → Type 0
+abbrev pub RefusesDeskRenewal : HeldDeskState → List HeldCallerState → List ℕ → ℕ → Failure → Type 0
 RefusesDeskRenewal h callers again number e =
     (((hits : OldHits) → number ≡ hits_number hits → ⊥) × (e ≡ Unknown))
     ⊎ ((hits : OldHits) × ((number ≡ hits_number hits) × RefusesDeskAnew h callers again e))

@@ -10,8 +10,8 @@ use Rattle.mh_text.specs.contracts.json.scope.Scope as scope
 use Rattle.mh_text.specs.declared.json.declarations.Declarations.{Declarations}
 use Rattle.mh_text.specs.declared.json.scope.Scope.{Scope}
 use Rattle.mhlink_c.specs.Opening.{limits_of}
-use Rattle.mhlink_c.specs.declared.fault.Fault.{Fault}
-use Rattle.mhlink_c.specs.declared.fault.Fault.TheVariants.{Refused}
+use Rattle.mhlink_c.specs.declared.failure.Failure.{Failure}
+use Rattle.mhlink_c.specs.declared.failure.Failure.TheVariants.{Refused}
 use Rattle.mhlink_c.specs.declared.texts.MhlinkLimits.{MhlinkLimits}
 
 -- the desk, and the names that its definition declares
@@ -49,5 +49,5 @@ pub record DeskFlushes (h : HeldDeskState) (ledger : LedgerState) (new : HeldDes
   pub scope : new.scope ≡ h.scope
 
 -- the desk does not hold the ledger, or the first failing test of its flush
-abbrev pub RefusesDeskFlush : HeldDeskState → LedgerState → Fault → Type 0
+abbrev pub RefusesDeskFlush : HeldDeskState → LedgerState → Failure → Type 0
 RefusesDeskFlush h ledger e = (told : Refusal) × ((e ≡ Refused told) × RefusesFlush h.desk.book ledger told)

@@ -8,8 +8,8 @@ use Rattle.mhlink_c.specs.Buffers.{IsCopied, IsTooShort}
 use Rattle.mhlink_c.specs.Statuses.{no_memory}
 use Rattle.mhlink_c.specs.declared.explaining.TextForm.{TextForm}
 use Rattle.mhlink_c.specs.declared.explaining.TextForm.TheVariants.{Definition, Input}
-use Rattle.mhlink_c.specs.declared.fault.Fault.{Fault}
-use Rattle.mhlink_c.specs.declared.fault.Fault.TheVariants.{Short, Unknown}
+use Rattle.mhlink_c.specs.declared.failure.Failure.{Failure}
+use Rattle.mhlink_c.specs.declared.failure.Failure.TheVariants.{Short, Unknown}
 
 -- each form, at its number in C
 abbrev pub forms : List TextForm
@@ -33,7 +33,7 @@ IsShort number text count buffer =
     × ((lines : List ℕ) × (IsExplanation form text lines × IsTooShort lines count buffer)))
 
 -- the number is that of no form; or memory ran out, or the buffer is too short, for the lines
-abbrev pub RefusesLines : ℕ → List ℕ → ℕ → List ℕ → Fault → Type 0
+abbrev pub RefusesLines : ℕ → List ℕ → ℕ → List ℕ → Failure → Type 0
 RefusesLines number text count buffer e =
     ((e ≡ Unknown) × (slice_get forms number ≡ None)) ⊎ (e ≡ no_memory)
     ⊎ ((e ≡ Short) × IsShort number text count buffer)

@@ -11,12 +11,12 @@ use Rattle.mhlink_c.specs.Hosts.{HostState}
 use Rattle.mhlink_c.specs.Inputs.{IsFaultOf}
 use Rattle.mhlink_c.specs.Renewals.{IsFresh}
 use Rattle.mhlink_c.specs.Statuses.{of_input}
-use Rattle.mhlink_c.specs.declared.fault.Fault.{Fault}
-use Rattle.mhlink_c.specs.declared.fault.Fault.TheVariants.{Refused}
+use Rattle.mhlink_c.specs.declared.failure.Failure.{Failure}
+use Rattle.mhlink_c.specs.declared.failure.Failure.TheVariants.{Refused}
 use Rattle.mhlink_c.specs.declared.further.Further.{Further}
 
 -- an extension's fault, that of the longer definition as one of a text
-abbrev pub of_extension : ExtensionFault → Fault
+abbrev pub of_extension : ExtensionFault → Failure
 of_extension HistoryFull = Refused refusal.HistoryFull
 of_extension (Definition cause) = of_input (of_definition cause)
 
@@ -30,7 +30,7 @@ pub record GrowsBy (h : HostState) (further : Further) (new : HostState) : Type 
   pub given : new.given ≡ h.given
 
 -- the first failing test of the extension
-abbrev pub RefusesToGrow : HostState → Further → Fault → Type 0
+abbrev pub RefusesToGrow : HostState → Further → Failure → Type 0
 RefusesToGrow h further e =
     (told : ExtensionFault) × ((e ≡ of_extension told) × RefusesExtension h.runtime.book (length h.runtime.ledgers) further.points further.sites told)
 
@@ -40,7 +40,7 @@ IsExtended h text new =
     (further : Further) × ((further_in h.runtime.book.definition text ≡ Ok further) × GrowsBy h further new)
 
 -- the fault of the text, or the first failing test of the extension
-abbrev pub RefusesExtending : HostState → List ℕ → Fault → Type 0
+abbrev pub RefusesExtending : HostState → List ℕ → Failure → Type 0
 RefusesExtending h text e =
     IsFaultOf (further_in h.runtime.book.definition text) e
     ⊎ ((further : Further) × ((further_in h.runtime.book.definition text ≡ Ok further) × RefusesToGrow h further e))

@@ -9,8 +9,8 @@ use Rattle.mh_network.specs.Problems.{ProblemData}
 use Rattle.mh_network.specs.Selection.{IsLeast, Row, into_charge, into_point, member}
 use Rattle.mhlink_c.specs.Buffers.{IsCopied}
 use Rattle.mhlink_c.specs.Problems.{needs_of}
-use Rattle.mhlink_c.specs.declared.fault.Fault.{Fault}
-use Rattle.mhlink_c.specs.declared.fault.Fault.TheVariants.{Short}
+use Rattle.mhlink_c.specs.declared.failure.Failure.{Failure}
+use Rattle.mhlink_c.specs.declared.failure.Failure.TheVariants.{Short}
 use Rattle.mhlink_c.specs.declared.planning.MhlinkLink.{MhlinkLink}
 
 -- a plan of the best links, of such the fewest
@@ -58,7 +58,7 @@ pub record IsWritten (plan : Plan) (count : ℕ) (chosen : List ℕ) (points_cou
   pub is_worth : value ≡ plan.value
 
 -- the links and the points of a plan are counted, and an array is too short
-pub record HasNoRoom (P : ProblemData) (count points_count : ℕ) (IsShort : Type 0) (e : Fault) : Type 0 where
+pub record HasNoRoom (P : ProblemData) (count points_count : ℕ) (IsShort : Type 0) (e : Failure) : Type 0 where
   pub fault : e ≡ Short
   pub short : IsShort
   pub counted : (plan : Plan) × (IsLeastPlan P plan × (count ≡ length plan.links) × (points_count ≡ length plan.points))

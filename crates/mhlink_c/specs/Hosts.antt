@@ -8,8 +8,8 @@ use Rattle.mh_core.specs.declared.record.Record.{Record}
 use Rattle.mh_core.specs.declared.refusal.Refusal.{Refusal}
 use Rattle.mh_text.specs.contracts.json.scope.Scope as scope
 use Rattle.mh_text.specs.declared.json.scope.Scope.{Scope}
-use Rattle.mhlink_c.specs.declared.fault.Fault.{Fault}
-use Rattle.mhlink_c.specs.declared.fault.Fault.TheVariants.{Refused}
+use Rattle.mhlink_c.specs.declared.failure.Failure.{Failure}
+use Rattle.mhlink_c.specs.declared.failure.Failure.TheVariants.{Refused}
 
 -- the runtime, the names that its definition declares, and the text that the last call gave
 pub record HostState : Type 0 where
@@ -40,5 +40,5 @@ pub record Flushes (h : HostState) (w : ℕ) (new : HostState) : Type 0 where
   pub ledgers : new.runtime.ledgers ≡ slice_set h.runtime.ledgers w (settled (ledger_at h.runtime.ledgers w))
   pub kept : IsKept h new
 
-abbrev pub RefusesToFlush : HostState → ℕ → Fault → Type 0
+abbrev pub RefusesToFlush : HostState → ℕ → Failure → Type 0
 RefusesToFlush h w e = (told : Refusal) × ((e ≡ Refused told) × RefusesFlush h.runtime 0 w told)

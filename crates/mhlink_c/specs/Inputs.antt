@@ -9,7 +9,7 @@ use Rattle.mh_text.specs.declared.fault.Fault.{Fault as TextualFault}
 use Rattle.mh_text.specs.declared.json.declarations.Declarations.{Declarations}
 use Rattle.mh_text.specs.declared.json.scope.Scope.{Scope}
 use Rattle.mhlink_c.specs.Statuses.{no_memory, of_text}
-use Rattle.mhlink_c.specs.declared.fault.Fault.{Fault}
+use Rattle.mhlink_c.specs.declared.failure.Failure.{Failure}
 
 -- a tree over the names that a definition declares
 abbrev pub tree_in : Scope → List ℕ → Result TypedTree TextualFault
@@ -24,10 +24,10 @@ declarations_in text = do
   at_place 0 (definition_of value)
 
 -- out of memory, or the fault that the text has
-abbrev pub IsFaultOf : {X : Type 0} → Result X TextualFault → Fault → Type 0
+abbrev pub IsFaultOf : {X : Type 0} → Result X TextualFault → Failure → Type 0
 IsFaultOf read e = (e ≡ no_memory) ⊎ ((fault : TextualFault) × ((read ≡ Err fault) × (e ≡ of_text fault)))
 
 -- what was read, or its fault
-abbrev pub Reads : {X : Type 0} → Result X Fault → Result X TextualFault → Type 0
+abbrev pub Reads : {X : Type 0} → Result X Failure → Result X TextualFault → Type 0
 Reads (Ok x) read = read ≡ Ok x
 Reads (Err e) read = IsFaultOf read e

@@ -6,8 +6,8 @@ use Rattle.mh_core.specs.Value.{Value}
 use Rattle.mhlink_c.specs.Buffers.{IsCopied, IsTooShort}
 use Rattle.mhlink_c.specs.Crossing.{bytes_of, value_kind, value_number}
 use Rattle.mhlink_c.specs.Statuses.{no_memory}
-use Rattle.mhlink_c.specs.declared.fault.Fault.{Fault}
-use Rattle.mhlink_c.specs.declared.fault.Fault.TheVariants.{Short, Unknown}
+use Rattle.mhlink_c.specs.declared.failure.Failure.{Failure}
+use Rattle.mhlink_c.specs.declared.failure.Failure.TheVariants.{Short, Unknown}
 use Rattle.mhlink_c.specs.declared.value.MhlinkValue.{MhlinkValue}
 
 abbrev pub key_of : DefinitionData → ℕ → Value
@@ -23,9 +23,9 @@ abbrev pub IsLinkOf : DefinitionData → ℕ → Type 0
 IsLinkOf d j = j < length (links d)
 
 -- there is no such link, or no more owners of its key can be counted
-abbrev pub HasNoKey : DefinitionData → ℕ → Fault → Type 0
+abbrev pub HasNoKey : DefinitionData → ℕ → Failure → Type 0
 HasNoKey d j e = ((e ≡ Unknown) × (IsLinkOf d j → ⊥)) ⊎ ((e ≡ no_memory) × IsLinkOf d j)
 
 -- there is such a link, and the buffer is too short for the bytes of its key
-abbrev pub IsUncopiedKey : DefinitionData → ℕ → ℕ → List ℕ → Fault → Type 0
+abbrev pub IsUncopiedKey : DefinitionData → ℕ → ℕ → List ℕ → Failure → Type 0
 IsUncopiedKey d j n buffer e = (e ≡ Short) × (IsLinkOf d j × IsTooShort (bytes_of (key_of d j)) n buffer)

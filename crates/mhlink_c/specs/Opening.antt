@@ -2,12 +2,12 @@
 use Rattle.std.specs.Prelude.{◌≡◌, ◌⊎◌, ◌<◌, ◌≤◌, ℕ, List, None, Ok}
 use Rattle.mh_core.specs.Limits.{IsLimits, LimitsData}
 use Rattle.mh_core.specs.Runtimes.{opened_runtime}
-use Rattle.mh_text.specs.Script.{most_workers}
+use Rattle.mh_base.specs.Limits.{most_workers}
 use Rattle.mh_text.specs.declared.json.declarations.Declarations.{Declarations}
 use Rattle.mhlink_c.specs.Hosts.{HostState}
 use Rattle.mhlink_c.specs.Inputs.{IsFaultOf, declarations_in}
-use Rattle.mhlink_c.specs.declared.fault.Fault.{Fault}
-use Rattle.mhlink_c.specs.declared.fault.Fault.TheVariants.{BadLimits}
+use Rattle.mhlink_c.specs.declared.failure.Failure.{Failure}
+use Rattle.mhlink_c.specs.declared.failure.Failure.TheVariants.{BadLimits}
 use Rattle.mhlink_c.specs.declared.texts.MhlinkLimits.{MhlinkLimits}
 
 abbrev pub limits_of : MhlinkLimits → LimitsData
@@ -29,6 +29,6 @@ Opens text workers limits Opened =
     (d : Declarations) × ((declarations_in text ≡ Ok d) × (AreLimits workers limits × Opened d))
 
 -- a limit or the number of workers is out of its range; or else the text has a fault, or memory ran out
-abbrev pub RefusesOpening : List ℕ → ℕ → MhlinkLimits → Fault → Type 0
+abbrev pub RefusesOpening : List ℕ → ℕ → MhlinkLimits → Failure → Type 0
 RefusesOpening text workers limits e =
     ((AreLimits workers limits → ⊥) × (e ≡ BadLimits)) ⊎ (AreLimits workers limits × IsFaultOf (declarations_in text) e)

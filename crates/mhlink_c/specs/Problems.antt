@@ -7,8 +7,8 @@ use Rattle.mh_network.specs.declared.link_row.LinkRow.{LinkRow}
 use Rattle.mh_network.specs.Problems.{ProblemData, large_tests}
 use Rattle.mh_network.specs.Selection.{IsLeast, member, worth}
 use Rattle.mhlink_c.specs.Statuses.{no_memory, of_problem}
-use Rattle.mhlink_c.specs.declared.fault.Fault.{Fault}
-use Rattle.mhlink_c.specs.declared.fault.Fault.TheVariants.{Unknown}
+use Rattle.mhlink_c.specs.declared.failure.Failure.{Failure}
+use Rattle.mhlink_c.specs.declared.failure.Failure.TheVariants.{Unknown}
 use Rattle.mhlink_c.specs.declared.planning.MhlinkLink.{MhlinkLink}
 
 -- the needs of a link: so many of all from the first
@@ -36,7 +36,7 @@ abbrev pub IsLeastChoice : ProblemData → List ℕ → Type 0
 IsLeastChoice P links = IsLeast P (member links) × IsStrictlyIncreasing links
 
 -- needs that are not there, out of memory, or the first failing test of a large problem
-abbrev pub RefusesRows : List ℕ → List MhlinkLink → List ℕ → Fault → Type 0
+abbrev pub RefusesRows : List ℕ → List MhlinkLink → List ℕ → Failure → Type 0
 RefusesRows needs links costs e =
     ((All (HasNeeds needs) links → ⊥) × (e ≡ Unknown)) ⊎ (e ≡ no_memory)
     ⊎ (All (HasNeeds needs) links × ((fault : ProblemFault) × ((e ≡ of_problem fault) × Refuses (large_tests (rows_of needs links) costs) fault)))

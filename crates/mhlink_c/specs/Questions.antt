@@ -9,8 +9,8 @@ use Rattle.mh_core.specs.Value.{Value}
 use Rattle.mhlink_c.specs.Crossing.{IsValue}
 use Rattle.mhlink_c.specs.Details.{detail_at}
 use Rattle.mhlink_c.specs.Statuses.{no_memory}
-use Rattle.mhlink_c.specs.declared.fault.Fault.{Fault}
-use Rattle.mhlink_c.specs.declared.fault.Fault.TheVariants.{BadValue, Unknown}
+use Rattle.mhlink_c.specs.declared.failure.Failure.{Failure}
+use Rattle.mhlink_c.specs.declared.failure.Failure.TheVariants.{BadValue, Unknown}
 use Rattle.mhlink_c.specs.declared.request.Question.{Question}
 use Rattle.mhlink_c.specs.declared.request.Question.TheVariants as question
 use Rattle.mhlink_c.specs.declared.value.MhlinkValue.{MhlinkValue}
@@ -44,13 +44,13 @@ HasNoLink d s key =
     s < length d.sites → (k : ℕ) → k < length (site_at d s).links → (link_of d s k).when ≡ key → ⊥
 
 -- there is no such link, or its key is no value, or a text that is too much for the memory
-abbrev pub IsUnknownLink : DefinitionData → ℕ → MhlinkValue → List ℕ → Fault → Type 0
+abbrev pub IsUnknownLink : DefinitionData → ℕ → MhlinkValue → List ℕ → Failure → Type 0
 IsUnknownLink d s key text e =
     ((e ≡ BadValue) × ((x : Value) → IsValue key text x → ⊥)) ⊎ ((e ≡ no_memory) × (key.kind ≡ 4))
     ⊎ ((e ≡ Unknown) × ((x : Value) × (IsValue key text x × HasNoLink d s x)))
 
 -- why a question has no answer
-abbrev pub IsUnknown : BookState → Question → Fault → Type 0
+abbrev pub IsUnknown : BookState → Question → Failure → Type 0
 IsUnknown b (question.Site name) e = (e ≡ Unknown) × ((s : ℕ) → IsSite b.definition name.now s → ⊥)
 IsUnknown b (question.Point name) e = (e ≡ Unknown) × ((p : ℕ) → IsPoint b.definition name.now p → ⊥)
 IsUnknown b (question.Link s key text) e = IsUnknownLink b.definition s key text.now e

@@ -9,8 +9,8 @@ use Rattle.mh_core.specs.Records.{snapshots as snapshots_in, plans as plans_in}
 use Rattle.mh_core.specs.Renewals.{MeansTheSame, Renews, renewal_tests}
 use Rattle.mhlink_c.specs.Statuses.{IsRefusedBy}
 use Rattle.mhlink_c.specs.Hosts.{HostState, IsKept}
-use Rattle.mhlink_c.specs.declared.fault.Fault.{Fault}
-use Rattle.mhlink_c.specs.declared.fault.Fault.TheVariants.{Unknown}
+use Rattle.mhlink_c.specs.declared.failure.Failure.{Failure}
+use Rattle.mhlink_c.specs.declared.failure.Failure.TheVariants.{Unknown}
 use Rattle.mhlink_c.specs.declared.renewing.MhlinkUsed.{MhlinkUsed}
 
 -- the records, snapshots and plans of a history
@@ -42,7 +42,7 @@ pub record BeginsAnew (h : HostState) (again : List ℕ) (hits : OldHits) (new :
   pub kept : IsKept h new
 
 -- the first failing test of a renewal
-abbrev pub RefusesAnew : HostState → List ℕ → Fault → Type 0
+abbrev pub RefusesAnew : HostState → List ℕ → Failure → Type 0
 RefusesAnew h again e =
     IsRefusedBy (renewal_tests h.runtime.book.definition h.runtime.book.limits (length h.runtime.ledgers) again) e
 
@@ -51,7 +51,7 @@ abbrev pub IsRenewed : HostState → List ℕ → ℕ → HostState → Type 0
 IsRenewed h again number new = (hits : OldHits) × ((number ≡ hits_number hits) × BeginsAnew h again hits new)
 
 -- the number is none, or the first failing test of a renewal
-abbrev pub RefusesRenewal : HostState → List ℕ → ℕ → Fault → Type 0
+abbrev pub RefusesRenewal : HostState → List ℕ → ℕ → Failure → Type 0
 RefusesRenewal h again number e =
     (((hits : OldHits) → number ≡ hits_number hits → ⊥) × (e ≡ Unknown))
     ⊎ ((hits : OldHits) × ((number ≡ hits_number hits) × RefusesAnew h again e))

@@ -10,12 +10,12 @@ use Rattle.mhlink_c.specs.Hosts.{HostState}
 use Rattle.mhlink_c.specs.Inputs.{IsFaultOf, declarations_in}
 use Rattle.mhlink_c.specs.Opening.{AreLimits, Opens, limits_of}
 use Rattle.mhlink_c.specs.Statuses.{no_memory}
-use Rattle.mhlink_c.specs.declared.fault.Fault.{Fault}
-use Rattle.mhlink_c.specs.declared.fault.Fault.TheVariants.{Refused, Unknown, BadLimits}
+use Rattle.mhlink_c.specs.declared.failure.Failure.{Failure}
+use Rattle.mhlink_c.specs.declared.failure.Failure.TheVariants.{Refused, Unknown, BadLimits}
 use Rattle.mhlink_c.specs.declared.texts.MhlinkLimits.{MhlinkLimits}
 
 -- a resumption's fault, where totals of other links than there are are a number of nothing
-abbrev pub of_resumption : ResumptionFault → Fault
+abbrev pub of_resumption : ResumptionFault → Failure
 of_resumption NoWorker = BadLimits
 of_resumption NoPoint = Refused refusal.NoPoint
 of_resumption WrongCount = Unknown
@@ -34,12 +34,12 @@ abbrev pub Resumes : List ℕ → ℕ → MhlinkLimits → List ℕ → List ℕ
 Resumes text workers limits invalid totals h = Opens text workers limits (λ d. IsResumedHost d workers limits invalid totals h)
 
 -- the first failing test of the resumption
-abbrev pub RefusesToResume : Declarations → ℕ → MhlinkLimits → List ℕ → List ℕ → Fault → Type 0
+abbrev pub RefusesToResume : Declarations → ℕ → MhlinkLimits → List ℕ → List ℕ → Failure → Type 0
 RefusesToResume d workers limits invalid totals e =
     (told : ResumptionFault) × ((e ≡ of_resumption told) × Refuses (resumption_tests d.definition workers (limits_of limits) invalid totals) told)
 
 -- the first that is so: a limit or the number of workers is out of its range, the text has a fault, a test fails
-abbrev pub RefusesResuming : List ℕ → ℕ → MhlinkLimits → List ℕ → List ℕ → Fault → Type 0
+abbrev pub RefusesResuming : List ℕ → ℕ → MhlinkLimits → List ℕ → List ℕ → Failure → Type 0
 RefusesResuming text workers limits invalid totals e =
     ((AreLimits workers limits → ⊥) × (e ≡ BadLimits))
     ⊎ (AreLimits workers limits

@@ -16,8 +16,8 @@ use Rattle.mh_text.specs.declared.fault.InputFault.{InputFault}
 use Rattle.mh_text.specs.declared.fault.InputFault.TheVariants as input
 use Rattle.mh_text.specs.declared.fault.TextFault.{TextFault}
 use Rattle.mh_text.specs.declared.fault.TextFault.TheVariants as text
-use Rattle.mhlink_c.specs.declared.fault.Fault.{Fault}
-use Rattle.mhlink_c.specs.declared.fault.Fault.TheVariants.{Refused, Input, Problem, Unknown, Short, BadValue, BadLimits}
+use Rattle.mhlink_c.specs.declared.failure.Failure.{Failure}
+use Rattle.mhlink_c.specs.declared.failure.Failure.TheVariants.{Refused, Input, Problem, Unknown, Short, BadValue, BadLimits}
 
 -- the number under "Faults of inputs" of docs/FAULTS.md
 abbrev pub input_number : InputFault → ℕ
@@ -45,7 +45,7 @@ input_part (input.BadType cause) = type_fault.fault_number cause
 input_part _ = 0
 
 -- the status
-abbrev pub status_of : Fault → ℕ
+abbrev pub status_of : Failure → ℕ
 status_of (Refused told) = refusal_number told
 status_of (Input fault) = 100 + input_number fault
 status_of (Problem fault) = 200 + problem_fault.fault_number fault
@@ -55,33 +55,33 @@ status_of BadValue = 303
 status_of BadLimits = 304
 
 -- the number of the cause, the newest plan, or 0
-abbrev pub part_of : Fault → ℕ
+abbrev pub part_of : Failure → ℕ
 part_of (Refused (refusal.PlanRefused cause)) = check_fault.fault_number cause
 part_of (Refused (refusal.OldPlan newest)) = newest
 part_of (Input fault) = input_part fault
 part_of _ = 0
 
-abbrev pub no_memory : Fault
+abbrev pub no_memory : Failure
 no_memory = Refused refusal.NoMemory
 
 -- a fault of an input, where out of memory is a refusal
-abbrev pub of_input : InputFault → Fault
+abbrev pub of_input : InputFault → Failure
 of_input input.NoMemory = no_memory
 of_input fault = Input fault
 
 -- a fault of a problem, where out of memory is a refusal
-abbrev pub of_problem : ProblemFault → Fault
+abbrev pub of_problem : ProblemFault → Failure
 of_problem problem.NoMemory = no_memory
 of_problem fault = Problem fault
 
-abbrev pub of_kind : TextFault → Fault
+abbrev pub of_kind : TextFault → Failure
 of_kind (text.Input fault) = of_input fault
 of_kind _ = no_memory
 
 -- a fault of a text that was passed, wherever it stands
-abbrev pub of_text : TextualFault → Fault
+abbrev pub of_text : TextualFault → Failure
 of_text fault = of_kind fault.kind
 
--- the first failing test is told
-abbrev pub IsRefusedBy : Tests Refusal → Fault → Type 0
+-- refused for the first test that fails
+abbrev pub IsRefusedBy : Tests Refusal → Failure → Type 0
 IsRefusedBy tests e = (told : Refusal) × ((e ≡ Refused told) × Refuses tests told)

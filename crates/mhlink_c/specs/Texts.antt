@@ -11,8 +11,8 @@ use Rattle.mh_text.specs.Report.{tables_text}
 use Rattle.mhlink_c.specs.Buffers.{IsTooShort}
 use Rattle.mhlink_c.specs.Changes.{IsBest}
 use Rattle.mhlink_c.specs.Statuses.{no_memory}
-use Rattle.mhlink_c.specs.declared.fault.Fault.{Fault}
-use Rattle.mhlink_c.specs.declared.fault.Fault.TheVariants.{Short, Unknown}
+use Rattle.mhlink_c.specs.declared.failure.Failure.{Failure}
+use Rattle.mhlink_c.specs.declared.failure.Failure.TheVariants.{Short, Unknown}
 
 -- a best plan with the flow that shows it to be best, as JSON
 abbrev pub IsCertificate : RuntimeState → ℕ → List ℕ → Type 0
@@ -28,9 +28,9 @@ report_of r =
     tables_text r.book.definition r.book.records (map (unflushed_of r.ledgers) (numbers (length (links r.book.definition))))
 
 -- the last call gave no text, or memory ran out
-abbrev pub HasNoText : Option (List ℕ) → Fault → Type 0
+abbrev pub HasNoText : Option (List ℕ) → Failure → Type 0
 HasNoText given e = ((e ≡ Unknown) × (given ≡ None)) ⊎ ((e ≡ no_memory) × (given ≢ None))
 
 -- such a text is there, and the buffer is too short for it
-abbrev pub IsUncopied : (List ℕ → Type 0) → ℕ → List ℕ → Fault → Type 0
+abbrev pub IsUncopied : (List ℕ → Type 0) → ℕ → List ℕ → Failure → Type 0
 IsUncopied Is count buffer e = (e ≡ Short) × ((text : List ℕ) × (Is text × IsTooShort text count buffer))

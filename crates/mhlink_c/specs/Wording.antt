@@ -8,8 +8,8 @@ use Rattle.mh_text.specs.Faults.{input_text}
 use Rattle.mh_text.specs.declared.fault.InputFault.TheVariants as input
 use Rattle.mhlink_c.specs.Buffers.{IsTooShort}
 use Rattle.mhlink_c.specs.Statuses.{no_memory}
-use Rattle.mhlink_c.specs.declared.fault.Fault.{Fault}
-use Rattle.mhlink_c.specs.declared.fault.Fault.TheVariants.{Refused, Input, Problem, Unknown, Short, BadValue, BadLimits}
+use Rattle.mhlink_c.specs.declared.failure.Failure.{Failure}
+use Rattle.mhlink_c.specs.declared.failure.Failure.TheVariants.{Refused, Input, Problem, Unknown, Short, BadValue, BadLimits}
 
 -- statuses, and the words of each: of what is done and of refusals
 abbrev pub refusals : List (ℕ × List ℕ)
@@ -79,13 +79,13 @@ abbrev pub with_part : List ℕ → ℕ → List ℕ
 with_part words part = if part == 0 then words else words ++ 32 ∷ decimal part
 
 -- the number is no status; or memory ran out, or the buffer is too short, for the words
-abbrev pub RefusesWords : ℕ → ℕ → ℕ → List ℕ → Fault → Type 0
+abbrev pub RefusesWords : ℕ → ℕ → ℕ → List ℕ → Failure → Type 0
 RefusesWords status part count buffer e =
     ((e ≡ Unknown) × (words_of status ≡ None)) ⊎ ((e ≡ no_memory) × (part ≢ 0))
     ⊎ ((e ≡ Short) × ((words : List ℕ) × ((words_of status ≡ Some words) × IsTooShort (with_part words part) count buffer)))
 
 -- the words of a fault: those of its refusal, or of its input's fault, which tell the part too
-abbrev pub fault_words : Fault → List ℕ
+abbrev pub fault_words : Failure → List ℕ
 fault_words (Refused told) = codes "refused " ++ refusal_text told
 fault_words (Input cause) = codes "fault " ++ input_text cause
 fault_words (Problem cause) = codes "fault " ++ input_text (input.Problem cause)
@@ -94,8 +94,8 @@ fault_words Short = codes "the buffer is too short"
 fault_words BadValue = codes "a value of no kind, out of its kind's range, or whose text is not passed"
 fault_words BadLimits = codes "a limit, or the number of workers, is out of its range"
 
--- a fault whose number C may get: want of memory is a refusal, and plans have numbers from 1
-abbrev pub IsTold : Fault → Type 0
+-- a fault whose number C may get: out of memory is a refusal, and plans have numbers from 1
+abbrev pub IsTold : Failure → Type 0
 IsTold (Refused (OldPlan newest)) = newest ≢ 0
 IsTold (Input input.NoMemory) = ⊥
 IsTold (Problem problem.NoMemory) = ⊥

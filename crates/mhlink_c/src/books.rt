@@ -9,11 +9,11 @@ ghost use Rattle.mhlink_c.specs.Inputs.{IsFaultOf, tree_in};
 ghost use Rattle.mhlink_c.specs.Questions.{IsUnknown, Tells};
 ghost use Rattle.mhlink_c.specs.Statuses.{no_memory};
 ghost use Rattle.mh_core.specs.declared.refusal.Refusal.TheVariants.{NoSite};
-ghost use Rattle.mhlink_c.specs.declared.fault.Fault.TheVariants.{Refused, Unknown};
+ghost use Rattle.mhlink_c.specs.declared.failure.Failure.TheVariants.{Refused, Unknown};
 
 use crate::detail::detail_of;
 use crate::details::told;
-use crate::fault::Fault;
+use crate::failure::Failure;
 use crate::finding::{link_number, point_number, site_number};
 use crate::request::Question;
 use crate::texts::read_target;
@@ -24,7 +24,7 @@ use mh_text::readers::Scope;
 use std::alloc::Global;
 
 /// The answer to a question.
-pub(crate) fn answer(alloc: Global, book: &Book, question: Question<'_>) -> Result<u64, Fault>
+pub(crate) fn answer(alloc: Global, book: &Book, question: Question<'_>) -> Result<u64, Failure>
     ensures tells { IfOk result (λ n. Tells book.now question.entry n) }
     ensures unknown { IfErr result (IsUnknown book.now question.entry) }
 {
@@ -44,39 +44,39 @@ pub(crate) fn answer(alloc: Global, book: &Book, question: Question<'_>) -> Resu
     }
 }
 
-fn detail_at(book: &Book, detail: u32, number: usize, place: usize) -> Result<u64, Fault>
+fn detail_at(book: &Book, detail: u32, number: usize, place: usize) -> Result<u64, Failure>
     ensures value { IfOk result (λ n. detail_of_book book.now detail number place ≡ Some n) }
     ensures unknown { IfErr result (λ e. (e ≡ Unknown)
         × (detail_of_book book.now detail number place ≡ None)) }
 {
     let Some(detail) = detail_of(detail) else {
-        return Err(Fault::Unknown);
+        return Err(Failure::Unknown);
     };
     match told(book, detail, number, place) {
         Some(told) => Ok(told),
-        None => Err(Fault::Unknown),
+        None => Err(Failure::Unknown),
     }
 }
 
-fn total(book: &Book, link: usize) -> Result<u64, Fault>
+fn total(book: &Book, link: usize) -> Result<u64, Failure>
     ensures value { IfOk result (λ n. n ≡ at book.now.totals.total link) }
     ensures unknown { IfErr result (λ e. (e ≡ Unknown)
         × (link < length book.now.totals.total → ⊥)) }
 {
     let totals = book.totals();
     if link >= totals.links() {
-        return Err(Fault::Unknown);
+        return Err(Failure::Unknown);
     }
     Ok(totals.total(link))
 }
 
-fn linked(book: &Book, site: usize) -> Result<u64, Fault>
+fn linked(book: &Book, site: usize) -> Result<u64, Failure>
     ensures value { IfOk result (λ n. n ≡ length (kept book.now.definition book.now.records site)) }
     ensures unknown { IfErr result (λ e. (e ≡ Unknown)
         × (site < length book.now.definition.sites → ⊥)) }
 {
     if site >= book.definition().sites().len() {
-        return Err(Fault::Unknown);
+        return Err(Failure::Unknown);
     }
     Ok(book.installed(site).len() as u64)
 }
@@ -88,7 +88,7 @@ pub(crate) fn read_tree(
     scope: &Scope,
     site: usize,
     tree: &[u8],
-) -> Result<Declared, Fault>
+) -> Result<Declared, Failure>
     ensures value { IfOk result (λ t. tree_in scope.now tree.now ≡ Ok t) }
     ensures inside { OnOk result (site < length book.now.definition.sites) }
     ensures refused { IfErr result (λ e.
@@ -97,13 +97,13 @@ pub(crate) fn read_tree(
         × IsFaultOf (tree_in scope.now tree.now) e)) }
 {
     if site >= book.definition().sites().len() {
-        return Err(Fault::Refused(Refusal::NoSite));
+        return Err(Failure::Refused(Refusal::NoSite));
     }
     read_target(alloc, scope, tree)
 }
 
 /// Points as a record lists them.
-pub(crate) fn listed(alloc: Global, points: &[u32]) -> Result<Listing<u32>, Fault>
+pub(crate) fn listed(alloc: Global, points: &[u32]) -> Result<Listing<u32>, Failure>
     ensures value { IfOk result (λ listed. listed ≡ points.now) }
     ensures refused { IfErr result (λ e. e ≡ no_memory) }
 {
@@ -111,7 +111,7 @@ pub(crate) fn listed(alloc: Global, points: &[u32]) -> Result<Listing<u32>, Faul
 }
 
 /// The best plan for a snapshot, of such the least.
-pub(crate) fn best_plan_for(alloc: Global, book: &Book, snapshot: usize) -> Result<Plan, Fault>
+pub(crate) fn best_plan_for(alloc: Global, book: &Book, snapshot: usize) -> Result<Plan, Failure>
     ensures best { IfOk result (IsBest book.now snapshot) }
     ensures refused { IfErr result (HasNoBest book.now snapshot) }
 {

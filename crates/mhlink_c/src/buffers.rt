@@ -2,15 +2,15 @@
 
 ghost use Rattle.std.specs.Prelude.{◌≡◌, ◌≤◌, drop, length, take, IfErr, OnErr, OnOk};
 ghost use Rattle.mhlink_c.specs.Buffers.{IsCopied, IsTooShort};
-ghost use Rattle.mhlink_c.specs.declared.fault.Fault.TheVariants.{Short};
+ghost use Rattle.mhlink_c.specs.declared.failure.Failure.TheVariants.{Short};
 
-use crate::fault::Fault;
+use crate::failure::Failure;
 
-/// Copies items to the beginning of a buffer, where they fit, and tells how many they are. What
+/// Copies items to the beginning of a buffer, where they fit, and counts them. What
 /// stands behind them stays.
 ///
 /// Refused with `Short` where the buffer is shorter, which then is left alone.
-pub(crate) fn copy<T: Copy>(from: &[T], buffer: &mut [T], count: &mut usize) -> Result<(), Fault>
+pub(crate) fn copy<T: Copy>(from: &[T], buffer: &mut [T], count: &mut usize) -> Result<(), Failure>
     ensures copied { OnOk result (IsCopied from.now count.new buffer.new) }
     ensures rest { OnOk result (drop count.new buffer.new ≡ drop count.new buffer.old) }
     ensures short { IfErr result (λ e. (e ≡ Short) × IsTooShort from.now count.new buffer.old) }
@@ -18,7 +18,7 @@ pub(crate) fn copy<T: Copy>(from: &[T], buffer: &mut [T], count: &mut usize) -> 
 {
     *count = from.len();
     if buffer.len() < from.len() {
-        return Err(Fault::Short);
+        return Err(Failure::Short);
     }
     fill(from, buffer);
     Ok(())

@@ -9,11 +9,11 @@ ghost use Rattle.mhlink_c.specs.Calls.{AsksForNone, RefusesCall, WithValues};
 ghost use Rattle.mhlink_c.specs.Desks.{Holds};
 ghost use Rattle.mhlink_c.specs.Statuses.{no_memory};
 ghost use Rattle.mhlink_c.specs.Texts.{HasNoText};
-ghost use Rattle.mhlink_c.specs.declared.fault.Fault.TheVariants.{Unknown};
+ghost use Rattle.mhlink_c.specs.declared.failure.Failure.TheVariants.{Unknown};
 
-use crate::asking::hits_in;
 use crate::desk::HeldDesk;
-use crate::fault::Fault;
+use crate::failure::Failure;
+use crate::host::answers::hits_in;
 use crate::host::room_for_arguments;
 use crate::value::{MhlinkReply, MhlinkValue, read_values, reply_of, share_text, text_of};
 use mh_core::{Text, Value};
@@ -47,7 +47,7 @@ impl Model for HeldCaller {
 
 impl HeldCaller {
     /// A caller that has made no call.
-    pub(crate) fn over(alloc: Global, caller: Caller) -> Result<HeldCaller, Fault>
+    pub(crate) fn over(alloc: Global, caller: Caller) -> Result<HeldCaller, Failure>
         ensures value { IfOk result (λ held. held ≡ opened_held_caller caller) }
         ensures refused { IfErr result (λ e. e ≡ no_memory) }
     {
@@ -66,7 +66,7 @@ impl HeldCaller {
         site: usize,
         given: &[MhlinkValue],
         texts: &[u8],
-    ) -> Result<MhlinkReply, Fault>
+    ) -> Result<MhlinkReply, Failure>
         ensures answer { IfOk result (λ reply. WithValues given.now texts.now
             (CallerAnswers self.old site reply self.new)) }
         ensures refused { IfErr result (RefusesCall (call_tests self.old.caller site) given.now
@@ -85,7 +85,7 @@ impl HeldCaller {
     }
 
     /// Another owner of the text that the last call gave.
-    pub(crate) fn text(&self) -> Result<Text, Fault>
+    pub(crate) fn text(&self) -> Result<Text, Failure>
         ensures value { IfOk result (λ text. self.now.given ≡ Some text) }
         ensures refused { IfErr result (HasNoText self.now.given) }
     {
@@ -93,7 +93,7 @@ impl HeldCaller {
     }
 
     /// The unflushed hits of a link.
-    pub(crate) fn hits(&self, link: usize) -> Result<u64, Fault>
+    pub(crate) fn hits(&self, link: usize) -> Result<u64, Failure>
         ensures value { IfOk result (λ n. n ≡ at self.now.caller.ledger.unflushed link) }
         ensures unknown { IfErr result (λ e. (e ≡ Unknown)
             × (link < length self.now.caller.ledger.unflushed → ⊥)) }
@@ -102,7 +102,7 @@ impl HeldCaller {
     }
 
     /// Looks at what a desk shows.
-    pub(crate) fn look(&mut self, desk: &HeldDesk) -> Result<(), Fault>
+    pub(crate) fn look(&mut self, desk: &HeldDesk) -> Result<(), Failure>
         ensures held { OnOk result (Holds desk.now self.old.caller.ledger) }
         ensures looks { OnOk result (self.new ≡ looks desk.now self.old) }
         ensures refused { IfErr result (RefusesToLook desk.now self.old.caller.ledger) }

@@ -9,13 +9,13 @@ ghost use Rattle.mhlink_c.specs.Calls.{AsksForNone, RefusesCall, WithValues};
 ghost use Rattle.mhlink_c.specs.Desks.{Holds};
 ghost use Rattle.mhlink_c.specs.Statuses.{no_memory, status_of};
 ghost use Rattle.mhlink_c.specs.Texts.{HasNoText, IsUncopied};
-ghost use Rattle.mhlink_c.specs.declared.fault.Fault.{Fault as FaultOf};
-ghost use Rattle.mhlink_c.specs.declared.fault.Fault.TheVariants.{Short, Unknown};
+ghost use Rattle.mhlink_c.specs.declared.failure.Failure.{Failure as FaultOf};
+ghost use Rattle.mhlink_c.specs.declared.failure.Failure.TheVariants.{Short, Unknown};
 
 use crate::buffers::copy;
 use crate::caller_handle::MhlinkCaller;
 use crate::desk_handle::MhlinkDesk;
-use crate::fault::{Fault, status, write_answer};
+use crate::failure::{Failure, status, write_answer};
 use crate::value::{MhlinkReply, MhlinkValue};
 use core::mem::{replace, replace_with};
 use mh_core::Text;
@@ -33,7 +33,7 @@ struct CallerCall<'a> {
 fn call_held(
     caller: MhlinkCaller,
     call: CallerCall<'_>,
-) -> (MhlinkCaller, Result<MhlinkReply, Fault>)
+) -> (MhlinkCaller, Result<MhlinkReply, Failure>)
     requires full { caller.full ≡ true }
     ensures full { result.0.full ≡ true }
     ensures kept { OnErr result.1 (result.0.value ≡ caller.value) }
@@ -89,7 +89,7 @@ pub extern "C" fn mhlink_caller_call(
 }
 
 // Another owner of the text that the last call gave.
-fn text_held(caller: MhlinkCaller, _: ()) -> (MhlinkCaller, Result<Text, Fault>)
+fn text_held(caller: MhlinkCaller, _: ()) -> (MhlinkCaller, Result<Text, Failure>)
     requires full { caller.full ≡ true }
     ensures full { result.0.full ≡ true }
     ensures same { result.0.value ≡ caller.value }
@@ -126,7 +126,7 @@ pub extern "C" fn mhlink_caller_text(
     }
 }
 
-fn hits_held(caller: MhlinkCaller, link: usize) -> (MhlinkCaller, Result<u64, Fault>)
+fn hits_held(caller: MhlinkCaller, link: usize) -> (MhlinkCaller, Result<u64, Failure>)
     requires full { caller.full ≡ true }
     ensures full { result.0.full ≡ true }
     ensures same { result.0.value ≡ caller.value }
@@ -156,7 +156,7 @@ pub extern "C" fn mhlink_caller_hits(caller: &mut MhlinkCaller, link: usize, hit
 fn look_held(
     desk: MhlinkDesk,
     caller: MhlinkCaller,
-) -> (MhlinkDesk, (MhlinkCaller, Result<(), Fault>))
+) -> (MhlinkDesk, (MhlinkCaller, Result<(), Failure>))
     requires full { (desk.full ≡ true) × (caller.full ≡ true) }
     ensures full { (result.0.full ≡ true) × (result.1.0.full ≡ true) }
     ensures same { result.0.value ≡ desk.value }

@@ -4,9 +4,9 @@ ghost use Rattle.std.specs.Prelude.{◌≡◌, ◌≢◌, true, IfErr, IfOk, OnE
 ghost use Rattle.mh_core.specs.Runtimes.{call_tests};
 ghost use Rattle.mhlink_c.specs.Calls.{Answers, AsksForNone, RefusesCall, WithValues};
 ghost use Rattle.mhlink_c.specs.Statuses.{no_memory, status_of};
-ghost use Rattle.mhlink_c.specs.declared.fault.Fault.{Fault as FaultOf};
+ghost use Rattle.mhlink_c.specs.declared.failure.Failure.{Failure as FaultOf};
 
-use crate::fault::Fault;
+use crate::failure::Failure;
 use crate::handle::MhlinkMachine;
 use crate::value::{MhlinkReply, MhlinkValue};
 use core::mem::replace_with;
@@ -23,7 +23,10 @@ struct Call<'a> {
 }
 
 // Makes a call on the host that a handle holds.
-fn call_held(machine: MhlinkMachine, call: Call<'_>) -> (MhlinkMachine, Result<MhlinkReply, Fault>)
+fn call_held(
+    machine: MhlinkMachine,
+    call: Call<'_>,
+) -> (MhlinkMachine, Result<MhlinkReply, Failure>)
     requires full { machine.full ≡ true }
     ensures full { result.0.full ≡ true }
     ensures kept { OnErr result.1 (result.0.value ≡ machine.value) }

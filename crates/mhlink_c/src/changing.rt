@@ -5,16 +5,16 @@ ghost use Rattle.mh_core.specs.declared.record.Record.TheVariants.{Invalidated, 
 ghost use Rattle.mhlink_c.specs.Changes.{Installs, PublishesBest, PublishesOffer, RefusesBest, RefusesInvalidation, RefusesOffer, RefusesRecord, RefusesTarget, Retargets, TakesSnapshot};
 ghost use Rattle.mhlink_c.specs.Hosts.{Flushes, Records, RefusesToFlush};
 ghost use Rattle.mhlink_c.specs.Statuses.{part_of, status_of};
-ghost use Rattle.mhlink_c.specs.declared.fault.Fault.{Fault as FaultOf};
+ghost use Rattle.mhlink_c.specs.declared.failure.Failure.{Failure as FaultOf};
 
-use crate::fault::{Fault, status};
+use crate::failure::{Failure, status};
 use crate::handle::MhlinkMachine;
 use crate::held::make_change;
 use crate::request::Change;
 use core::mem::replace_with;
 use std::alloc::Global;
 
-fn flush_held(machine: MhlinkMachine, worker: u32) -> (MhlinkMachine, Result<(), Fault>)
+fn flush_held(machine: MhlinkMachine, worker: u32) -> (MhlinkMachine, Result<(), Failure>)
     requires full { machine.full ≡ true }
     ensures full { result.0.full ≡ true }
     ensures flushed { OnOk result.1 (Flushes machine.value worker result.0.value) }

@@ -12,7 +12,7 @@ ghost use Rattle.mhlink_c.specs.Statuses.{no_memory};
 
 use crate::books::{best_plan_for, listed, read_tree};
 use crate::caller::HeldCaller;
-use crate::fault::Fault;
+use crate::failure::Failure;
 use crate::host::limits_for;
 use crate::request::Change;
 use crate::texts::{MhlinkLimits, read_definition};
@@ -47,7 +47,7 @@ impl HeldDesk {
         definition: &[u8],
         workers: usize,
         limits: &MhlinkLimits,
-    ) -> Result<(HeldDesk, Vec<Caller>), Fault>
+    ) -> Result<(HeldDesk, Vec<Caller>), Failure>
         ensures opened { IfOk result (λ opened. Opens definition.now workers limits.now
             (λ d. (opened.0 ≡ opened_held_desk d workers limits.now)
             × (opened.1.items ≡ opened_callers d.definition workers (limits_of limits.now)))) }
@@ -60,7 +60,7 @@ impl HeldDesk {
     }
 
     /// Shows callers the world of now.
-    pub(crate) fn show(&mut self) -> Result<(), Fault>
+    pub(crate) fn show(&mut self) -> Result<(), Failure>
         ensures shows { OnOk result (self.new ≡ shows self.old) }
         ensures refused { IfErr result (λ e. e ≡ no_memory) }
         ensures kept { OnErr result (self.new ≡ self.old) }
@@ -70,7 +70,7 @@ impl HeldDesk {
     }
 
     /// A caller's hits go to the totals.
-    pub(crate) fn flush(&mut self, caller: &mut HeldCaller) -> Result<(), Fault>
+    pub(crate) fn flush(&mut self, caller: &mut HeldCaller) -> Result<(), Failure>
         ensures held { OnOk result (Holds self.old caller.old.caller.ledger) }
         ensures flushed { OnOk result (DeskFlushes self.old caller.old.caller.ledger self.new) }
         ensures settled { OnOk result (caller.new
@@ -83,7 +83,7 @@ impl HeldDesk {
     }
 
     /// Makes a change, and gives its answer.
-    pub(crate) fn change(&mut self, alloc: Global, change: Change<'_>) -> Result<u64, Fault>
+    pub(crate) fn change(&mut self, alloc: Global, change: Change<'_>) -> Result<u64, Failure>
         ensures makes { IfOk result (MakesChange (DeskRecords self.old self.new)
             self.old.desk.book self.old.scope change.entry) }
         ensures refused { IfErr result (RefusesChange self.old.desk.book self.old.scope
@@ -100,7 +100,7 @@ impl HeldDesk {
         }
     }
 
-    fn target(&mut self, alloc: Global, site: usize, tree: &[u8]) -> Result<u64, Fault>
+    fn target(&mut self, alloc: Global, site: usize, tree: &[u8]) -> Result<u64, Failure>
         ensures taken { OnOk result (Retargets (DeskRecords self.old self.new) self.old.scope site
             tree.now) }
         ensures refused { IfErr result (RefusesTarget self.old.desk.book self.old.scope site
@@ -112,7 +112,7 @@ impl HeldDesk {
         Ok(0)
     }
 
-    fn invalidate(&mut self, alloc: Global, points: &[u32]) -> Result<u64, Fault>
+    fn invalidate(&mut self, alloc: Global, points: &[u32]) -> Result<u64, Failure>
         ensures taken { OnOk result (DeskRecords self.old self.new (Invalidated points.now)) }
         ensures refused { IfErr result (RefusesInvalidation self.old.desk.book points.now) }
         ensures kept { OnErr result (self.new ≡ self.old) }
@@ -122,7 +122,7 @@ impl HeldDesk {
         Ok(0)
     }
 
-    fn snapshot(&mut self) -> Result<u64, Fault>
+    fn snapshot(&mut self) -> Result<u64, Failure>
         ensures taken { IfOk result (TakesSnapshot (DeskRecords self.old self.new)
             self.old.desk.book) }
         ensures refused { IfErr result (RefusesRecord self.old.desk.book Snapped) }
@@ -131,7 +131,7 @@ impl HeldDesk {
         Ok(self.desk.snapshot()? as u64)
     }
 
-    fn install(&mut self, plan: usize) -> Result<u64, Fault>
+    fn install(&mut self, plan: usize) -> Result<u64, Failure>
         ensures taken { IfOk result (Installs (DeskRecords self.old self.new) self.old.desk.book
             plan) }
         ensures refused { IfErr result (RefusesRecord self.old.desk.book (Installed plan)) }
@@ -140,7 +140,7 @@ impl HeldDesk {
         Ok(self.desk.install(plan)?.linked() as u64)
     }
 
-    fn plan(&mut self, alloc: Global, snapshot: usize) -> Result<u64, Fault>
+    fn plan(&mut self, alloc: Global, snapshot: usize) -> Result<u64, Failure>
         ensures taken { IfOk result (PublishesBest (DeskRecords self.old self.new)
             self.old.desk.book snapshot) }
         ensures refused { IfErr result (RefusesBest self.old.desk.book snapshot) }
@@ -150,7 +150,7 @@ impl HeldDesk {
         self.publish(alloc, snapshot, plan)
     }
 
-    fn offer(&mut self, alloc: Global, snapshot: usize, plan: &[u8]) -> Result<u64, Fault>
+    fn offer(&mut self, alloc: Global, snapshot: usize, plan: &[u8]) -> Result<u64, Failure>
         ensures taken { IfOk result (PublishesOffer (DeskRecords self.old self.new)
             self.old.desk.book snapshot plan.now) }
         ensures refused { IfErr result (RefusesOffer self.old.desk.book snapshot plan.now) }
@@ -160,7 +160,7 @@ impl HeldDesk {
         self.publish(alloc, snapshot, plan)
     }
 
-    fn publish(&mut self, alloc: Global, snapshot: usize, plan: Plan) -> Result<u64, Fault>
+    fn publish(&mut self, alloc: Global, snapshot: usize, plan: Plan) -> Result<u64, Failure>
         ensures taken { IfOk result (Publishes (DeskRecords self.old self.new)
             self.old.desk.book snapshot plan) }
         ensures refused { IfErr result (RefusesPublished self.old.desk.book snapshot plan) }

@@ -15,13 +15,13 @@ ghost use Rattle.mhlink_c.specs.Desks.{DeskFlushes, DeskRecords, Holds, RefusesD
 ghost use Rattle.mhlink_c.specs.Questions.{IsLink, IsPoint, IsSite, IsUnknown, IsUnknownLink, Tells};
 ghost use Rattle.mhlink_c.specs.Renewals.{IsUsed};
 ghost use Rattle.mhlink_c.specs.Statuses.{no_memory, part_of, status_of};
-ghost use Rattle.mhlink_c.specs.declared.fault.Fault.{Fault as FaultOf};
-ghost use Rattle.mhlink_c.specs.declared.fault.Fault.TheVariants.{Unknown};
+ghost use Rattle.mhlink_c.specs.declared.failure.Failure.{Failure as FaultOf};
+ghost use Rattle.mhlink_c.specs.declared.failure.Failure.TheVariants.{Unknown};
 
 use crate::books::answer;
 use crate::caller_handle::MhlinkCaller;
 use crate::desk_handle::MhlinkDesk;
-use crate::fault::{Fault, status, write_answer, write_change};
+use crate::failure::{Failure, status, write_answer, write_change};
 use crate::renewing::{MhlinkUsed, used_of};
 use crate::request::{Change, Question};
 use crate::value::MhlinkValue;
@@ -41,7 +41,7 @@ fn look_up(alloc: Global, desk: &mut MhlinkDesk, question: Question<'_>, out: &m
     write_answer(replace_with(desk, (alloc, question), look_held), out)
 }
 
-fn look_held(desk: MhlinkDesk, asked: (Global, Question<'_>)) -> (MhlinkDesk, Result<u64, Fault>)
+fn look_held(desk: MhlinkDesk, asked: (Global, Question<'_>)) -> (MhlinkDesk, Result<u64, Failure>)
     requires full { desk.full ≡ true }
     ensures full { result.0.full ≡ true }
     ensures same { result.0.value ≡ desk.value }
@@ -77,7 +77,7 @@ fn make_change(
     write_change(replace_with(desk, (alloc, change), change_held), out, part)
 }
 
-fn change_held(desk: MhlinkDesk, made: (Global, Change<'_>)) -> (MhlinkDesk, Result<u64, Fault>)
+fn change_held(desk: MhlinkDesk, made: (Global, Change<'_>)) -> (MhlinkDesk, Result<u64, Failure>)
     requires full { desk.full ≡ true }
     ensures full { result.0.full ≡ true }
     ensures makes { IfOk result.1 (MakesChange (DeskRecords desk.value result.0.value)
@@ -237,7 +237,7 @@ pub extern "C" fn mhlink_desk_install(
     make_change(alloc, desk, Change::Install(plan), linked, part)
 }
 
-fn show_held(desk: MhlinkDesk, _: ()) -> (MhlinkDesk, Result<(), Fault>)
+fn show_held(desk: MhlinkDesk, _: ()) -> (MhlinkDesk, Result<(), Failure>)
     requires full { desk.full ≡ true }
     ensures full { result.0.full ≡ true }
     ensures shows { OnOk result.1 (result.0.value ≡ shows desk.value) }
@@ -265,7 +265,7 @@ pub extern "C" fn mhlink_desk_show(desk: &mut MhlinkDesk) -> u32
 fn flush_held(
     desk: MhlinkDesk,
     caller: MhlinkCaller,
-) -> (MhlinkDesk, (MhlinkCaller, Result<(), Fault>))
+) -> (MhlinkDesk, (MhlinkCaller, Result<(), Failure>))
     requires full { (desk.full ≡ true) × (caller.full ≡ true) }
     ensures full { (result.0.full ≡ true) × (result.1.0.full ≡ true) }
     ensures held { OnOk result.1.1 (Holds desk.value caller.value.caller.ledger) }

@@ -8,13 +8,13 @@ ghost use Rattle.mhlink_c.specs.Desks.{HeldDeskState, opened_held_desk};
 ghost use Rattle.mhlink_c.specs.Handles.{AreHandlesOf};
 ghost use Rattle.mhlink_c.specs.Opening.{Opens, RefusesOpening, limits_of};
 ghost use Rattle.mhlink_c.specs.Statuses.{no_memory, part_of, status_of};
-ghost use Rattle.mhlink_c.specs.declared.fault.Fault.{Fault as FaultOf};
+ghost use Rattle.mhlink_c.specs.declared.failure.Failure.{Failure as FaultOf};
 
 use crate::caller::HeldCaller;
 use crate::caller_handle::MhlinkCaller;
 use crate::desk::HeldDesk;
 use crate::desk_handle::MhlinkDesk;
-use crate::fault::Fault;
+use crate::failure::Failure;
 use crate::texts::MhlinkLimits;
 use mh_share::Caller;
 use std::alloc::Global;
@@ -63,7 +63,7 @@ fn open(
     definition: &[u8],
     limits: &MhlinkLimits,
     callers: &mut [MhlinkCaller],
-) -> Result<MhlinkDesk, Fault>
+) -> Result<MhlinkDesk, Failure>
     ensures full { IfOk result (λ desk. desk.full ≡ true) }
     ensures opened { IfOk result (λ desk. Opens definition.now (length callers.old) limits.now
         (λ d. (desk.value ≡ opened_held_desk d (length callers.old) limits.now)
@@ -81,7 +81,7 @@ fn open(
 }
 
 // A box of each caller, in order.
-fn boxed(alloc: Global, callers: Vec<Caller>) -> Result<Vec<Box<HeldCaller>>, Fault>
+fn boxed(alloc: Global, callers: Vec<Caller>) -> Result<Vec<Box<HeldCaller>>, Failure>
     ensures value { IfOk result (λ boxed. map (λ b. b.value) boxed.items
         ≡ map opened_held_caller callers.items) }
     ensures refused { IfErr result (λ e. e ≡ no_memory) }

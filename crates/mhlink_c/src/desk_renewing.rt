@@ -7,12 +7,12 @@ ghost use Rattle.mh_share.specs.Renewals.{IsOf, with_each};
 ghost use Rattle.mhlink_c.specs.Callers.{with_ledger};
 ghost use Rattle.mhlink_c.specs.DeskRenewals.{DeskBeginsAnew, IsRenewedDesk, RefusesDeskAnew, RefusesDeskRenewal, callers_of, ledgers_of};
 ghost use Rattle.mhlink_c.specs.Statuses.{status_of};
-ghost use Rattle.mhlink_c.specs.declared.fault.Fault.{Fault as FaultOf};
+ghost use Rattle.mhlink_c.specs.declared.failure.Failure.{Failure as FaultOf};
 
 use crate::caller_handle::MhlinkCaller;
 use crate::desk::HeldDesk;
 use crate::desk_handle::MhlinkDesk;
-use crate::fault::{Fault, status};
+use crate::failure::{Failure, status};
 use crate::renewing::old_hits;
 use core::mem::replace;
 use mh_core::{Refusal, Renewal};
@@ -28,7 +28,7 @@ impl HeldDesk {
         callers: &mut [MhlinkCaller],
         again: &[u32],
         hits: u32,
-    ) -> Result<(), Fault>
+    ) -> Result<(), Failure>
         requires full { All (λ h. h.full ≡ true) callers.old }
         ensures full { All (λ h. h.full ≡ true) callers.new }
         ensures renewed { OnOk result (IsRenewedDesk self.old (callers_of callers.old) again.now
@@ -48,7 +48,7 @@ impl HeldDesk {
         alloc: Global,
         callers: &mut [MhlinkCaller],
         renewal: Renewal<'_>,
-    ) -> Result<(), Fault>
+    ) -> Result<(), Failure>
         requires full { All (λ h. h.full ≡ true) callers.old }
         ensures full { All (λ h. h.full ≡ true) callers.new }
         ensures renewed { OnOk result (DeskBeginsAnew self.old (callers_of callers.old)
@@ -59,13 +59,13 @@ impl HeldDesk {
             × (callers_of callers.new ≡ callers_of callers.old)) }
     {
         if !self.has_all(alloc, callers) {
-            return Err(Fault::Refused(Refusal::NoWorker));
+            return Err(Failure::Refused(Refusal::NoWorker));
         }
         let mut ledgers = self.desk.spare_ledgers()?;
         exchange_all(alloc, callers, &mut ledgers);
         let answer = self.desk.renew_over(&mut ledgers, renewal);
         exchange_all(alloc, callers, &mut ledgers);
-        // Read for what a book keeps.
+        // What a book keeps is known of a book that is read.
         self.desk.book().kept();
         Ok(answer?)
     }

@@ -1,4 +1,4 @@
-//! What a book tells, number by number.
+//! Details of a book, each a number.
 
 ghost use Rattle.std.specs.Prelude.{◌≡◌, ◌<◌, length, option_map};
 ghost use Rattle.std.specs.List.{slice_get};

@@ -4,11 +4,11 @@ ghost use Rattle.std.specs.Prelude.{◌≡◌, ◌≢◌, None, drop, string_byt
 ghost use Rattle.std.specs.List.{slice_get};
 ghost use Rattle.mhlink_c.specs.Explaining.{Copies, IsExplanation, RefusesLines, forms};
 ghost use Rattle.mhlink_c.specs.Statuses.{no_memory, status_of as number_of};
-ghost use Rattle.mhlink_c.specs.declared.fault.Fault.{Fault as FaultOf};
-ghost use Rattle.mhlink_c.specs.declared.fault.Fault.TheVariants.{Short, Unknown};
+ghost use Rattle.mhlink_c.specs.declared.failure.Failure.{Failure as FaultOf};
+ghost use Rattle.mhlink_c.specs.declared.failure.Failure.TheVariants.{Short, Unknown};
 
 use crate::buffers::copy;
-use crate::fault::{Fault, status};
+use crate::failure::{Failure, status};
 use mh_explain::{InputFault, InputForm, definition_explanation, explanation};
 use std::alloc::Global;
 
@@ -42,8 +42,8 @@ fn form_at(all: &[TextForm], place: usize) -> Option<TextForm>
     Some(*form)
 }
 
-// The lines that explain the fault of a text; any fault but want of memory asks for them.
-fn explained(alloc: Global, form: TextForm, text: &[u8]) -> Result<String, Fault>
+// The lines that explain the fault of a text; any fault but NoMemory asks for them.
+fn explained(alloc: Global, form: TextForm, text: &[u8]) -> Result<String, Failure>
     ensures value { IfOk result (λ lines. IsExplanation form text.now (string_bytes lines)) }
     ensures refused { IfErr result (λ e. e ≡ no_memory) }
 {
@@ -81,14 +81,14 @@ fn explain(
     text: &[u8],
     buffer: &mut [u8],
     count: &mut usize,
-) -> Result<(), Fault>
+) -> Result<(), Failure>
     ensures told { OnOk result (Copies form text.now count.new buffer.new) }
     ensures refused { IfErr result (RefusesLines form text.now count.new buffer.old) }
     ensures untouched { OnErr result (buffer.new ≡ buffer.old) }
     ensures rest { OnOk result (drop count.new buffer.new ≡ drop count.new buffer.old) }
     ensures uncounted { IfErr result (λ e. e ≢ Short → count.new ≡ count.old) }
 {
-    let form = form_of(form).ok_or(Fault::Unknown)?;
+    let form = form_of(form).ok_or(Failure::Unknown)?;
     let lines = explained(alloc, form, text)?;
     copy(lines.as_bytes(), buffer, count)
 }

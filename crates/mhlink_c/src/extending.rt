@@ -5,9 +5,9 @@ ghost use Rattle.mhlink_c.specs.Extensions.{GrowsBy, IsExtended, RefusesExtendin
 ghost use Rattle.mhlink_c.specs.Further.{further_in};
 ghost use Rattle.mhlink_c.specs.Inputs.{Reads};
 ghost use Rattle.mhlink_c.specs.Statuses.{part_of, status_of};
-ghost use Rattle.mhlink_c.specs.declared.fault.Fault.{Fault as FaultOf};
+ghost use Rattle.mhlink_c.specs.declared.failure.Failure.{Failure as FaultOf};
 
-use crate::fault::Fault;
+use crate::failure::Failure;
 use crate::further::{Further, read_further};
 use crate::handle::MhlinkMachine;
 use crate::host::Host;
@@ -16,23 +16,23 @@ use mh_core::{ExtensionFault, Refusal};
 use mh_text::InputFault;
 use std::alloc::Global;
 
-impl From<ExtensionFault> for Fault {
+impl From<ExtensionFault> for Failure {
     ghost use Rattle.std.specs.Prelude.{◌≡◌};
     ghost use Rattle.mhlink_c.specs.Extensions.{of_extension};
 
     ghost from_gives = { λ told e. e ≡ of_extension told };
 
-    fn from(fault: ExtensionFault) -> Fault {
+    fn from(fault: ExtensionFault) -> Failure {
         match fault {
-            ExtensionFault::HistoryFull => Fault::Refused(Refusal::HistoryFull),
-            ExtensionFault::Definition(cause) => Fault::from(InputFault::from(cause)),
+            ExtensionFault::HistoryFull => Failure::Refused(Refusal::HistoryFull),
+            ExtensionFault::Definition(cause) => Failure::from(InputFault::from(cause)),
         }
     }
 }
 
 impl Host {
     /// Begins a new history over a definition with what a text in JSON adds to that of now.
-    pub(crate) fn extend(&mut self, alloc: Global, definition: &[u8]) -> Result<(), Fault>
+    pub(crate) fn extend(&mut self, alloc: Global, definition: &[u8]) -> Result<(), Failure>
         ensures extended { OnOk result (IsExtended self.old definition.now self.new) }
         ensures refused { IfErr result (RefusesExtending self.old definition.now) }
         ensures kept { OnErr result (self.new ≡ self.old) }
@@ -43,7 +43,7 @@ impl Host {
     }
 
     // What a text in JSON adds to the definition.
-    fn further(&self, alloc: Global, definition: &[u8]) -> Result<Further, Fault>
+    fn further(&self, alloc: Global, definition: &[u8]) -> Result<Further, Failure>
         ensures value { Reads result (further_in self.now.runtime.book.definition
             definition.now) }
     {
@@ -51,7 +51,7 @@ impl Host {
     }
 
     // Begins a new history over a definition with these points and sites.
-    fn grow(&mut self, further: Further) -> Result<(), Fault>
+    fn grow(&mut self, further: Further) -> Result<(), Failure>
         ensures grows { OnOk result (GrowsBy self.old further self.new) }
         ensures refused { IfErr result (RefusesToGrow self.old further) }
         ensures kept { OnErr result (self.new ≡ self.old) }
@@ -70,7 +70,10 @@ impl Host {
     }
 }
 
-fn extend_held(machine: MhlinkMachine, given: (Global, &[u8])) -> (MhlinkMachine, Result<(), Fault>)
+fn extend_held(
+    machine: MhlinkMachine,
+    given: (Global, &[u8]),
+) -> (MhlinkMachine, Result<(), Failure>)
     requires full { machine.full ≡ true }
     ensures full { result.0.full ≡ true }
     ensures extended { OnOk result.1 (IsExtended machine.value given.entry.1.now

@@ -3,14 +3,14 @@
 ghost use Rattle.std.specs.Prelude.{◌≡◌, ◌<◌, ℕ, length, slice_index_or, IfErr, IfOk, IfNone, IfSome};
 ghost use Rattle.mh_core.specs.Defined.{no_link};
 ghost use Rattle.mhlink_c.specs.Questions.{HasNoLink, IsLink, IsPoint, IsSite};
-ghost use Rattle.mhlink_c.specs.declared.fault.Fault.TheVariants.{Unknown};
+ghost use Rattle.mhlink_c.specs.declared.failure.Failure.TheVariants.{Unknown};
 
-use crate::fault::Fault;
+use crate::failure::Failure;
 use mh_core::{Definition, Link, Value};
 use mh_type::same_value;
 
 /// The number of the site of this name.
-pub(crate) fn site_number(definition: &Definition, name: &[u8]) -> Result<u64, Fault>
+pub(crate) fn site_number(definition: &Definition, name: &[u8]) -> Result<u64, Failure>
     ensures value { IfOk result (IsSite definition.now name.now) }
     ensures unknown { IfErr result (λ e. (e ≡ Unknown)
         × ((s : ℕ) → IsSite definition.now name.now s → ⊥)) }
@@ -20,11 +20,11 @@ pub(crate) fn site_number(definition: &Definition, name: &[u8]) -> Result<u64, F
             return Ok(site as u64);
         }
     }
-    Err(Fault::Unknown)
+    Err(Failure::Unknown)
 }
 
 /// The number of the point of this name.
-pub(crate) fn point_number(definition: &Definition, name: &[u8]) -> Result<u64, Fault>
+pub(crate) fn point_number(definition: &Definition, name: &[u8]) -> Result<u64, Failure>
     ensures value { IfOk result (IsPoint definition.now name.now) }
     ensures unknown { IfErr result (λ e. (e ≡ Unknown)
         × ((p : ℕ) → IsPoint definition.now name.now p → ⊥)) }
@@ -34,22 +34,22 @@ pub(crate) fn point_number(definition: &Definition, name: &[u8]) -> Result<u64, 
             return Ok(point as u64);
         }
     }
-    Err(Fault::Unknown)
+    Err(Failure::Unknown)
 }
 
 /// The number of the link of a site whose key is this value.
-pub(crate) fn link_number(definition: &Definition, site: usize, key: &Value) -> Result<u64, Fault>
+pub(crate) fn link_number(definition: &Definition, site: usize, key: &Value) -> Result<u64, Failure>
     ensures value { IfOk result (IsLink definition.now site key.now) }
     ensures unknown { IfErr result (λ e. (e ≡ Unknown) × HasNoLink definition.now site key.now) }
 {
     if site >= definition.sites().len() {
-        return Err(Fault::Unknown);
+        return Err(Failure::Unknown);
     }
     // Read for what a definition keeps.
     let _count = definition.link_count();
     match place_of(definition.links(site), key) {
         Some(place) => Ok((definition.first_link(site) + place) as u64),
-        None => Err(Fault::Unknown),
+        None => Err(Failure::Unknown),
     }
 }
 

@@ -7,18 +7,18 @@ ghost use Rattle.mh_network.specs.Problems.{large_tests, problem_of};
 ghost use Rattle.mhlink_c.specs.Flows.{AreAmounts, AreSums, HasNoRoom, IsLeastPlan, IsWritten};
 ghost use Rattle.mhlink_c.specs.Problems.{HasNeeds, RefusesRows, rows_of};
 ghost use Rattle.mhlink_c.specs.Statuses.{status_of};
-ghost use Rattle.mhlink_c.specs.declared.fault.Fault.{Fault as FaultOf};
-ghost use Rattle.mhlink_c.specs.declared.fault.Fault.TheVariants.{Short};
+ghost use Rattle.mhlink_c.specs.declared.failure.Failure.{Failure as FaultOf};
+ghost use Rattle.mhlink_c.specs.declared.failure.Failure.TheVariants.{Short};
 
 use crate::amounts::{given_for, got_by, paid_by};
 use crate::buffers::fill;
-use crate::fault::Fault;
+use crate::failure::Failure;
 use crate::planning::{MhlinkLink, best_plan};
 use mh_core::Plan;
 use mh_network::amounts_are_within_gains;
 use std::alloc::Global;
 
-/// Chooses links as `mhlink_plan_problem` does, and tells more of the plan: the points that the
+/// Chooses links as `mhlink_plan_problem` does, and returns more of the plan: the points that the
 /// links need, and the flow that shows that no links are worth more. What each link pays of its
 /// charge goes to `paid`, what is given for each need to `given`, where the need stands in `needs`
 /// (of a need that several links have, what they give together), and what each point gets to
@@ -75,7 +75,7 @@ pub extern "C" fn mhlink_plan_problem_flow(
                 || given.len() < told.given.len()
                 || gets.len() < told.gets.len()
             {
-                return Fault::Short.number();
+                return Failure::Short.number();
             }
             fill(links, chosen);
             fill(needed, points);
@@ -104,7 +104,7 @@ fn plan_with_flow(
     costs: &[u64],
     links: &[MhlinkLink],
     needs: &[u32],
-) -> Result<PlanFlow, Fault>
+) -> Result<PlanFlow, Failure>
     ensures plan { IfOk result (λ told. IsLeastPlan
         (problem_of (rows_of needs.now links.now) costs.now) told.plan) }
     ensures amounts { IfOk result (λ told. AreSums needs.now links.now (length costs.now) told.plan

@@ -8,7 +8,7 @@ ghost use Rattle.mh_text.specs.declared.fault.InputFault.TheVariants.{NoMemory};
 ghost use Rattle.mhlink_c.specs.Further.{further_in, further_of, names_of_all as all_names, scope_over as scope_with};
 ghost use Rattle.mhlink_c.specs.Inputs.{Reads};
 
-use crate::fault::Fault;
+use crate::failure::Failure;
 use mh_core::{Definition, Listing, Point, Site};
 use mh_site::{Names, Version};
 use mh_text::readers::{
@@ -35,7 +35,7 @@ pub(crate) fn read_further(
     alloc: Global,
     definition: &Definition,
     text: &[u8],
-) -> Result<Further, Fault>
+) -> Result<Further, Failure>
     ensures value { Reads result (further_in definition.now text.now) }
 {
     let value = read_json(alloc, text)?;

@@ -5,10 +5,10 @@ ghost use Rattle.mhlink_c.specs.Changes.{MakesChange, RefusesChange};
 ghost use Rattle.mhlink_c.specs.Hosts.{Records};
 ghost use Rattle.mhlink_c.specs.Questions.{IsUnknown, Tells};
 ghost use Rattle.mhlink_c.specs.Statuses.{part_of, status_of};
-ghost use Rattle.mhlink_c.specs.declared.fault.Fault.{Fault as FaultOf};
+ghost use Rattle.mhlink_c.specs.declared.failure.Failure.{Failure as FaultOf};
 
 use crate::books::answer;
-use crate::fault::{Fault, write_answer, write_change};
+use crate::failure::{Failure, write_answer, write_change};
 use crate::handle::MhlinkMachine;
 use crate::request::{Change, Question};
 use core::mem::replace_with;
@@ -36,7 +36,7 @@ pub(crate) fn look_up(
 fn look_held(
     machine: MhlinkMachine,
     asked: (Global, Question<'_>),
-) -> (MhlinkMachine, Result<u64, Fault>)
+) -> (MhlinkMachine, Result<u64, Failure>)
     requires full { machine.full ≡ true }
     ensures full { result.0.full ≡ true }
     ensures same { result.0.value ≡ machine.value }
@@ -79,7 +79,7 @@ pub(crate) fn make_change(
 fn change_held(
     machine: MhlinkMachine,
     made: (Global, Change<'_>),
-) -> (MhlinkMachine, Result<u64, Fault>)
+) -> (MhlinkMachine, Result<u64, Failure>)
     requires full { machine.full ≡ true }
     ensures full { result.0.full ≡ true }
     ensures makes { IfOk result.1 (MakesChange (Records machine.value result.0.value)

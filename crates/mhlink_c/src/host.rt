@@ -8,18 +8,18 @@ ghost use Rattle.mhlink_c.specs.Calls.{Answers, AsksForNone, RefusesCall, WithVa
 ghost use Rattle.mhlink_c.specs.Opening.{AreLimits, Opens, RefusesOpening, limits_of, opened_host};
 ghost use Rattle.mhlink_c.specs.Statuses.{no_memory};
 ghost use Rattle.mhlink_c.specs.Texts.{HasNoText};
-ghost use Rattle.mhlink_c.specs.declared.fault.Fault.TheVariants.{BadLimits};
+ghost use Rattle.mhlink_c.specs.declared.failure.Failure.TheVariants.{BadLimits};
 
-use crate::fault::Fault;
+pub(crate) mod answers;
+
+use crate::failure::Failure;
 use crate::texts::{MhlinkLimits, read_definition};
 use crate::value::{MhlinkReply, MhlinkValue, read_values, reply_of, share_text, text_of};
+use mh_base::MOST_WORKERS;
 use mh_core::{Limits, MOST_PARAMETERS, Runtime, Text, Value};
 use mh_text::readers::{Declarations, Scope};
 use std::alloc::Global;
 use std::marker::Model;
-
-/// The most workers of a machine.
-const MOST_WORKERS: usize = 64;
 
 /// A runtime for C. A contract sees the runtime, the names and the text.
 #[derive(Drop)]
@@ -47,19 +47,19 @@ impl Model for Host {
 }
 
 // The limits, where each and the number of workers is in its range.
-pub(crate) fn limits_for(workers: usize, given: &MhlinkLimits) -> Result<Limits, Fault>
+pub(crate) fn limits_for(workers: usize, given: &MhlinkLimits) -> Result<Limits, Failure>
     ensures value { IfOk result (λ l. (l ≡ limits_of given.now) × AreLimits workers given.now) }
     ensures bad { IfErr result (λ e. (AreLimits workers given.now → ⊥) × (e ≡ BadLimits)) }
 {
     let limits = given.limits()?;
-    if workers == 0 || workers > MOST_WORKERS {
-        return Err(Fault::BadLimits);
+    if workers == 0 || workers > MOST_WORKERS as usize {
+        return Err(Failure::BadLimits);
     }
     Ok(limits)
 }
 
 // Room for the arguments of any call.
-pub(crate) fn room_for_arguments(alloc: Global) -> Result<Vec<Value>, Fault>
+pub(crate) fn room_for_arguments(alloc: Global) -> Result<Vec<Value>, Failure>
     ensures room { IfOk result (λ v. most_parameters ≤ vec_capacity v) }
     ensures refused { IfErr result (λ e. e ≡ no_memory) }
 {
@@ -73,7 +73,7 @@ impl Host {
         definition: &[u8],
         workers: u32,
         limits: &MhlinkLimits,
-    ) -> Result<Host, Fault>
+    ) -> Result<Host, Failure>
         ensures opened { IfOk result (λ host. Opens definition.now workers limits.now
             (λ d. host ≡ opened_host d workers limits.now)) }
         ensures refused { IfErr result (RefusesOpening definition.now workers limits.now) }
@@ -106,7 +106,7 @@ impl Host {
         site: usize,
         given: &[MhlinkValue],
         texts: &[u8],
-    ) -> Result<MhlinkReply, Fault>
+    ) -> Result<MhlinkReply, Failure>
         ensures answer { IfOk result (λ reply. WithValues given.now texts.now
             (Answers self.old worker site reply self.new)) }
         ensures refused { IfErr result (RefusesCall (call_tests self.old.runtime worker site)
@@ -126,7 +126,7 @@ impl Host {
     }
 
     /// Another owner of the text that the last call gave.
-    pub(crate) fn text(&self) -> Result<Text, Fault>
+    pub(crate) fn text(&self) -> Result<Text, Failure>
         ensures value { IfOk result (λ text. self.now.given ≡ Some text) }
         ensures refused { IfErr result (HasNoText self.now.given) }
     {

@@ -6,28 +6,28 @@ ghost use Rattle.mhlink_c.specs.Buffers.{IsCopied, IsTooShort};
 ghost use Rattle.mhlink_c.specs.Crossing.{bytes_of as bytes_of_value, value_kind, value_number};
 ghost use Rattle.mhlink_c.specs.Keys.{HasNoKey, IsLinkOf, IsShown, IsUncopiedKey, key_of as key_of_link};
 ghost use Rattle.mhlink_c.specs.Statuses.{status_of};
-ghost use Rattle.mhlink_c.specs.declared.fault.Fault.{Fault as FaultOf};
-ghost use Rattle.mhlink_c.specs.declared.fault.Fault.TheVariants.{Short};
+ghost use Rattle.mhlink_c.specs.declared.failure.Failure.{Failure as FaultOf};
+ghost use Rattle.mhlink_c.specs.declared.failure.Failure.TheVariants.{Short};
 
 use crate::buffers::copy;
 use crate::desk_handle::MhlinkDesk;
-use crate::fault::Fault;
+use crate::failure::Failure;
 use crate::handle::MhlinkMachine;
 use crate::value::MhlinkValue;
 use core::mem::replace_with;
 use mh_core::{Book, NoMemory, Value};
 
 // The key of a link, with another owner.
-fn key_of(book: &Book, link: usize) -> Result<Value, Fault>
+fn key_of(book: &Book, link: usize) -> Result<Value, Failure>
     ensures value { IfOk result (λ x. x ≡ key_of_link book.now.definition link) }
     ensures inside { OnOk result (IsLinkOf book.now.definition link) }
     ensures refused { IfErr result (HasNoKey book.now.definition link) }
 {
     if link >= book.definition().link_count() {
-        return Err(Fault::Unknown);
+        return Err(Failure::Unknown);
     }
     let key = &book.declared_link(link).when;
-    key.share().map_err(|_| Fault::from(NoMemory))
+    key.share().map_err(|_| Failure::from(NoMemory))
 }
 
 // What C gets of a value beside the bytes of a text.
@@ -56,7 +56,7 @@ fn bytes_of(value: &Value) -> &[u8]
 
 // Writes a key, where there is one and its bytes fit the buffer.
 fn write_key(
-    answer: Result<Value, Fault>,
+    answer: Result<Value, Failure>,
     key: &mut MhlinkValue,
     buffer: &mut [u8],
     length: &mut usize,
@@ -82,7 +82,7 @@ fn write_key(
     }
 }
 
-fn key_held(machine: MhlinkMachine, link: usize) -> (MhlinkMachine, Result<Value, Fault>)
+fn key_held(machine: MhlinkMachine, link: usize) -> (MhlinkMachine, Result<Value, Failure>)
     requires full { machine.full ≡ true }
     ensures full { result.0.full ≡ true }
     ensures same { result.0.value ≡ machine.value }
@@ -124,7 +124,7 @@ pub extern "C" fn mhlink_key(
     write_key(answer, key, buffer, length)
 }
 
-fn key_of_desk(desk: MhlinkDesk, link: usize) -> (MhlinkDesk, Result<Value, Fault>)
+fn key_of_desk(desk: MhlinkDesk, link: usize) -> (MhlinkDesk, Result<Value, Failure>)
     requires full { desk.full ≡ true }
     ensures full { result.0.full ≡ true }
     ensures same { result.0.value ≡ desk.value }

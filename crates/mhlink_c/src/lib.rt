@@ -2,12 +2,11 @@
 //!
 //! C keeps a machine as a struct of one pointer. Nothing checks a C caller: it passes a struct that
 //! `mhlink_open` filled, to one call at a time, and to none after `mhlink_close`. Every answer is a
-//! status, 0 or the number of what is wrong (`Fault::number`); after any other than 0 the machine
+//! status, 0 or the number of what is wrong (`Failure::number`); after any other than 0 the machine
 //! is as before.
 #![tactic(auto)]
 
 mod amounts;
-mod asking;
 mod books;
 mod buffers;
 mod caller;
@@ -25,7 +24,7 @@ mod detail;
 mod details;
 mod explaining;
 mod extending;
-mod fault;
+mod failure;
 mod finding;
 mod flow;
 mod further;

@@ -3,9 +3,9 @@
 ghost use Rattle.std.specs.Prelude.{◌≡◌, ◌≢◌, true, IfErr, IfOk};
 ghost use Rattle.mhlink_c.specs.Opening.{Opens, RefusesOpening, opened_host};
 ghost use Rattle.mhlink_c.specs.Statuses.{part_of, status_of};
-ghost use Rattle.mhlink_c.specs.declared.fault.Fault.{Fault as FaultOf};
+ghost use Rattle.mhlink_c.specs.declared.failure.Failure.{Failure as FaultOf};
 
-use crate::fault::Fault;
+use crate::failure::Failure;
 use crate::handle::MhlinkMachine;
 use crate::host::Host;
 use crate::texts::MhlinkLimits;
@@ -60,7 +60,7 @@ fn open(
     definition: &[u8],
     workers: u32,
     limits: &MhlinkLimits,
-) -> Result<MhlinkMachine, Fault>
+) -> Result<MhlinkMachine, Failure>
     ensures full { IfOk result (λ machine. machine.full ≡ true) }
     ensures opened { IfOk result (λ machine. Opens definition.now workers limits.now
         (λ d. machine.value ≡ opened_host d workers limits.now)) }

@@ -7,11 +7,11 @@ ghost use Rattle.mhlink_c.specs.Flows.{IsLeastPlan};
 ghost use Rattle.mhlink_c.specs.Problems.{HasNeeds, IsChoice, IsLeastChoice, RefusesRows, needs_of as its_needs, row_of, rows_of};
 ghost use Rattle.mhlink_c.specs.Statuses.{no_memory, status_of};
 ghost use Rattle.mhlink_c.specs.Texts.{IsUncopied};
-ghost use Rattle.mhlink_c.specs.declared.fault.Fault.{Fault as FaultOf};
-ghost use Rattle.mhlink_c.specs.declared.fault.Fault.TheVariants.{Short, Unknown};
+ghost use Rattle.mhlink_c.specs.declared.failure.Failure.{Failure as FaultOf};
+ghost use Rattle.mhlink_c.specs.declared.failure.Failure.TheVariants.{Short, Unknown};
 
 use crate::buffers::copy;
-use crate::fault::{Fault, status};
+use crate::failure::{Failure, status};
 use mh_core::{LinkRow, Listing, Plan, Problem};
 use mh_plan::plan_alone;
 use std::alloc::Global;
@@ -74,7 +74,7 @@ fn choose(
     chosen: &mut [u32],
     count: &mut usize,
     value: &mut i64,
-) -> Result<(), Fault>
+) -> Result<(), Failure>
     ensures chosen { OnOk result (IsChoice (problem_of (rows_of needs.now links.now) costs.now)
         (take count.new chosen.new) value.new) }
     ensures count { OnOk result (count.new ≤ length chosen.new) }
@@ -101,7 +101,7 @@ pub(crate) fn best_plan(
     costs: &[u64],
     links: &[MhlinkLink],
     needs: &[u32],
-) -> Result<Plan, Fault>
+) -> Result<Plan, Failure>
     ensures plan { IfOk result (IsLeastPlan (problem_of (rows_of needs.now links.now) costs.now)) }
     ensures there { OnOk result (All (HasNeeds needs.now) links.now) }
     ensures tested { OnOk result
@@ -113,7 +113,7 @@ pub(crate) fn best_plan(
     Ok(plan_alone(alloc, &problem)?)
 }
 
-fn rows(alloc: Global, links: &[MhlinkLink], needs: &[u32]) -> Result<Vec<LinkRow>, Fault>
+fn rows(alloc: Global, links: &[MhlinkLink], needs: &[u32]) -> Result<Vec<LinkRow>, Failure>
     ensures value { IfOk result (λ rows. rows.items ≡ rows_of needs.now links.now) }
     ensures there { OnOk result (All (HasNeeds needs.now) links.now) }
     ensures refused { IfErr result (λ e. ((All (HasNeeds needs.now) links.now → ⊥) × (e ≡ Unknown))
@@ -127,7 +127,7 @@ fn rows(alloc: Global, links: &[MhlinkLink], needs: &[u32]) -> Result<Vec<LinkRo
     Ok(rows)
 }
 
-fn row(alloc: Global, link: &MhlinkLink, needs: &[u32]) -> Result<LinkRow, Fault>
+fn row(alloc: Global, link: &MhlinkLink, needs: &[u32]) -> Result<LinkRow, Failure>
     ensures value { IfOk result (λ row. row ≡ row_of needs.now link.now) }
     ensures there { OnOk result (HasNeeds needs.now link.now) }
     ensures refused { IfErr result (λ e. ((HasNeeds needs.now link.now → ⊥) × (e ≡ Unknown))
@@ -142,13 +142,13 @@ fn row(alloc: Global, link: &MhlinkLink, needs: &[u32]) -> Result<LinkRow, Fault
     })
 }
 
-fn needs_of<'a>(link: &MhlinkLink, needs: &'a [u32]) -> Result<&'a [u32], Fault>
+fn needs_of<'a>(link: &MhlinkLink, needs: &'a [u32]) -> Result<&'a [u32], Failure>
     ensures value { IfOk result (λ its. its.now ≡ its_needs needs.now link.now) }
     ensures there { OnOk result (HasNeeds needs.now link.now) }
     ensures refused { IfErr result (λ e. (HasNeeds needs.now link.now → ⊥) × (e ≡ Unknown)) }
 {
     if link.first > needs.len() || link.count > needs.len() - link.first {
-        return Err(Fault::Unknown);
+        return Err(Failure::Unknown);
     }
     Ok(&needs[link.first..link.first + link.count])
 }

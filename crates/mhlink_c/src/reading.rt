@@ -11,11 +11,11 @@ ghost use Rattle.mhlink_c.specs.Details.{detail_at};
 ghost use Rattle.mhlink_c.specs.Questions.{IsLink, IsPoint, IsSite, IsUnknownLink};
 ghost use Rattle.mhlink_c.specs.Statuses.{no_memory, status_of};
 ghost use Rattle.mhlink_c.specs.Texts.{HasNoText, IsCertificate, IsUncopied, report_of};
-ghost use Rattle.mhlink_c.specs.declared.fault.Fault.{Fault as FaultOf};
-ghost use Rattle.mhlink_c.specs.declared.fault.Fault.TheVariants.{Short, Unknown};
+ghost use Rattle.mhlink_c.specs.declared.failure.Failure.{Failure as FaultOf};
+ghost use Rattle.mhlink_c.specs.declared.failure.Failure.TheVariants.{Short, Unknown};
 
 use crate::buffers::copy;
-use crate::fault::{Fault, status, write_answer};
+use crate::failure::{Failure, status, write_answer};
 use crate::handle::MhlinkMachine;
 use crate::held::look_up;
 use crate::request::Question;
@@ -86,7 +86,7 @@ pub extern "C" fn mhlink_link(
     look_up(alloc, machine, Question::Link { site, key, text }, number)
 }
 
-fn hits_held(machine: MhlinkMachine, asked: (u32, usize)) -> (MhlinkMachine, Result<u64, Fault>)
+fn hits_held(machine: MhlinkMachine, asked: (u32, usize)) -> (MhlinkMachine, Result<u64, Failure>)
     requires full { machine.full ≡ true }
     ensures full { result.0.full ≡ true }
     ensures same { result.0.value ≡ machine.value }
@@ -193,7 +193,7 @@ pub extern "C" fn mhlink_detail(
 }
 
 // Another owner of the text that the last call gave.
-fn text_held(machine: MhlinkMachine, _: ()) -> (MhlinkMachine, Result<Text, Fault>)
+fn text_held(machine: MhlinkMachine, _: ()) -> (MhlinkMachine, Result<Text, Failure>)
     requires full { machine.full ≡ true }
     ensures full { result.0.full ≡ true }
     ensures same { result.0.value ≡ machine.value }
@@ -205,7 +205,7 @@ fn text_held(machine: MhlinkMachine, _: ()) -> (MhlinkMachine, Result<Text, Faul
     (MhlinkMachine::of(host), text)
 }
 
-/// Copies the text that the last call gave, and tells in `length` how many bytes it has, also where
+/// Copies the text that the last call gave, and writes to `length` how many bytes it has, also where
 /// the buffer is too short. There is one after a call whose reply is of the kind of texts, until
 /// the next call. What stands in the buffer behind the text stays.
 #[unsafe(no_mangle)]
@@ -236,7 +236,7 @@ pub extern "C" fn mhlink_text(
 fn certificate_held(
     machine: MhlinkMachine,
     asked: (Global, usize),
-) -> (MhlinkMachine, Result<String, Fault>)
+) -> (MhlinkMachine, Result<String, Failure>)
     requires full { machine.full ≡ true }
     ensures full { result.0.full ≡ true }
     ensures same { result.0.value ≡ machine.value }
@@ -251,7 +251,7 @@ fn certificate_held(
 }
 
 /// Copies the best plan for a snapshot with the flow that shows it to be best, as JSON for
-/// `mhlink_offer` and `mhlink check`, and tells in `length` how many bytes it has, also where the
+/// `mhlink_offer` and `mhlink check`, and writes to `length` how many bytes it has, also where the
 /// buffer is too short. What stands in the buffer behind it stays.
 #[unsafe(no_mangle)]
 pub extern "C" fn mhlink_certificate(
@@ -280,7 +280,7 @@ pub extern "C" fn mhlink_certificate(
 }
 
 // The report of a machine.
-fn report_held(machine: MhlinkMachine, alloc: Global) -> (MhlinkMachine, Result<String, Fault>)
+fn report_held(machine: MhlinkMachine, alloc: Global) -> (MhlinkMachine, Result<String, Failure>)
     requires full { machine.full ≡ true }
     ensures full { result.0.full ≡ true }
     ensures same { result.0.value ≡ machine.value }
@@ -292,8 +292,8 @@ fn report_held(machine: MhlinkMachine, alloc: Global) -> (MhlinkMachine, Result<
     (MhlinkMachine::of(host), report)
 }
 
-/// Copies a line for each point, site and link, as `mhlink run --report` writes them, and tells in
-/// `length` how many bytes they have, also where the buffer is too short. What stands in the buffer
+/// Copies a line for each point, site and link, as `mhlink run --report` writes them, and writes
+/// to `length` how many bytes they have, also where the buffer is too short. What stands in the buffer
 /// behind them stays.
 #[unsafe(no_mangle)]
 pub extern "C" fn mhlink_report(

@@ -5,10 +5,10 @@ ghost use Rattle.mh_core.specs.Records.{plans, snapshots};
 ghost use Rattle.mh_ledger.specs.declared.old_hits.OldHits.{OldHits as OldHitsOf};
 ghost use Rattle.mhlink_c.specs.Renewals.{BeginsAnew, IsRenewed, IsUsed, RefusesAnew, RefusesRenewal, hits_number};
 ghost use Rattle.mhlink_c.specs.Statuses.{status_of};
-ghost use Rattle.mhlink_c.specs.declared.fault.Fault.{Fault as FaultOf};
-ghost use Rattle.mhlink_c.specs.declared.fault.Fault.TheVariants.{Unknown};
+ghost use Rattle.mhlink_c.specs.declared.failure.Failure.{Failure as FaultOf};
+ghost use Rattle.mhlink_c.specs.declared.failure.Failure.TheVariants.{Unknown};
 
-use crate::fault::{Fault, status};
+use crate::failure::{Failure, status};
 use crate::handle::MhlinkMachine;
 use crate::host::Host;
 use core::mem::replace_with;
@@ -41,7 +41,7 @@ pub(crate) fn used_of(book: &Book) -> MhlinkUsed
 impl Host {
     /// Begins a new history, in which these points are valid again, with what the number says of the
     /// flushed hits.
-    fn renew(&mut self, again: &[u32], hits: u32) -> Result<(), Fault>
+    fn renew(&mut self, again: &[u32], hits: u32) -> Result<(), Failure>
         ensures renewed { OnOk result (IsRenewed self.old again.now hits self.new) }
         ensures refused { IfErr result (RefusesRenewal self.old again.now hits) }
         ensures kept { OnErr result (self.new ≡ self.old) }
@@ -53,7 +53,7 @@ impl Host {
     // Begins a new history, in which these points are valid again, with what is left of the flushed
     // hits.
     #[tactic(auto, using(crate::proofs::Renewed::fresh_is))]
-    fn begin_anew(&mut self, again: &[u32], hits: OldHits) -> Result<(), Fault>
+    fn begin_anew(&mut self, again: &[u32], hits: OldHits) -> Result<(), Failure>
         ensures renewed { OnOk result (BeginsAnew self.old again.now hits self.new) }
         ensures refused { IfErr result (RefusesAnew self.old again.now) }
         ensures kept { OnErr result (self.new ≡ self.old) }
@@ -67,7 +67,7 @@ impl Host {
 }
 
 // What becomes of the flushed hits, by the number that C passes.
-pub(crate) fn old_hits(number: u32) -> Result<OldHits, Fault>
+pub(crate) fn old_hits(number: u32) -> Result<OldHits, Failure>
     ensures value { IfOk result (λ hits. number ≡ hits_number hits) }
     ensures unknown { IfErr result (λ e. ((hits : OldHitsOf) → number ≡ hits_number hits → ⊥)
         × (e ≡ Unknown)) }
@@ -76,7 +76,7 @@ pub(crate) fn old_hits(number: u32) -> Result<OldHits, Fault>
         0 => Ok(OldHits::Keep),
         1 => Ok(OldHits::Halve),
         2 => Ok(OldHits::Drop),
-        _ => Err(Fault::Unknown),
+        _ => Err(Failure::Unknown),
     }
 }
 
@@ -106,7 +106,10 @@ pub extern "C" fn mhlink_used(machine: &mut MhlinkMachine, used: &mut MhlinkUsed
     0
 }
 
-fn renew_held(machine: MhlinkMachine, renewal: (&[u32], u32)) -> (MhlinkMachine, Result<(), Fault>)
+fn renew_held(
+    machine: MhlinkMachine,
+    renewal: (&[u32], u32),
+) -> (MhlinkMachine, Result<(), Failure>)
     requires full { machine.full ≡ true }
     ensures full { result.0.full ≡ true }
     ensures renewed { OnOk result.1 (IsRenewed machine.value renewal.entry.0.now renewal.entry.1

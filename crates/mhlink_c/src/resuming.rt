@@ -6,10 +6,10 @@ ghost use Rattle.mh_core.specs.Resumptions.{IsResumed, resumption_tests};
 ghost use Rattle.mh_core.specs.declared.resuming.ResumptionFault.{ResumptionFault as ResumptionFaultOf};
 ghost use Rattle.mhlink_c.specs.Resumptions.{RefusesResuming, Resumes, of_resumption};
 ghost use Rattle.mhlink_c.specs.Statuses.{no_memory, part_of, status_of};
-ghost use Rattle.mhlink_c.specs.declared.fault.Fault.{Fault as FaultOf};
+ghost use Rattle.mhlink_c.specs.declared.failure.Failure.{Failure as FaultOf};
 
 use crate::books::listed;
-use crate::fault::Fault;
+use crate::failure::Failure;
 use crate::handle::MhlinkMachine;
 use crate::host::{Host, limits_for, room_for_arguments};
 use crate::texts::{MhlinkLimits, read_definition};
@@ -26,20 +26,20 @@ pub(crate) struct Earlier<'a> {
     pub(crate) totals: &'a [u64],
 }
 
-impl From<ResumptionFault> for Fault {
+impl From<ResumptionFault> for Failure {
     ghost use Rattle.std.specs.Prelude.{◌≡◌};
     ghost use Rattle.mhlink_c.specs.Resumptions.{of_resumption};
 
     ghost from_gives = { λ told e. e ≡ of_resumption told };
 
-    fn from(fault: ResumptionFault) -> Fault {
+    fn from(fault: ResumptionFault) -> Failure {
         match fault {
-            ResumptionFault::NoWorker => Fault::BadLimits,
-            ResumptionFault::NoPoint => Fault::Refused(Refusal::NoPoint),
-            ResumptionFault::WrongCount => Fault::Unknown,
-            ResumptionFault::HistoryFull => Fault::Refused(Refusal::HistoryFull),
-            ResumptionFault::TotalTooLarge => Fault::Refused(Refusal::TotalTooLarge),
-            ResumptionFault::NoMemory => Fault::Refused(Refusal::NoMemory),
+            ResumptionFault::NoWorker => Failure::BadLimits,
+            ResumptionFault::NoPoint => Failure::Refused(Refusal::NoPoint),
+            ResumptionFault::WrongCount => Failure::Unknown,
+            ResumptionFault::HistoryFull => Failure::Refused(Refusal::HistoryFull),
+            ResumptionFault::TotalTooLarge => Failure::Refused(Refusal::TotalTooLarge),
+            ResumptionFault::NoMemory => Failure::Refused(Refusal::NoMemory),
         }
     }
 }
@@ -52,7 +52,7 @@ impl Host {
         workers: u32,
         limits: &MhlinkLimits,
         earlier: Earlier<'_>,
-    ) -> Result<Host, Fault>
+    ) -> Result<Host, Failure>
         ensures resumed { IfOk result (Resumes definition.now workers limits.now
             earlier.entry.invalid.now earlier.entry.totals.now) }
         ensures refused { IfErr result (RefusesResuming definition.now workers limits.now
@@ -73,7 +73,7 @@ fn resumed(
     workers: u32,
     limits: Limits,
     earlier: Earlier<'_>,
-) -> Result<Runtime, Fault>
+) -> Result<Runtime, Failure>
     ensures resumed { IfOk result (IsResumed definition.now workers limits
         earlier.entry.invalid.now earlier.entry.totals.now) }
     ensures refused { IfErr result (λ e. (e ≡ no_memory) ⊎ ((told : ResumptionFaultOf)
@@ -139,7 +139,7 @@ fn resume(
     workers: u32,
     limits: &MhlinkLimits,
     earlier: Earlier<'_>,
-) -> Result<MhlinkMachine, Fault>
+) -> Result<MhlinkMachine, Failure>
     ensures full { IfOk result (λ machine. machine.full ≡ true) }
     ensures resumed { IfOk result (λ machine. Resumes definition.now workers limits.now
         earlier.entry.invalid.now earlier.entry.totals.now machine.value) }

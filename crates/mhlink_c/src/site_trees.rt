@@ -5,12 +5,12 @@ ghost use Rattle.mhlink_c.specs.Buffers.{IsCopied};
 ghost use Rattle.mhlink_c.specs.SiteTrees.{HasNoTree, IsSiteOf, tree_of_site};
 ghost use Rattle.mhlink_c.specs.Statuses.{status_of};
 ghost use Rattle.mhlink_c.specs.Texts.{IsUncopied};
-ghost use Rattle.mhlink_c.specs.declared.fault.Fault.{Fault as FaultOf};
-ghost use Rattle.mhlink_c.specs.declared.fault.Fault.TheVariants.{Short};
+ghost use Rattle.mhlink_c.specs.declared.failure.Failure.{Failure as FaultOf};
+ghost use Rattle.mhlink_c.specs.declared.failure.Failure.TheVariants.{Short};
 
 use crate::buffers::copy;
 use crate::desk_handle::MhlinkDesk;
-use crate::fault::{Fault, status};
+use crate::failure::{Failure, status};
 use crate::handle::MhlinkMachine;
 use core::mem::replace_with;
 use mh_core::Book;
@@ -18,14 +18,14 @@ use mh_json::tree_json;
 use std::alloc::Global;
 
 // The tree of a site, as JSON.
-fn tree_text(alloc: Global, book: &Book, site: usize) -> Result<String, Fault>
+fn tree_text(alloc: Global, book: &Book, site: usize) -> Result<String, Failure>
     ensures text { IfOk result (λ s. string_bytes s ≡ tree_of_site book.now site) }
     ensures inside { OnOk result (IsSiteOf book.now site) }
     ensures refused { IfErr result (HasNoTree book.now site) }
 {
     let definition = book.definition();
     if site >= definition.sites().len() {
-        return Err(Fault::Unknown);
+        return Err(Failure::Unknown);
     }
     Ok(tree_json(alloc, definition, book.tree(site).handle())?)
 }
@@ -33,7 +33,7 @@ fn tree_text(alloc: Global, book: &Book, site: usize) -> Result<String, Fault>
 fn tree_held(
     machine: MhlinkMachine,
     asked: (Global, usize),
-) -> (MhlinkMachine, Result<String, Fault>)
+) -> (MhlinkMachine, Result<String, Failure>)
     requires full { machine.full ≡ true }
     ensures full { result.0.full ≡ true }
     ensures same { result.0.value ≡ machine.value }
@@ -80,7 +80,7 @@ pub extern "C" fn mhlink_tree_text(
     }
 }
 
-fn tree_of_desk(desk: MhlinkDesk, asked: (Global, usize)) -> (MhlinkDesk, Result<String, Fault>)
+fn tree_of_desk(desk: MhlinkDesk, asked: (Global, usize)) -> (MhlinkDesk, Result<String, Failure>)
     requires full { desk.full ≡ true }
     ensures full { result.0.full ≡ true }
     ensures same { result.0.value ≡ desk.value }

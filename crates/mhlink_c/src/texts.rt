@@ -4,9 +4,9 @@ ghost use Rattle.std.specs.Prelude.{◌≡◌, IfErr, IfOk};
 ghost use Rattle.mh_core.specs.Limits.{IsLimits};
 ghost use Rattle.mhlink_c.specs.Inputs.{Reads, declarations_in, tree_in};
 ghost use Rattle.mhlink_c.specs.Opening.{limits_of};
-ghost use Rattle.mhlink_c.specs.declared.fault.Fault.TheVariants.{BadLimits};
+ghost use Rattle.mhlink_c.specs.declared.failure.Failure.TheVariants.{BadLimits};
 
-use crate::fault::Fault;
+use crate::failure::Failure;
 use mh_core::{Declared, Limits};
 use mh_text::readers;
 use mh_text::readers::{Declarations, Scope, read_declared, read_json};
@@ -27,19 +27,19 @@ pub struct MhlinkLimits {
 
 impl MhlinkLimits {
     /// The limits, where each is in its range.
-    pub(crate) fn limits(&self) -> Result<Limits, Fault>
+    pub(crate) fn limits(&self) -> Result<Limits, Failure>
         ensures value { IfOk result (λ l. (l ≡ limits_of self.now) × IsLimits l) }
         ensures bad { IfErr result (λ e. (e ≡ BadLimits) × (IsLimits (limits_of self.now) → ⊥)) }
     {
         match Limits::new(self.history, self.ledger, self.total) {
             Some(limits) => Ok(limits),
-            None => Err(Fault::BadLimits),
+            None => Err(Failure::BadLimits),
         }
     }
 }
 
 /// What a definition in JSON declares.
-pub(crate) fn read_definition(alloc: Global, definition: &[u8]) -> Result<Declarations, Fault>
+pub(crate) fn read_definition(alloc: Global, definition: &[u8]) -> Result<Declarations, Failure>
     ensures value { Reads result (declarations_in definition.now) }
 {
     let value = read_json(alloc, definition)?;
@@ -47,7 +47,7 @@ pub(crate) fn read_definition(alloc: Global, definition: &[u8]) -> Result<Declar
 }
 
 /// A tree in JSON, over the names that a definition declares.
-pub(crate) fn read_target(alloc: Global, scope: &Scope, tree: &[u8]) -> Result<Declared, Fault>
+pub(crate) fn read_target(alloc: Global, scope: &Scope, tree: &[u8]) -> Result<Declared, Failure>
     ensures value { Reads result (tree_in scope.now tree.now) }
 {
     let value = read_json(alloc, tree)?;

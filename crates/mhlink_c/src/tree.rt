@@ -4,7 +4,7 @@ ghost use Rattle.std.specs.Prelude.{◌≡◌, Ok, IfErr, IfOk};
 ghost use Rattle.mhlink_c.specs.Inputs.{IsFaultOf, tree_in};
 ghost use Rattle.mhlink_c.specs.Statuses.{no_memory};
 
-use crate::fault::Fault;
+use crate::failure::Failure;
 use crate::texts::read_target;
 use mh_core::{Declared, NoMemory};
 use mh_text::readers::Scope;
@@ -30,7 +30,7 @@ impl Model for HeldTree {
 
 impl HeldTree {
     /// The tree of a text in JSON, over these names.
-    pub(crate) fn read(alloc: Global, scope: &Scope, text: &[u8]) -> Result<Box<HeldTree>, Fault>
+    pub(crate) fn read(alloc: Global, scope: &Scope, text: &[u8]) -> Result<Box<HeldTree>, Failure>
         ensures value { IfOk result (λ t. tree_in scope.now text.now ≡ Ok t.value) }
         ensures refused { IfErr result (IsFaultOf (tree_in scope.now text.now)) }
     {
@@ -39,10 +39,10 @@ impl HeldTree {
     }
 
     /// Another owner of the tree.
-    pub(crate) fn share(&self) -> Result<Declared, Fault>
+    pub(crate) fn share(&self) -> Result<Declared, Failure>
         ensures value { IfOk result (λ t. t ≡ self.now) }
         ensures refused { IfErr result (λ e. e ≡ no_memory) }
     {
-        self.tree.share().map_err(|_| Fault::from(NoMemory))
+        self.tree.share().map_err(|_| Failure::from(NoMemory))
     }
 }

@@ -7,11 +7,11 @@ ghost use Rattle.mhlink_c.specs.Desks.{DeskRecords};
 ghost use Rattle.mhlink_c.specs.Hosts.{Records};
 ghost use Rattle.mhlink_c.specs.Inputs.{IsFaultOf, tree_in};
 ghost use Rattle.mhlink_c.specs.Statuses.{part_of, status_of};
-ghost use Rattle.mhlink_c.specs.declared.fault.Fault.{Fault as FaultOf};
+ghost use Rattle.mhlink_c.specs.declared.failure.Failure.{Failure as FaultOf};
 
 use crate::desk::HeldDesk;
 use crate::desk_handle::MhlinkDesk;
-use crate::fault::{Fault, write_part};
+use crate::failure::{Failure, write_part};
 use crate::handle::MhlinkMachine;
 use crate::host::Host;
 use crate::tree::HeldTree;
@@ -22,7 +22,7 @@ use std::alloc::Global;
 fn read_held(
     machine: MhlinkMachine,
     asked: (Global, &[u8]),
-) -> (MhlinkMachine, Result<Box<HeldTree>, Fault>)
+) -> (MhlinkMachine, Result<Box<HeldTree>, Failure>)
     requires full { machine.full ≡ true }
     ensures full { result.0.full ≡ true }
     ensures same { result.0.value ≡ machine.value }
@@ -37,7 +37,7 @@ fn read_held(
 }
 
 // Writes the handle of a tree, where there is one, and else what the fault leaves open.
-fn write_tree(answer: Result<Box<HeldTree>, Fault>, tree: &mut MhlinkTree, part: &mut u64) -> u32
+fn write_tree(answer: Result<Box<HeldTree>, Failure>, tree: &mut MhlinkTree, part: &mut u64) -> u32
     ensures ok { OnOk answer (result ≡ 0) }
     ensures value { IfOk answer (λ t. (tree.new.full ≡ true) × (tree.new.value ≡ t.value)) }
     ensures no_part { OnOk answer (part.new ≡ 0) }
@@ -86,7 +86,7 @@ pub extern "C" fn mhlink_tree_read(
 
 impl Host {
     // Gives a site a tree that was read.
-    fn target_tree(&mut self, site: usize, tree: &HeldTree) -> Result<(), Fault>
+    fn target_tree(&mut self, site: usize, tree: &HeldTree) -> Result<(), Failure>
         ensures taken { OnOk result (Records self.old self.new (Targeted site tree.now)) }
         ensures refused { IfErr result (RefusesTargetTree self.old.runtime.book site tree.now) }
         ensures kept { OnErr result (self.new ≡ self.old) }
@@ -100,7 +100,7 @@ impl Host {
 fn target_held(
     machine: MhlinkMachine,
     given: (usize, MhlinkTree),
-) -> (MhlinkMachine, (MhlinkTree, Result<(), Fault>))
+) -> (MhlinkMachine, (MhlinkTree, Result<(), Failure>))
     requires full { (machine.full ≡ true) × (given.1.full ≡ true) }
     ensures full { (result.0.full ≡ true) × (result.1.0.full ≡ true) }
     ensures same { result.1.0.value ≡ given.1.value }
@@ -156,7 +156,7 @@ pub extern "C" fn mhlink_tree_close(tree: MhlinkTree)
 fn desk_read_held(
     desk: MhlinkDesk,
     asked: (Global, &[u8]),
-) -> (MhlinkDesk, Result<Box<HeldTree>, Fault>)
+) -> (MhlinkDesk, Result<Box<HeldTree>, Failure>)
     requires full { desk.full ≡ true }
     ensures full { result.0.full ≡ true }
     ensures same { result.0.value ≡ desk.value }
@@ -198,7 +198,7 @@ pub extern "C" fn mhlink_desk_tree_read(
 
 impl HeldDesk {
     // Gives a site a tree that was read.
-    fn target_tree(&mut self, site: usize, tree: &HeldTree) -> Result<(), Fault>
+    fn target_tree(&mut self, site: usize, tree: &HeldTree) -> Result<(), Failure>
         ensures taken { OnOk result (DeskRecords self.old self.new (Targeted site tree.now)) }
         ensures refused { IfErr result (RefusesTargetTree self.old.desk.book site tree.now) }
         ensures kept { OnErr result (self.new ≡ self.old) }
@@ -212,7 +212,7 @@ impl HeldDesk {
 fn desk_target_held(
     desk: MhlinkDesk,
     given: (usize, MhlinkTree),
-) -> (MhlinkDesk, (MhlinkTree, Result<(), Fault>))
+) -> (MhlinkDesk, (MhlinkTree, Result<(), Failure>))
     requires full { (desk.full ≡ true) × (given.1.full ≡ true) }
     ensures full { (result.0.full ≡ true) × (result.1.0.full ≡ true) }
     ensures same { result.1.0.value ≡ given.1.value }

@@ -5,9 +5,9 @@ ghost use Rattle.mhlink_c.specs.Crossing.{AreNoValues, AreValues, HaveNoText, Is
 ghost use Rattle.mh_core.specs.Value.{Value as AnyValue};
 ghost use Rattle.mhlink_c.specs.Statuses.{no_memory};
 ghost use Rattle.mhlink_c.specs.Texts.{HasNoText};
-ghost use Rattle.mhlink_c.specs.declared.fault.Fault.TheVariants.{BadValue};
+ghost use Rattle.mhlink_c.specs.declared.failure.Failure.TheVariants.{BadValue};
 
-use crate::fault::Fault;
+use crate::failure::Failure;
 use mh_core::{LONGEST_TEXT, NoMemory, Outcome, Refusal, Text, Throw, TypeFault, Value};
 use std::alloc::Global;
 
@@ -43,7 +43,7 @@ pub(crate) fn read_values(
     alloc: Global,
     given: &[MhlinkValue],
     texts: &[u8],
-) -> Result<(), Fault>
+) -> Result<(), Failure>
     ensures values { OnOk result (AreValues given.now texts.now values.new.items) }
     ensures room { vec_capacity values.old ≤ vec_capacity values.new }
     ensures refused { IfErr result (λ e. ((e ≡ BadValue) × AreNoValues given.now texts.now)
@@ -74,7 +74,7 @@ fn text_length(value: &Value) -> usize
 
 /// A value, whose text begins the texts.
 #[inline(always)]
-pub(crate) fn value(alloc: Global, given: &MhlinkValue, texts: &[u8]) -> Result<Value, Fault>
+pub(crate) fn value(alloc: Global, given: &MhlinkValue, texts: &[u8]) -> Result<Value, Failure>
     ensures value { IfOk result (IsValue given.now texts.now) }
     ensures refused { IfErr result (λ e. ((e ≡ BadValue)
         × ((x : AnyValue) → IsValue given.now texts.now x → ⊥)) ⊎ (e ≡ no_memory)) }
@@ -84,18 +84,18 @@ pub(crate) fn value(alloc: Global, given: &MhlinkValue, texts: &[u8]) -> Result<
     match given.kind {
         1 => match i32::try_from(number) {
             Ok(number) => Ok(Value::Int(number)),
-            Err(_) => Err(Fault::BadValue),
+            Err(_) => Err(Failure::BadValue),
         },
         2 => Ok(Value::Long(number)),
         3 if number == 0 => Ok(Value::Boolean(false)),
         3 if number == 1 => Ok(Value::Boolean(true)),
         4 => text(alloc, number, texts),
-        _ => Err(Fault::BadValue),
+        _ => Err(Failure::BadValue),
     }
 }
 
 // The text of so many bytes at the beginning of the texts.
-fn text(alloc: Global, count: i64, texts: &[u8]) -> Result<Value, Fault>
+fn text(alloc: Global, count: i64, texts: &[u8]) -> Result<Value, Failure>
     ensures value { IfOk result (λ x. (count ≡ pos (length (bytes_of x)))
         × ((take (length (bytes_of x)) texts.now ≡ bytes_of x) × (value_kind x ≡ 4))) }
     ensures lawful { IfOk result IsOfItsKind }
@@ -103,19 +103,19 @@ fn text(alloc: Global, count: i64, texts: &[u8]) -> Result<Value, Fault>
         ⊎ (e ≡ no_memory)) }
 {
     if count < 0 || count > LONGEST_TEXT as i64 {
-        return Err(Fault::BadValue);
+        return Err(Failure::BadValue);
     }
     let count = count as usize;
     if count > texts.len() {
-        return Err(Fault::BadValue);
+        return Err(Failure::BadValue);
     }
     let Ok(text) = str::from_utf8(&texts[..count]) else {
-        return Err(Fault::BadValue);
+        return Err(Failure::BadValue);
     };
     match Text::new(alloc, text) {
         Ok(text) => Ok(Value::Text(text)),
-        Err(TypeFault::NoMemory) => Err(Fault::Refused(Refusal::NoMemory)),
-        Err(_) => Err(Fault::BadValue),
+        Err(TypeFault::NoMemory) => Err(Failure::Refused(Refusal::NoMemory)),
+        Err(_) => Err(Failure::BadValue),
     }
 }
 
@@ -152,12 +152,12 @@ pub(crate) fn text_of(outcome: Outcome) -> Option<Text>
 }
 
 /// Another owner of the text that the last call gave.
-pub(crate) fn share_text(given: &Option<Text>) -> Result<Text, Fault>
+pub(crate) fn share_text(given: &Option<Text>) -> Result<Text, Failure>
     ensures value { IfOk result (λ text. given.now ≡ Some text) }
     ensures refused { IfErr result (HasNoText given.now) }
 {
     match given {
-        Some(text) => text.share().map_err(|_| Fault::from(NoMemory)),
-        None => Err(Fault::Unknown),
+        Some(text) => text.share().map_err(|_| Failure::from(NoMemory)),
+        None => Err(Failure::Unknown),
     }
 }

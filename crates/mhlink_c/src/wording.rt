@@ -4,11 +4,11 @@ ghost use Rattle.std.specs.Prelude.{◌≡◌, ◌≢◌, ℕ, List, Some, None,
 ghost use Rattle.mhlink_c.specs.Buffers.{IsCopied};
 ghost use Rattle.mhlink_c.specs.Statuses.{part_of, status_of as number_of};
 ghost use Rattle.mhlink_c.specs.Wording.{IsTold, RefusesWords, beside, fault_words, inputs, others, refusals, with_part, words_of as its_words};
-ghost use Rattle.mhlink_c.specs.declared.fault.Fault.{Fault as FaultOf};
-ghost use Rattle.mhlink_c.specs.declared.fault.Fault.TheVariants.{Short};
+ghost use Rattle.mhlink_c.specs.declared.failure.Failure.{Failure as FaultOf};
+ghost use Rattle.mhlink_c.specs.declared.failure.Failure.TheVariants.{Short};
 
 use crate::buffers::copy;
-use crate::fault::{Fault, status as status_of};
+use crate::failure::{Failure, status as status_of};
 use std::alloc::Global;
 
 /// Copies to `buffer` what a status means, as `mhlink` words it (docs/FAULTS.md), with `part`
@@ -42,7 +42,7 @@ fn word(
     part: u64,
     buffer: &mut [u8],
     count: &mut usize,
-) -> Result<(), Fault>
+) -> Result<(), Failure>
     ensures told { OnOk result ((words : List ℕ) × ((its_words status ≡ Some words)
         × IsCopied (with_part words part) count.new buffer.new)) }
     ensures refused { IfErr result (RefusesWords status part count.new buffer.old) }
@@ -50,7 +50,7 @@ fn word(
     ensures rest { OnOk result (drop count.new buffer.new ≡ drop count.new buffer.old) }
     ensures uncounted { IfErr result (λ e. e ≢ Short → count.new ≡ count.old) }
 {
-    let words = words_of(status).ok_or(Fault::Unknown)?;
+    let words = words_of(status).ok_or(Failure::Unknown)?;
     if part == 0 {
         return copy(words.as_bytes(), buffer, count);
     }

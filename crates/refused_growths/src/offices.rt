@@ -8,7 +8,7 @@ use crate::passes::{Called, try_call};
 use crate::telling::{tell_again, tell_book, tell_ledger, tell_opened, tell_part, tell_worked};
 use anyhow::Context;
 use mh_live::mh_core::{Refusal, Value};
-use mh_live::{FlushFault, Live, Name, Opening, Pass, Receipt};
+use mh_live::{FlushFault, ListName, Live, Opening, Pass, Receipt};
 use std::alloc::Global;
 use std::marker::Brand;
 use std::sync::Wait;
@@ -21,7 +21,7 @@ pub(crate) fn make_opening(alloc: Global) -> anyhow::Result<Opening> {
 }
 
 /// Asks an office.
-fn ask<N: Name, R: Wait>(
+fn ask<N: ListName, R: Wait>(
     rt: &R,
     live: &Live<N>,
     pass: &mut Pass<N>,
@@ -39,7 +39,7 @@ fn ask<N: Name, R: Wait>(
 }
 
 /// An answer with the fault of a flush.
-fn told<N: Name>(answer: Result<Receipt<N>, Refusal>) -> Result<Receipt<N>, FlushFault> {
+fn told<N: ListName>(answer: Result<Receipt<N>, Refusal>) -> Result<Receipt<N>, FlushFault> {
     match answer {
         Ok(receipt) => Ok(receipt),
         Err(refusal) => Err(FlushFault::Refused(refusal)),
@@ -47,13 +47,13 @@ fn told<N: Name>(answer: Result<Receipt<N>, Refusal>) -> Result<Receipt<N>, Flus
 }
 
 /// Calls `f` with 1, which hits the link 0.
-fn hit<N: Name>(pass: &mut Pass<N>) -> anyhow::Result<()> {
+fn hit<N: ListName>(pass: &mut Pass<N>) -> anyhow::Result<()> {
     pass.call(F, &[Value::Int(1)])?;
     Ok(())
 }
 
 /// Two hits, their flush, a snapshot of them and its plan; and one hit more.
-pub(crate) fn make_ready<N: Name, R: Wait>(
+pub(crate) fn make_ready<N: ListName, R: Wait>(
     rt: &R,
     alloc: Global,
     live: &Live<N>,
@@ -83,7 +83,7 @@ pub(crate) fn try_deed<R: Print + Wait>(rt: &R, alloc: Global, deed: Deed) -> an
 }
 
 /// Does it in the office of an opening.
-fn try_opened<N: Name, R: Print + Wait>(
+fn try_opened<N: ListName, R: Print + Wait>(
     rt: &R,
     alloc: Global,
     opening: Opening,
@@ -104,7 +104,7 @@ fn try_opened<N: Name, R: Print + Wait>(
 }
 
 /// Asks an open office for a change, and again.
-fn try_change<N: Name, R: Print + Wait>(
+fn try_change<N: ListName, R: Print + Wait>(
     rt: &R,
     alloc: Global,
     live: &Live<N>,
@@ -122,7 +122,7 @@ fn try_change<N: Name, R: Print + Wait>(
 }
 
 /// What stands in an office and a pass.
-pub(crate) fn tell<N: Name, R: Print + Wait>(
+pub(crate) fn tell<N: ListName, R: Print + Wait>(
     rt: &R,
     live: &Live<N>,
     pass: &Pass<N>,

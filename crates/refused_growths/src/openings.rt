@@ -5,7 +5,7 @@ ghost use Rattle.std.specs.Prelude.{◌≡◌};
 use crate::definition::{define, limits};
 use crate::offices::make_opening;
 use crate::telling::{tell_again, tell_opened, tell_part, tell_worked};
-use mh_live::{Name, OpenFault, Opening};
+use mh_live::{ListName, OpenFault, Opening};
 use std::alloc::Global;
 use std::marker::Brand;
 
@@ -21,7 +21,7 @@ pub(crate) fn try_new(rt: &impl Print, alloc: Global) -> anyhow::Result<()> {
 }
 
 /// How many passes an opening gives.
-fn open<N: Name>(opening: Opening) -> Result<usize, OpenFault>
+fn open<N: ListName>(opening: Opening) -> Result<usize, OpenFault>
     requires name { opening.name ≡ N.book }
     requires definition { opening.definition ≡ N.definition }
     requires limits { opening.limits ≡ N.limits }
@@ -40,7 +40,7 @@ pub(crate) fn try_open<R: Print>(rt: &R, alloc: Global) -> anyhow::Result<()> {
 }
 
 /// Opens an office while a growth may be refused.
-fn open_first<N: Name, R: Print>(rt: &R, opening: Opening) -> anyhow::Result<()>
+fn open_first<N: ListName, R: Print>(rt: &R, opening: Opening) -> anyhow::Result<()>
     requires name { opening.name ≡ N.book }
     requires definition { opening.definition ≡ N.definition }
     requires limits { opening.limits ≡ N.limits }
@@ -51,7 +51,7 @@ fn open_first<N: Name, R: Print>(rt: &R, opening: Opening) -> anyhow::Result<()>
 }
 
 /// Opens an office with ample memory.
-fn open_again<N: Name, R: Print>(rt: &R, opening: Opening) -> anyhow::Result<()>
+fn open_again<N: ListName, R: Print>(rt: &R, opening: Opening) -> anyhow::Result<()>
     requires name { opening.name ≡ N.book }
     requires definition { opening.definition ≡ N.definition }
     requires limits { opening.limits ≡ N.limits }

@@ -4,7 +4,7 @@ use crate::definition::{F, JOINED, text};
 use crate::offices::tell;
 use crate::telling::{tell_again, tell_opened, tell_worked};
 use mh_live::mh_core::Value;
-use mh_live::{Live, Name, Pass};
+use mh_live::{ListName, Live, Pass};
 use std::alloc::Global;
 use std::sync::Wait;
 
@@ -29,7 +29,7 @@ fn arguments(alloc: Global, called: Called) -> anyhow::Result<(usize, Vec<Value>
 }
 
 /// Calls a site through a pass, and again.
-pub(crate) fn try_call<N: Name, R: Print + Wait>(
+pub(crate) fn try_call<N: ListName, R: Print + Wait>(
     rt: &R,
     alloc: Global,
     live: &Live<N>,

@@ -6,7 +6,7 @@ use crate::offices::{make_opening, make_ready};
 use crate::telling::{tell_again, tell_book, tell_opened, tell_worked};
 use anyhow::{Context, anyhow};
 use mh_live::mh_core::Refusal;
-use mh_live::{Live, Name, Opening, Pass, Settled};
+use mh_live::{ListName, Live, Opening, Pass, Settled};
 use std::alloc::Global;
 use std::marker::Brand;
 use std::sync::Wait;
@@ -18,7 +18,7 @@ pub(crate) fn try_reopening<R: Print + Wait>(rt: &R, alloc: Global) -> anyhow::R
 }
 
 /// The same of what comes of an opening.
-fn try_opened<N: Name, R: Print + Wait>(
+fn try_opened<N: ListName, R: Print + Wait>(
     rt: &R,
     alloc: Global,
     opening: Opening,
@@ -41,7 +41,7 @@ fn try_opened<N: Name, R: Print + Wait>(
 }
 
 /// What stands once all passes are back.
-fn settle<N: Name, R: Wait>(
+fn settle<N: ListName, R: Wait>(
     rt: &R,
     alloc: Global,
     live: Live<N>,
@@ -55,7 +55,7 @@ fn settle<N: Name, R: Wait>(
 
 /// How many points the next office of two workers is to invalidate first, where the point 1 is to be
 /// valid.
-fn count_invalid<N: Name>(alloc: Global, settled: &Settled<N>) -> Result<usize, Refusal> {
+fn count_invalid<N: ListName>(alloc: Global, settled: &Settled<N>) -> Result<usize, Refusal> {
     let (_opening, invalid) = settled.renew(alloc, 2, &[1])?;
     Ok(invalid.len())
 }

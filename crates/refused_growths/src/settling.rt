@@ -7,7 +7,7 @@ use crate::offices::{make_opening, make_ready, tell};
 use crate::telling::{tell_again, tell_opened, tell_part, tell_worked};
 use anyhow::Context;
 use mh_live::mh_core::Value;
-use mh_live::{Live, Name, Opening, Pass, SettleFault, Settled, Unsettled};
+use mh_live::{ListName, Live, Opening, Pass, SettleFault, Settled, Unsettled};
 use std::alloc::Global;
 use std::marker::Brand;
 use std::sync::Wait;
@@ -19,7 +19,7 @@ pub(crate) fn try_settle<R: Print + Wait>(rt: &R, alloc: Global) -> anyhow::Resu
 }
 
 /// The same of an opening.
-fn try_opened<N: Name, R: Print + Wait>(
+fn try_opened<N: ListName, R: Print + Wait>(
     rt: &R,
     alloc: Global,
     opening: Opening,
@@ -40,7 +40,7 @@ fn try_opened<N: Name, R: Print + Wait>(
 }
 
 /// Two hits of the first pass, their flush and plan, and one hit more.
-fn make_first_ready<N: Name, R: Wait>(
+fn make_first_ready<N: ListName, R: Wait>(
     rt: &R,
     alloc: Global,
     live: &Live<N>,
@@ -51,7 +51,7 @@ fn make_first_ready<N: Name, R: Wait>(
 }
 
 /// Why it was refused, that all stands and works, and what comes where it is done again.
-fn try_again<N: Name, R: Print + Wait>(
+fn try_again<N: ListName, R: Print + Wait>(
     rt: &R,
     alloc: Global,
     unsettled: Unsettled<N>,
@@ -70,12 +70,12 @@ fn try_again<N: Name, R: Print + Wait>(
 }
 
 /// The hits of a settlement.
-fn tell_settled<N: Name>(rt: &impl Print, settled: &Settled<N>) -> anyhow::Result<()> {
+fn tell_settled<N: ListName>(rt: &impl Print, settled: &Settled<N>) -> anyhow::Result<()> {
     tell_worked::<usize, SettleFault>(rt, &Ok(settled.links()))
 }
 
 /// What stands in an office and its passes, and what each pass gives for a call that hits no link.
-fn tell_all<N: Name, R: Print + Wait>(
+fn tell_all<N: ListName, R: Print + Wait>(
     rt: &R,
     live: &Live<N>,
     passes: &mut Vec<Pass<N>>,

@@ -4,7 +4,7 @@ ghost use Rattle.std.specs.Prelude.{◌≡◌};
 
 use crate::calling::{CallAnswer, call, given, sums};
 use crate::definitions::{negation, open_invoking, open_plain, successor};
-use mh_live::{Declared, Live, Name, Opening, Pass, cross_threads};
+use mh_live::{Declared, ListName, Live, Opening, Pass, cross_threads};
 use std::alloc::Global;
 use std::marker::Brand;
 use std::sync::Wait;
@@ -33,7 +33,7 @@ const TWO_BELOW: Way = Way { site: 2, below: 2 };
 
 /// A pass after its calls, and whether each was answered rightly.
 #[derive(Drop)]
-struct Called<N: Name> {
+struct Called<N: ListName> {
     pass: Pass<N>,
     right: bool,
 }
@@ -50,7 +50,7 @@ fn after(below: u128, retargetings: u64) -> CallAnswer {
 
 /// Calls once, and answers whether it was by the tree of the front that is named, which is none
 /// before what the pass had seen.
-fn is_right<N: Name>(pass: &mut Pass<N>, below: u128) -> bool {
+fn is_right<N: ListName>(pass: &mut Pass<N>, below: u128) -> bool {
     let seen = pass.front().len();
     match call(pass, 1) {
         Ok(answer) => answer == after(below, answer.front()) && seen <= answer.front(),
@@ -59,7 +59,12 @@ fn is_right<N: Name>(pass: &mut Pass<N>, below: u128) -> bool {
 }
 
 /// Makes so many calls.
-fn call_many<N: Name>(mut pass: Pass<N>, below: u128, calls: u64, made: &AtomicU64) -> Called<N> {
+fn call_many<N: ListName>(
+    mut pass: Pass<N>,
+    below: u128,
+    calls: u64,
+    made: &AtomicU64,
+) -> Called<N> {
     let mut right = true;
     for _ in 0..calls {
         right = is_right(&mut pass, below) && right;
@@ -79,7 +84,7 @@ fn await_calls(made: &AtomicU64, calls: u64) {
 }
 
 /// The passes, or none where a call was answered wrongly or there is no memory.
-fn take_back<N: Name>(alloc: Global, workers: Vec<Called<N>>) -> Option<Vec<Pass<N>>> {
+fn take_back<N: ListName>(alloc: Global, workers: Vec<Called<N>>) -> Option<Vec<Pass<N>>> {
     let mut passes = Vec::new(alloc);
     for worker in workers {
         let Called { pass, right } = worker;
@@ -92,7 +97,7 @@ fn take_back<N: Name>(alloc: Global, workers: Vec<Called<N>>) -> Option<Vec<Pass
 }
 
 /// Has each pass make so many calls in a thread of its own, and gives back the passes.
-fn call_in_threads<N: Name + Send + Sync, R: Threads + Sync>(
+fn call_in_threads<N: ListName + Send + Sync, R: Threads + Sync>(
     rt: &R,
     alloc: Global,
     passes: Vec<Pass<N>>,
@@ -115,7 +120,7 @@ fn tree_of(alloc: Global, turn: u64) -> Result<Declared, Fail> {
 }
 
 /// Retargets a site in a turn.
-fn retarget<N: Name, R: Wait>(
+fn retarget<N: ListName, R: Wait>(
     rt: &R,
     alloc: Global,
     live: &Live<N>,
@@ -127,7 +132,7 @@ fn retarget<N: Name, R: Wait>(
 }
 
 /// Retargets a site so many times.
-fn retarget_many<N: Name, R: Wait>(
+fn retarget_many<N: ListName, R: Wait>(
     rt: &R,
     alloc: Global,
     live: &Live<N>,
@@ -143,7 +148,7 @@ fn retarget_many<N: Name, R: Wait>(
 }
 
 /// So many calls with each pass, beside so many retargetings.
-fn call_beside<N: Name + Send + Sync, R: Wait + Threads + Sync>(
+fn call_beside<N: ListName + Send + Sync, R: Wait + Threads + Sync>(
     rt: &R,
     alloc: Global,
     live: &Live<N>,
@@ -168,7 +173,7 @@ fn call_beside<N: Name + Send + Sync, R: Wait + Threads + Sync>(
 type Counts = (Option<(u128, u64, u128)>, u64);
 
 /// What is counted when all passes are back.
-fn counts<N: Name, R: Wait>(
+fn counts<N: ListName, R: Wait>(
     rt: &R,
     alloc: Global,
     live: Live<N>,
@@ -181,7 +186,7 @@ fn counts<N: Name, R: Wait>(
 }
 
 /// What is counted of so many calls with each pass, beside so many retargetings.
-fn count_beside<N: Name + Send + Sync, R: Wait + Threads + Sync>(
+fn count_beside<N: ListName + Send + Sync, R: Wait + Threads + Sync>(
     rt: &R,
     alloc: Global,
     opening: Opening,

@@ -1,6 +1,6 @@
 //! Calls of the site 0 with one whole number.
 
-use mh_live::{Answer, CallFault, Live, Name, Pass, Settled};
+use mh_live::{CallFault, ListName, Live, Pass, PassAnswer, Settled};
 use mh_type::{Outcome, Value};
 use std::sync::Wait;
 
@@ -30,7 +30,7 @@ pub(crate) fn given(value: i32, steps: u128, front: u64) -> CallAnswer {
 }
 
 /// What an answer says.
-fn read(answer: &Answer) -> CallAnswer {
+fn read(answer: &PassAnswer) -> CallAnswer {
     let value = match &answer.outcome {
         Outcome::Value(Value::Int(value)) => Some(*value),
         _ => None,
@@ -43,14 +43,17 @@ fn read(answer: &Answer) -> CallAnswer {
 }
 
 /// Calls the site with this argument.
-pub(crate) fn call<N: Name>(pass: &mut Pass<N>, argument: i32) -> Result<CallAnswer, CallFault> {
+pub(crate) fn call<N: ListName>(
+    pass: &mut Pass<N>,
+    argument: i32,
+) -> Result<CallAnswer, CallFault> {
     let arguments = [Value::Int(argument)];
     let answer = pass.call(0, &arguments)?;
     Ok(read(&answer))
 }
 
 /// The hits of the link 0, unflushed and ever.
-pub(crate) fn hits<N: Name>(pass: &Pass<N>) -> Option<(u64, u64)> {
+pub(crate) fn hits<N: ListName>(pass: &Pass<N>) -> Option<(u64, u64)> {
     if pass.links() == 0 {
         return None;
     }
@@ -58,7 +61,7 @@ pub(crate) fn hits<N: Name>(pass: &Pass<N>) -> Option<(u64, u64)> {
 }
 
 /// The hits of the link 0: made, flushed, and not flushed.
-pub(crate) fn sums<N: Name>(settled: &Settled<N>) -> Option<(u128, u64, u128)> {
+pub(crate) fn sums<N: ListName>(settled: &Settled<N>) -> Option<(u128, u64, u128)> {
     if settled.links() == 0 {
         return None;
     }
@@ -66,7 +69,7 @@ pub(crate) fn sums<N: Name>(settled: &Settled<N>) -> Option<(u128, u64, u128)> {
 }
 
 /// Flushes a pass, and answers whether it is done and before any change.
-pub(crate) fn flush<N: Name, R: Wait>(rt: &R, live: &Live<N>, pass: &mut Pass<N>) -> bool {
+pub(crate) fn flush<N: ListName, R: Wait>(rt: &R, live: &Live<N>, pass: &mut Pass<N>) -> bool {
     match live.flush(rt, pass) {
         Ok(receipt) => receipt.front().len() == 0,
         Err(_) => false,

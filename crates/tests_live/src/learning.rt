@@ -4,20 +4,20 @@ ghost use Rattle.std.specs.Prelude.{◌≡◌};
 
 use crate::calling::{CallAnswer, call, given};
 use crate::definitions::{open_plain, successor};
-use mh_live::{CallFault, Live, Name, Opening, Pass, Receipt};
+use mh_live::{CallFault, ListName, Live, Opening, Pass, Receipt};
 use std::alloc::Global;
 use std::marker::Brand;
 use std::sync::Wait;
 use std::test::Fail;
 
 /// Learns a receipt, and answers how long its list is.
-fn learn<N: Name>(pass: &mut Pass<N>, receipt: &Receipt<N>) -> u64 {
+fn learn<N: ListName>(pass: &mut Pass<N>, receipt: &Receipt<N>) -> u64 {
     pass.learn(receipt);
     receipt.front().len()
 }
 
 /// An office and its last pass.
-fn open_one<N: Name>(opening: Opening) -> Result<(Live<N>, Pass<N>), Fail>
+fn open_one<N: ListName>(opening: Opening) -> Result<(Live<N>, Pass<N>), Fail>
     requires name { opening.name ≡ N.book }
     requires definition { opening.definition ≡ N.definition }
     requires limits { opening.limits ≡ N.limits }
@@ -31,12 +31,16 @@ fn open_one<N: Name>(opening: Opening) -> Result<(Live<N>, Pass<N>), Fail>
 }
 
 /// Gives the site the successor.
-fn retarget<N: Name, R: Wait>(rt: &R, alloc: Global, live: &Live<N>) -> Result<Receipt<N>, Fail> {
+fn retarget<N: ListName, R: Wait>(
+    rt: &R,
+    alloc: Global,
+    live: &Live<N>,
+) -> Result<Receipt<N>, Fail> {
     Ok(live.set_target(rt, 0, successor(alloc)?)?)
 }
 
 /// What a call gives beside a retargeting, before its receipt is learnt; and how long its list is.
-fn call_before_learning<N: Name, R: Wait>(
+fn call_before_learning<N: ListName, R: Wait>(
     rt: &R,
     alloc: Global,
     live: &Live<N>,
@@ -48,7 +52,7 @@ fn call_before_learning<N: Name, R: Wait>(
 }
 
 /// What calls give before and after a receipt is learnt.
-fn call_around_learning<N: Name, R: Wait>(
+fn call_around_learning<N: ListName, R: Wait>(
     rt: &R,
     alloc: Global,
     live: &Live<N>,
@@ -61,7 +65,7 @@ fn call_around_learning<N: Name, R: Wait>(
     Ok([before?, call(pass, 2)?])
 }
 
-fn calls_around_a_receipt<N: Name, R: Wait>(
+fn calls_around_a_receipt<N: ListName, R: Wait>(
     rt: &R,
     alloc: Global,
     opening: Opening,

@@ -7,7 +7,7 @@ use crate::definitions::{negation, successor, sum};
 use mh_base::Listing;
 use mh_cert::Plan;
 use mh_core::{Refusal, SharedPlan};
-use mh_live::{Declared, Live, Name, Opening, Pass, Receipt};
+use mh_live::{Declared, ListName, Live, Opening, Pass, Receipt};
 use mh_plan::{OpenGate, plan};
 use mh_type::Value;
 use std::alloc::Global;
@@ -63,7 +63,7 @@ pub(crate) enum Step {
 
 /// An office with its passes, and the receipts of what it accepted.
 #[derive(Drop)]
-struct Running<N: Name> {
+struct Running<N: ListName> {
     live: Live<N>,
     passes: Vec<Pass<N>>,
     receipts: Vec<Receipt<N>>,
@@ -78,7 +78,7 @@ fn tree_of(alloc: Global, tree: &Tree) -> Result<Declared, Fail> {
 }
 
 /// The pass at a place.
-fn pass_at<N: Name>(passes: &mut Vec<Pass<N>>, place: usize) -> Result<&mut Pass<N>, Fail> {
+fn pass_at<N: ListName>(passes: &mut Vec<Pass<N>>, place: usize) -> Result<&mut Pass<N>, Fail> {
     match passes.get_mut(place) {
         Some(pass) => Ok(pass),
         None => Err(Fail::from("there is no such pass")),
@@ -86,7 +86,7 @@ fn pass_at<N: Name>(passes: &mut Vec<Pass<N>>, place: usize) -> Result<&mut Pass
 }
 
 /// What a call gives, its steps, and the number of changes by whose world it is answered.
-fn call<N: Name>(
+fn call<N: ListName>(
     alloc: Global,
     pass: &mut Pass<N>,
     site: usize,
@@ -102,7 +102,7 @@ fn call<N: Name>(
 }
 
 /// Which pass it is, the hits of the link 0, and how many changes it has seen.
-fn count<N: Name>(alloc: Global, pass: &Pass<N>) -> Result<String, Fail> {
+fn count<N: ListName>(alloc: Global, pass: &Pass<N>) -> Result<String, Fail> {
     let Some((unflushed, made)) = hits(pass) else {
         return Err(Fail::from("there is no link"));
     };
@@ -111,13 +111,13 @@ fn count<N: Name>(alloc: Global, pass: &Pass<N>) -> Result<String, Fail> {
 }
 
 /// What a receipt says.
-fn read<N: Name>(alloc: Global, receipt: &Receipt<N>) -> Result<String, Fail> {
+fn read<N: ListName>(alloc: Global, receipt: &Receipt<N>) -> Result<String, Fail> {
     let front = receipt.front().len();
     Ok(format!(in alloc; "{}, front {front}", receipt.reply())?)
 }
 
 /// Keeps the receipt of an event that was accepted, and answers what it says.
-fn keep<N: Name>(
+fn keep<N: ListName>(
     alloc: Global,
     receipts: &mut Vec<Receipt<N>>,
     receipt: Receipt<N>,
@@ -130,7 +130,7 @@ fn keep<N: Name>(
 }
 
 /// Keeps the receipt of an event, and answers what it says, or why there is none.
-fn keep_or_tell<N: Name>(
+fn keep_or_tell<N: ListName>(
     alloc: Global,
     receipts: &mut Vec<Receipt<N>>,
     told: Result<Receipt<N>, Refusal>,
@@ -154,7 +154,7 @@ fn one_link(alloc: Global, value: i64) -> Result<SharedPlan, Fail> {
 }
 
 /// The planner's plan of a snapshot.
-fn planned<N: Name, R: Wait + Threads + Sync>(
+fn planned<N: ListName, R: Wait + Threads + Sync>(
     rt: &R,
     alloc: Global,
     live: &Live<N>,
@@ -165,7 +165,7 @@ fn planned<N: Name, R: Wait + Threads + Sync>(
 }
 
 /// How many links the problem of a snapshot has.
-fn problem<N: Name, R: Wait>(
+fn problem<N: ListName, R: Wait>(
     rt: &R,
     alloc: Global,
     live: &Live<N>,
@@ -179,7 +179,7 @@ fn problem<N: Name, R: Wait>(
 
 /// Retargets the site 0 by the office that is lent: whether it is closed then, and how many changes
 /// it counts.
-fn target_by_office<N: Name, R: Wait>(
+fn target_by_office<N: ListName, R: Wait>(
     rt: &R,
     alloc: Global,
     live: &Live<N>,
@@ -193,7 +193,7 @@ fn target_by_office<N: Name, R: Wait>(
 }
 
 /// A point becomes invalid.
-fn invalidate<N: Name, R: Wait>(
+fn invalidate<N: ListName, R: Wait>(
     rt: &R,
     alloc: Global,
     running: &mut Running<N>,
@@ -205,7 +205,7 @@ fn invalidate<N: Name, R: Wait>(
 }
 
 /// A site gets a tree.
-fn target<N: Name, R: Wait>(
+fn target<N: ListName, R: Wait>(
     rt: &R,
     alloc: Global,
     running: &mut Running<N>,
@@ -218,7 +218,7 @@ fn target<N: Name, R: Wait>(
 }
 
 /// A plan is published for a snapshot.
-fn publish<N: Name, R: Wait>(
+fn publish<N: ListName, R: Wait>(
     rt: &R,
     alloc: Global,
     running: &mut Running<N>,
@@ -230,7 +230,7 @@ fn publish<N: Name, R: Wait>(
 }
 
 /// A pass is flushed.
-fn flush<N: Name, R: Wait>(
+fn flush<N: ListName, R: Wait>(
     rt: &R,
     alloc: Global,
     running: &mut Running<N>,
@@ -244,7 +244,7 @@ fn flush<N: Name, R: Wait>(
 }
 
 /// A pass learns a receipt.
-fn learn<N: Name>(
+fn learn<N: ListName>(
     alloc: Global,
     running: &mut Running<N>,
     pass: usize,
@@ -259,7 +259,7 @@ fn learn<N: Name>(
 }
 
 /// Each pass learns the last receipt.
-fn learn_all<N: Name>(alloc: Global, running: &mut Running<N>) -> Result<String, Fail> {
+fn learn_all<N: ListName>(alloc: Global, running: &mut Running<N>) -> Result<String, Fail> {
     let Some(receipt) = running.receipts.last() else {
         return Err(Fail::from("there is no receipt"));
     };
@@ -270,13 +270,17 @@ fn learn_all<N: Name>(alloc: Global, running: &mut Running<N>) -> Result<String,
 }
 
 /// A snapshot is taken.
-fn take<N: Name, R: Wait>(rt: &R, alloc: Global, running: &mut Running<N>) -> Result<String, Fail> {
+fn take<N: ListName, R: Wait>(
+    rt: &R,
+    alloc: Global,
+    running: &mut Running<N>,
+) -> Result<String, Fail> {
     let told = running.live.snapshot(rt);
     keep_or_tell(alloc, &mut running.receipts, told)
 }
 
 /// The planner's plan of a snapshot is published.
-fn publish_planned<N: Name, R: Wait + Threads + Sync>(
+fn publish_planned<N: ListName, R: Wait + Threads + Sync>(
     rt: &R,
     alloc: Global,
     running: &mut Running<N>,
@@ -287,7 +291,7 @@ fn publish_planned<N: Name, R: Wait + Threads + Sync>(
 }
 
 /// A plan is installed.
-fn install<N: Name, R: Wait>(
+fn install<N: ListName, R: Wait>(
     rt: &R,
     alloc: Global,
     running: &mut Running<N>,
@@ -298,7 +302,7 @@ fn install<N: Name, R: Wait>(
 }
 
 /// Asks, and returns the answer.
-fn ask<N: Name, R: Wait + Threads + Sync>(
+fn ask<N: ListName, R: Wait + Threads + Sync>(
     rt: &R,
     alloc: Global,
     running: &mut Running<N>,
@@ -329,7 +333,7 @@ fn ask<N: Name, R: Wait + Threads + Sync>(
 
 /// Asks all, and returns how many steps answered what stands beside them, which are all of them:
 /// fails with the first answer that is another.
-fn ask_all<N: Name, R: Wait + Threads + Sync>(
+fn ask_all<N: ListName, R: Wait + Threads + Sync>(
     rt: &R,
     alloc: Global,
     running: &mut Running<N>,
@@ -345,7 +349,7 @@ fn ask_all<N: Name, R: Wait + Threads + Sync>(
 }
 
 /// Plays the scenario under a name.
-fn play_named<N: Name, R: Wait + Threads + Sync>(
+fn play_named<N: ListName, R: Wait + Threads + Sync>(
     rt: &R,
     alloc: Global,
     opening: Opening,

@@ -5,24 +5,24 @@ ghost use Rattle.std.specs.Prelude.{◌≡◌};
 use crate::calling::{call, flush, given, sums};
 use crate::definitions::open_plain;
 use mh_base::Listing;
-use mh_live::{Live, Name, Opening, Pass, SettleFault, Settled, Unsettled};
+use mh_live::{ListName, Live, Opening, Pass, SettleFault, Settled, Unsettled};
 use std::alloc::Global;
 use std::marker::Brand;
 use std::sync::Wait;
 use std::test::Fail;
 
 /// Calls so that the link is hit, and answers whether -1 came in one step.
-fn hit<N: Name>(pass: &mut Pass<N>) -> bool {
+fn hit<N: ListName>(pass: &mut Pass<N>) -> bool {
     call(pass, 1) == Ok(given(-1, 1, 0))
 }
 
 /// Two calls that hit the link, a flush, and one more.
-fn work<N: Name, R: Wait>(rt: &R, live: &Live<N>, pass: &mut Pass<N>) -> bool {
+fn work<N: ListName, R: Wait>(rt: &R, live: &Live<N>, pass: &mut Pass<N>) -> bool {
     hit(pass) && hit(pass) && flush(rt, live, pass) && hit(pass)
 }
 
 /// Each pass works.
-fn work_each<N: Name, R: Wait>(rt: &R, live: &Live<N>, passes: &mut Vec<Pass<N>>) -> bool {
+fn work_each<N: ListName, R: Wait>(rt: &R, live: &Live<N>, passes: &mut Vec<Pass<N>>) -> bool {
     let mut right = true;
     for pass in passes.iter_mut() {
         right = work(rt, live, pass) && right;
@@ -31,7 +31,7 @@ fn work_each<N: Name, R: Wait>(rt: &R, live: &Live<N>, passes: &mut Vec<Pass<N>>
 }
 
 /// What stands after a settlement.
-fn settle<N: Name, R: Wait>(
+fn settle<N: ListName, R: Wait>(
     rt: &R,
     alloc: Global,
     live: Live<N>,
@@ -47,13 +47,13 @@ fn settle<N: Name, R: Wait>(
 /// records.
 type Counts = (Option<(u128, u64, u128)>, u64, usize);
 
-fn counts<N: Name>(settled: &Settled<N>) -> Counts {
+fn counts<N: ListName>(settled: &Settled<N>) -> Counts {
     let (front, records) = (settled.front().len(), settled.book().records().len());
     (sums(settled), front, records)
 }
 
 /// Whether each pass works, and what is counted then.
-fn settles_all_hits<N: Name, R: Wait>(
+fn settles_all_hits<N: ListName, R: Wait>(
     rt: &R,
     alloc: Global,
     opening: Opening,
@@ -82,7 +82,7 @@ fn all_hits_are_settled(rt: HostRuntime) -> Result<(), Fail> {
 type Late = (SettleFault, usize, bool, Counts);
 
 /// The passes that came back work, and that which was missing flushes: then all is settled.
-fn settle_with_all<N: Name, R: Wait>(
+fn settle_with_all<N: ListName, R: Wait>(
     rt: &R,
     alloc: Global,
     unsettled: Unsettled<N>,
@@ -102,7 +102,7 @@ fn settle_with_all<N: Name, R: Wait>(
 }
 
 /// What comes of a settlement without a pass that has worked.
-fn settle_without<N: Name, R: Wait>(
+fn settle_without<N: ListName, R: Wait>(
     rt: &R,
     alloc: Global,
     live: Live<N>,
@@ -116,7 +116,7 @@ fn settle_without<N: Name, R: Wait>(
     }
 }
 
-fn settles_late<N: Name, R: Wait>(rt: &R, alloc: Global, opening: Opening) -> Result<Late, Fail>
+fn settles_late<N: ListName, R: Wait>(rt: &R, alloc: Global, opening: Opening) -> Result<Late, Fail>
     requires name { opening.name ≡ N.book }
     requires definition { opening.definition ≡ N.definition }
     requires limits { opening.limits ≡ N.limits }
@@ -140,7 +140,7 @@ fn a_missing_pass_is_told_and_all_is_back(rt: HostRuntime) -> Result<(), Fail> {
 }
 
 /// What the next office is made of, once each pass has worked and all is settled.
-fn works_and_renews<N: Name, R: Wait>(
+fn works_and_renews<N: ListName, R: Wait>(
     rt: &R,
     alloc: Global,
     opening: Opening,

@@ -11,7 +11,7 @@ use Rattle.mh_tree.specs.Running.{value_of}
 use Rattle.mh_tree.specs.inner.Scoped.{IsIn, AllIn}
 use Rattle.mh_tree.specs.declared.operand.Operand.{Operand}
 use Rattle.mh_tree.specs.declared.operand.Operand.TheVariants.{Argument, Local, Constant}
-use Rattle.mh_code.specs.Routine.{Source, operand, operation, invocation, Routine, give, keep, pick, switch, Purpose, answer, local, truth, untruth}
+use Rattle.mh_code.specs.Routine.{Source, operand, operation, invocation, Routine, give, keep, pick, point, Purpose, answer, local, truth, untruth}
 use Rattle.mh_code.specs.inner.Runs.{source_outcome, source_steps, put, run_routine, routine_steps, purpose_outcome, purpose_steps}
 use Rattle.mh_code.specs.inner.Scope.{IsSourceIn, IsRoutineIn, IsPurposeIn}
 
@@ -42,7 +42,7 @@ module _ (C : ℕ → ℕ → Type 0) (k n d : ℕ) (v : Environment) (a l m : L
   routine_above (give s x) h = source_above x h
   routine_above (keep s x i r) h = λ j. source_above x h.0 j >>= (λ y. run_routine v r a (put_above i y h.1 j))
   routine_above (pick s x r q) h = λ j. source_above x h.0 j >>= (λ b. choose b (routine_above r h.1 j) (routine_above q h.2 j))
-  routine_above (switch s p r q) h = λ j. if is_valid v p then routine_above r h.1 j else routine_above q h.2 j
+  routine_above (point s p r q) h = λ j. if is_valid v p then routine_above r h.1 j else routine_above q h.2 j
 
   pub routine_steps_above : (r : Routine) → IsRoutineIn C k n d r → routine_steps v r a (l ++ m) ≡ routine_steps v r a l
   routine_steps_above (give s x) h = ap (λ i. s + i) (source_steps_above x h)
@@ -50,7 +50,7 @@ module _ (C : ℕ → ℕ → Type 0) (k n d : ℕ) (v : Environment) (a l m : L
       λ j. s + (source_steps_above x h.0 j + after (source_above x h.0 j) (λ y. routine_steps v r a (put_above i y h.1 j)))
   routine_steps_above (pick s x r q) h =
       λ j. s + (source_steps_above x h.0 j + after (source_above x h.0 j) (λ b. choose_steps b (routine_steps_above r h.1 j) (routine_steps_above q h.2 j)))
-  routine_steps_above (switch s p r q) h = λ j. s + (if is_valid v p then routine_steps_above r h.1 j else routine_steps_above q h.2 j)
+  routine_steps_above (point s p r q) h = λ j. s + (if is_valid v p then routine_steps_above r h.1 j else routine_steps_above q h.2 j)
 
   pub purpose_above : (u : Purpose) (x : Value) → IsPurposeIn C k n d u → purpose_outcome v u a (l ++ m) x ≡ purpose_outcome v u a l x
   purpose_above answer x h = refl

@@ -7,7 +7,7 @@ use Rattle.mh_type.specs.declared.value.Value.{Value}
 use Rattle.mh_type.specs.declared.value.Value.TheVariants as value
 use Rattle.mh_type.specs.declared.outcome.Outcome.{Outcome}
 use Rattle.mh_type.specs.declared.outcome.Outcome.TheVariants as outcome
-use Rattle.mh_tree.specs.Code.{Code, leaf, apply, bind, branch, switch as switch_code, call}
+use Rattle.mh_tree.specs.Code.{Code, leaf, apply, bind, branch, point as point_code, invoke}
 use Rattle.mh_tree.specs.Environment.{Environment}
 use Rattle.mh_tree.specs.Meaning.{◌>>=◌, choose, choose_steps, after, is_valid}
 use Rattle.mh_tree.specs.Running.{value_of, run_code, code_steps, weight as code_weight}
@@ -120,12 +120,12 @@ module _ (C : ℕ → ℕ → Type 0) (k n : ℕ) (v : Environment) (a : List Va
       ∙ (λ i. (s + m) + (code_steps v c a l + after (run_code v c a l) (λ b. chosen b (code_steps v x a l) (code_steps v y a l) (run_code v x a l) (run_code v y a l) (purpose_steps v u a l) i)))
       ∙ ap (λ i. (s + m) + i) (in_turn (run_code v c a l) (code_steps v c a l) (λ b. choose_steps b (code_steps v x a l) (code_steps v y a l)) (λ b. choose b (run_code v x a l) (run_code v y a l)) (purpose_steps v u a l))
       ∙ regrouped s m _ _ _
-  costs (switch_code m p x y) d s u l h g deep =
+  costs (point_code m p x y) d s u l h g deep =
       let one : routine_steps v (routine x d 0 u) a l ≡ code_steps v x a l + after (run_code v x a l) (purpose_steps v u a l) = costs x d 0 u l h.1 g deep ∙ omega arith in
       let other : routine_steps v (routine y d 0 u) a l ≡ code_steps v y a l + after (run_code v y a l) (purpose_steps v u a l) = costs y d 0 u l h.2 g deep ∙ omega arith in
       (λ i. (s + m) + (if is_valid v p then one i else other i))
       ∙ one_of (is_valid v p) s m (code_steps v x a l) (code_steps v y a l) (run_code v x a l) (run_code v y a l) (purpose_steps v u a l)
-  costs (call m site os) d s u l h g deep = used_costs d (s + m) (invocation site os) u l g deep ∙ omega arith
+  costs (invoke m site os) d s u l h g deep = used_costs d (s + m) (invocation site os) u l g deep ∙ omega arith
 
 -- it weighs at most as much as the code and what its value is for
 tested_weighs : (n d s : ℕ) (x : Source) (r q : Routine) → weight n (tested d s x r q) ≤ s + (source_weight n x + purpose_weight n (truth r q))
@@ -158,5 +158,5 @@ weighs n (bind m f c) d s u =
     omega (arith, weighs n f d (s + m) (bound d c u (routine c (d + 1) 0 u)), bound_weighs n d c u (routine c (d + 1) 0 u) (omega (arith, weighs n c (d + 1) 0 u)))
 weighs n (branch m c x y) d s u =
     omega (arith, weighs n c d (s + m) (truth (routine x d 0 u) (routine y d 0 u)), weighs n x d 0 u, weighs n y d 0 u)
-weighs n (switch_code m p x y) d s u = omega (arith, weighs n x d 0 u, weighs n y d 0 u)
-weighs n (call m site os) d s u = omega (arith, used_weighs n d (s + m) (invocation site os) u)
+weighs n (point_code m p x y) d s u = omega (arith, weighs n x d 0 u, weighs n y d 0 u)
+weighs n (invoke m site os) d s u = omega (arith, used_weighs n d (s + m) (invocation site os) u)

@@ -7,7 +7,7 @@ use Rattle.mh_type.specs.declared.value.Value.{Value}
 use Rattle.mh_type.specs.declared.value.Value.TheVariants as value
 use Rattle.mh_type.specs.declared.outcome.Outcome.{Outcome}
 use Rattle.mh_type.specs.declared.outcome.Outcome.TheVariants as outcome
-use Rattle.mh_tree.specs.Code.{Code, leaf, apply, bind, branch, switch as switch_code, call}
+use Rattle.mh_tree.specs.Code.{Code, leaf, apply, bind, branch, point as point_code, invoke}
 use Rattle.mh_tree.specs.Environment.{Environment}
 use Rattle.mh_tree.specs.Meaning.{◌>>=◌, choose, is_valid, argument}
 use Rattle.mh_tree.specs.Running.{value_of, run_code}
@@ -114,7 +114,7 @@ module _ (C : ℕ → ℕ → Type 0) (k n : ℕ) (v : Environment) (a : List Va
       ∙ (λ i. run_code v c a l >>= (λ b. choose b (means x d 0 u l h.1 g deep i) (means y d 0 u l h.2 g deep i)))
       ∙ (λ i. run_code v c a l >>= (λ b. chosen b (run_code v x a l) (run_code v y a l) (purpose_outcome v u a l) i))
       ∙ sym (in_turn (run_code v c a l) (λ b. choose b (run_code v x a l) (run_code v y a l)) (purpose_outcome v u a l))
-  means (switch_code m p x y) d s u l h g deep =
+  means (point_code m p x y) d s u l h g deep =
       (λ i. if is_valid v p then means x d 0 u l h.1 g deep i else means y d 0 u l h.2 g deep i)
       ∙ one_of (is_valid v p) (run_code v x a l) (run_code v y a l) (purpose_outcome v u a l)
-  means (call m site os) d s u l h g deep = used_means d (s + m) (invocation site os) u l g deep
+  means (invoke m site os) d s u l h g deep = used_means d (s + m) (invocation site os) u l g deep

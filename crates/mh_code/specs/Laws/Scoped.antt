@@ -1,10 +1,10 @@
 -- The routine of code that names only what is there names only what is there.
 use Rattle.std.proofs.Common.{Bool, true, false, ℕ, ◌+◌, ◌≤◌, List, [], ◌∷◌, arith, if◌then◌else◌}
-use Rattle.mh_tree.specs.Code.{Code, leaf, apply, bind, branch, switch as switch_code, call}
+use Rattle.mh_tree.specs.Code.{Code, leaf, apply, bind, branch, point as point_code, invoke}
 use Rattle.mh_tree.specs.inner.Scoped.{IsIn, AllIn, IsScoped}
 use Rattle.mh_tree.specs.declared.operand.Operand.{Operand}
 use Rattle.mh_tree.specs.declared.operand.Operand.TheVariants.{Argument, Local, Constant}
-use Rattle.mh_code.specs.Routine.{Source, operand, operation, invocation, Routine, give, keep, pick, switch, Purpose, answer, local, truth, untruth}
+use Rattle.mh_code.specs.Routine.{Source, operand, operation, invocation, Routine, give, keep, pick, point, Purpose, answer, local, truth, untruth}
 use Rattle.mh_code.specs.RoutineOf.{gives_truth, tested, negated_local, negated, used, bound, routine}
 use Rattle.mh_code.specs.inner.Scope.{IsSourceIn, IsRoutineIn, IsPurposeIn}
 use Rattle.mh_code.specs.Laws.Truths.{bound_by}
@@ -29,7 +29,7 @@ module _ (C : ℕ → ℕ → Type 0) (k n : ℕ) where
   routine_more d (give s x) h = source_more d x h
   routine_more d (keep s x i r) h = (source_more d x h.0, omega (arith, h.1), h.2)
   routine_more d (pick s x r q) h = (source_more d x h.0, routine_more d r h.1, routine_more d q h.2)
-  routine_more d (switch s p r q) h = (h.0, routine_more d r h.1, routine_more d q h.2)
+  routine_more d (point s p r q) h = (h.0, routine_more d r h.1, routine_more d q h.2)
 
   pub purpose_more : (d : ℕ) (u : Purpose) → IsPurposeIn C k n d u → IsPurposeIn C k n (d + 1) u
   purpose_more d answer h = tt
@@ -78,5 +78,5 @@ module _ (C : ℕ → ℕ → Type 0) (k n : ℕ) where
       routine_in f d (s + m) (bound d c u (routine c (d + 1) 0 u)) h.0 (bound_in d c u _ (routine_in c (d + 1) 0 u h.1 (purpose_more d u g)) g)
   routine_in (branch m c x y) d s u h g =
       routine_in c d (s + m) (truth (routine x d 0 u) (routine y d 0 u)) h.0 (routine_in x d 0 u h.1 g, routine_in y d 0 u h.2 g)
-  routine_in (switch_code m p x y) d s u h g = (h.0, routine_in x d 0 u h.1 g, routine_in y d 0 u h.2 g)
-  routine_in (call m site os) d s u h g = used_in d (s + m) (invocation site os) u h g
+  routine_in (point_code m p x y) d s u h g = (h.0, routine_in x d 0 u h.1 g, routine_in y d 0 u h.2 g)
+  routine_in (invoke m site os) d s u h g = used_in d (s + m) (invocation site os) u h g

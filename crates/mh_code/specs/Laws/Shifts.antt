@@ -1,12 +1,12 @@
 -- Steps before code may be counted in it or before it.
 use Rattle.std.proofs.Common.{◌≡◌, Bool, true, false, if◌then◌else◌, ℕ, ◌+◌, refl, ap, sym, ◌∙◌, List, [], ◌∷◌, ◌++◌, take, drop, map, length, arith, zero-add}
 use Rattle.mh_type.specs.Operations.{op_signature}
-use Rattle.mh_tree.specs.Code.{Code, leaf, apply, bind, branch, switch as switch_code, call}
+use Rattle.mh_tree.specs.Code.{Code, leaf, apply, bind, branch, point as point_code, invoke as code_invoke}
 use Rattle.mh_tree.specs.Prepared.{operand_at, prepared, prepared_filters}
 use Rattle.mh_tree.specs.Tree.{Tree, Filters, constant, identity, operation as operation_tree, insert, discard, permute, filter, filter_return, fold, guard, point, invoke, no_more, absent, present}
 use Rattle.mh_tree.specs.declared.operand.Operand.{Operand}
 use Rattle.mh_tree.specs.declared.operand.Operand.TheVariants.{Constant}
-use Rattle.mh_code.specs.Routine.{Source, operand, operation, invocation, Routine, give, keep, pick, switch, Purpose, answer, local, truth, untruth}
+use Rattle.mh_code.specs.Routine.{Source, operand, operation, invocation, Routine, give, keep, pick, point as routine_point, Purpose, answer, local, truth, untruth}
 use Rattle.mh_code.specs.RoutineOf.{gives_truth, tested, negated_local, negated, used, routine, after_steps}
 
 -- the same code with as many steps before it
@@ -42,7 +42,7 @@ mutual
   shifts (filter_return t f) env d s m u = same_steps (prepared t env d 0) d _ _ _ (omega arith)
   shifts (fold t c) env d s m u = same_steps (prepared c env d 0) d _ _ _ (omega arith)
   shifts (guard c x y) env d s m u = same_steps (prepared c env d 0) d _ _ _ (omega arith)
-  shifts (point p x y) env d s m u = ap (λ i. switch i p (routine (prepared x env d 0) d 0 u) (routine (prepared y env d 0) d 0 u)) (omega arith)
+  shifts (point p x y) env d s m u = ap (λ i. routine_point i p (routine (prepared x env d 0) d 0 u) (routine (prepared y env d 0) d 0 u)) (omega arith)
   shifts (invoke k n) env d s m u = ap (λ i. used d i (invocation k (take (length n.parameters) env)) u) (omega arith)
 
   shifts_filters : (fs : Filters) (p : ℕ) (env : List Operand) (d s m : ℕ) (u : Purpose) (go : List Operand → ℕ → ℕ → Code) → ((env' : List Operand) (d' s' m' : ℕ) → routine (go env' d' s') d' m' u ≡ routine (go env' d' 0) d' (m' + s') u) → routine (prepared_filters fs p env d s go) d m u ≡ routine (prepared_filters fs p env d 0 go) d (m + s) u
@@ -76,12 +76,12 @@ routine_after (leaf n o) d s m u = ap (λ i. used d i (operand o) u) (omega arit
 routine_after (apply n op x y) d s m u = ap (λ i. used d i (operation op x y) u) (omega arith) ∙ used_after d s (m + n) (operation op x y) u
 routine_after (bind n f c) d s m u = same_steps f d ((s + m) + n) (s + (m + n)) _ (omega arith) ∙ routine_after f d s (m + n) _
 routine_after (branch n c x y) d s m u = same_steps c d ((s + m) + n) (s + (m + n)) _ (omega arith) ∙ routine_after c d s (m + n) _
-routine_after (switch_code n p x y) d s m u = ap (λ i. switch i p (routine x d 0 u) (routine y d 0 u)) (omega arith)
-routine_after (call n site os) d s m u = ap (λ i. used d i (invocation site os) u) (omega arith) ∙ used_after d s (m + n) (invocation site os) u
+routine_after (point_code n p x y) d s m u = ap (λ i. routine_point i p (routine x d 0 u) (routine y d 0 u)) (omega arith)
+routine_after (code_invoke n site os) d s m u = ap (λ i. used d i (invocation site os) u) (omega arith) ∙ used_after d s (m + n) (invocation site os) u
 
 -- no steps
 pub no_steps : (r : Routine) → after_steps 0 r ≡ r
 no_steps (give n x) = ap (λ i. give i x) (zero-add n)
 no_steps (keep n x i r) = ap (λ j. keep j x i r) (zero-add n)
 no_steps (pick n x r q) = ap (λ i. pick i x r q) (zero-add n)
-no_steps (switch n p r q) = ap (λ i. switch i p r q) (zero-add n)
+no_steps (routine_point n p r q) = ap (λ i. routine_point i p r q) (zero-add n)

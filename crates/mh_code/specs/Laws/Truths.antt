@@ -10,7 +10,7 @@ use Rattle.mh_type.specs.declared.outcome.Outcome.{Outcome}
 use Rattle.mh_type.specs.declared.outcome.Outcome.TheVariants as outcome
 use Rattle.mh_type.specs.declared.value.Value.{Value}
 use Rattle.mh_type.specs.declared.value.Value.TheVariants.{Int, Long, Boolean, Text}
-use Rattle.mh_tree.specs.Code.{Code, leaf, apply, bind, branch, switch as switch_code, call}
+use Rattle.mh_tree.specs.Code.{Code, leaf, apply, bind, branch, point as point_code, invoke}
 use Rattle.mh_tree.specs.Meaning.{argument}
 use Rattle.mh_tree.specs.declared.operand.Operand.{Operand}
 use Rattle.mh_tree.specs.declared.operand.Operand.TheVariants.{Argument, Local, Constant}
@@ -133,8 +133,8 @@ negates_is i (apply n op x y) h =
     (y, λ j. apply (eqb-true n 1 first.0 j) (is_not_is op first.1 j) (is_local_is i x all.1 j) y)
 negates_is i (bind n f g) h = cc
 negates_is i (branch n c x y) h = cc
-negates_is i (switch_code n p x y) h = cc
-negates_is i (call n s os) h = cc
+negates_is i (point_code n p x y) h = cc
+negates_is i (invoke n s os) h = cc
 
 -- what holds where the second of two parts negates the first, and where it is as any other
 pub bound_by : (P : Code → Purpose → Purpose → Type 0) (d : ℕ) (c : Code) (u : Purpose) (r : Routine) → P c u (local d r) → ((x q : Routine) (y : Operand) → P (apply 1 Not (Local d) y) (truth x q) (untruth x q)) → P c u (bound d c u r)

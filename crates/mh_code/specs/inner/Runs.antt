@@ -8,7 +8,7 @@ use Rattle.mh_type.specs.declared.operation.Op.TheVariants.{Not}
 use Rattle.mh_tree.specs.Meaning.{◌>>=◌, choose, choose_steps, after, is_valid}
 use Rattle.mh_tree.specs.Environment.{Environment, Steps}
 use Rattle.mh_tree.specs.Running.{value_of}
-use Rattle.mh_code.specs.Routine.{Source, operand, operation, invocation, Routine, give, keep, pick, switch, Purpose, answer, local, truth, untruth}
+use Rattle.mh_code.specs.Routine.{Source, operand, operation, invocation, Routine, give, keep, pick, point, Purpose, answer, local, truth, untruth}
 
 abbrev pub source_outcome : Environment → Source → List Value → List Value → Outcome
 source_outcome v (operand o) a l = outcome.Value (value_of a l o)
@@ -32,7 +32,7 @@ run_routine v (keep s x i r) a l = do
 run_routine v (pick s x r q) a l = do
   b ← source_outcome v x a l
   choose b (run_routine v r a l) (run_routine v q a l)
-run_routine v (switch s p r q) a l = if is_valid v p then run_routine v r a l else run_routine v q a l
+run_routine v (point s p r q) a l = if is_valid v p then run_routine v r a l else run_routine v q a l
 
 -- the steps that it takes
 abbrev pub routine_steps : Environment → Routine → List Value → List Value → Steps
@@ -41,7 +41,7 @@ routine_steps v (keep s x i r) a l =
     s + (source_steps v x a l + after (source_outcome v x a l) (λ y. routine_steps v r a (put l i y)))
 routine_steps v (pick s x r q) a l =
     s + (source_steps v x a l + after (source_outcome v x a l) (λ b. choose_steps b (routine_steps v r a l) (routine_steps v q a l)))
-routine_steps v (switch s p r q) a l = s + (if is_valid v p then routine_steps v r a l else routine_steps v q a l)
+routine_steps v (point s p r q) a l = s + (if is_valid v p then routine_steps v r a l else routine_steps v q a l)
 
 -- what is done with a value
 abbrev pub purpose_outcome : Environment → Purpose → List Value → List Value → Value → Outcome
@@ -71,7 +71,7 @@ abbrev pub weight : ℕ → Routine → ℕ
 weight n (give s x) = s + source_weight n x
 weight n (keep s x i r) = s + (source_weight n x + weight n r)
 weight n (pick s x r q) = s + (source_weight n x + max (weight n r) (weight n q))
-weight n (switch s p r q) = s + max (weight n r) (weight n q)
+weight n (point s p r q) = s + max (weight n r) (weight n q)
 
 -- that of what is done with a value
 abbrev pub purpose_weight : ℕ → Purpose → ℕ

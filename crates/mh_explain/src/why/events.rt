@@ -1,6 +1,6 @@
 //! Events that were refused.
 use crate::found::cut;
-use crate::path::Path;
+use crate::path::ShownPath;
 use crate::scope::scope_at;
 use crate::values::{items, items_at, known, named_behind};
 use crate::why::definitions::Site;
@@ -74,7 +74,7 @@ pub(crate) fn reasons_of_event(
     let part = part_at(event, reason.items.as_slice());
     let found = cut(alloc, part.to_string(alloc)?)?;
     let keys = keys_to(alloc, place, reason.items.as_slice())?;
-    let path = Path {
+    let path = ShownPath {
         keys: keys.as_slice(),
     };
     let why = reason.why;

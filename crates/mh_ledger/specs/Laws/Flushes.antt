@@ -3,7 +3,7 @@ use Rattle.std.proofs.Common.{◌≡◌, ℕ, ◌+◌, ◌<◌, ◌≤◌, [], l
 use Rattle.std.proofs.lemmas.List.Elements.{All-set}
 use Rattle.std.proofs.lemmas.List.Sums.{sum_by-set, get_or-le-sum_by}
 use Rattle.std.specs.List.{sum_by}
-use Rattle.mh_ledger.specs.Ledgers.{at, added, made, share_of, settled, flushed_into, HasRoom, Holds, IsLedger, IsTotals, LedgerState, TotalsState}
+use Rattle.mh_ledger.specs.Ledgers.{at, added, made, share_of, settled, flushed_into, FlushFits, Holds, IsLedger, IsTotals, LedgerState, TotalsState}
 use Rattle.mh_ledger.specs.Laws.Added.{length-added, at-added, all_added, at-zeros}
 
 -- as many links as the totals have
@@ -22,7 +22,7 @@ held_at t l j is held =
     omega (arith, within, same, sum)
 
 -- all hits of a ledger fit where the totals have room for it
-pub made_fits : (t : TotalsState) (l : LedgerState) → IsTotals t → IsLedger l → Holds t l → HasRoom t l → (j : ℕ) → j < length l.unflushed → made l j ≤ 2 ^ 62
+pub made_fits : (t : TotalsState) (l : LedgerState) → IsTotals t → IsLedger l → Holds t l → FlushFits t l → (j : ℕ) → j < length l.unflushed → made l j ≤ 2 ^ 62
 made_fits t l is ledger held room j in' =
     let fits : at t.total j + at l.unflushed j ≤ t.limit = room j (omega (arith, in', held_links t l is ledger held)) in
     let part = held_at t l j is held in
@@ -40,7 +40,7 @@ new_sum t l is ledger held j =
     omega (arith, total, share, moved, sum)
 
 -- totals stay totals
-pub flushed_sound : (t : TotalsState) (l : LedgerState) → IsTotals t → IsLedger l → Holds t l → HasRoom t l → IsTotals (flushed_into t l)
+pub flushed_sound : (t : TotalsState) (l : LedgerState) → IsTotals t → IsLedger l → Holds t l → FlushFits t l → IsTotals (flushed_into t l)
 flushed_sound t l is ledger held room = record {
   lengths =
       let total = length-added t.total l.unflushed in

@@ -10,7 +10,8 @@ use Rattle.std.proofs.lemmas.Bool.{cond-false, true≢false}
 use Rattle.mh_network.specs.declared.link_row.LinkRow.{LinkRow}
 use Rattle.mh_network.specs.Sums.{sum_below}
 use Rattle.mh_network.specs.Laws.Members.{member_is}
-use Rattle.mh_network.specs.Limits.{most_links, most_points, most_needs, greatest_count}
+use Rattle.mh_base.specs.Limits.{most_needs}
+use Rattle.mh_network.specs.Limits.{most_links, most_points, greatest_count}
 use Rattle.mh_base.specs.Tests.{Passes}
 use Rattle.mh_network.specs.Problems.{IsProblem, sum_of_gains, sum_of_costs, sum_of_charges, no_link, kept_gain, kept_row, problem_of, limited_tests, problem_tests, large_tests}
 

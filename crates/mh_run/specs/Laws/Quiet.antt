@@ -1,7 +1,7 @@
 -- The routine of quiet code is quiet, where what its value is for is.
 use Rattle.std.proofs.Common.{◌≡◌, Bool, true, false, ℕ, ◌+◌, ◌≤◌, refl, sym, subst, List, [], ◌∷◌, ◌++◌, length, length-append, arith, if◌then◌else◌}
 use Rattle.std.specs.Prelude.{max}
-use Rattle.mh_code.specs.Routine.{Source, operand, operation, invocation, Routine, give, keep, pick, switch, Purpose, answer, local, truth, untruth}
+use Rattle.mh_code.specs.Routine.{Source, operand, operation, invocation, Routine, give, keep, pick, point, Purpose, answer, local, truth, untruth}
 use Rattle.mh_code.specs.RoutineOf.{gives_truth, tested, negated_local, negated, used, bound, routine}
 use Rattle.mh_code.specs.inner.Runs.{source_outcome, put}
 use Rattle.mh_code.specs.inner.Scope.{IsSourceIn, IsRoutineIn, IsPurposeIn}
@@ -12,7 +12,7 @@ use Rattle.mh_code.specs.Laws.Truths.{bound_by, last_local, true_or_false}
 use Rattle.mh_eval.specs.Entered.{WithValue, Chosen, OneOf, plain_below}
 use Rattle.mh_eval.specs.Quiet.{IsQuiet, NoTexts, deep}
 use Rattle.mh_run.specs.inner.Quiet.{IsSourceQuiet, IsTestQuiet, IsRoutineQuiet, IsPurposeQuiet, slots, purpose_slots}
-use Rattle.mh_tree.specs.Code.{Code, leaf, apply, bind, branch, switch as switch_code, call}
+use Rattle.mh_tree.specs.Code.{Code, leaf, apply, bind, branch, point as point_code, invoke}
 use Rattle.mh_tree.specs.Meaning.{◌>>=◌, choose, is_valid}
 use Rattle.mh_tree.specs.Running.{run_code, value_of}
 use Rattle.mh_tree.specs.inner.Scoped.{IsScoped}
@@ -95,7 +95,7 @@ module _ (C : ℕ → ℕ → Type 0) (k n d : ℕ) (v : Setting) (a l m : List 
     with_map _ _ _ (λ b. chosen_map b _ _ _ _ (routine_still r h.1) (routine_still r' h.2))
         (kept_still x h.0 (λ b. Chosen b (IsRoutineQuiet v r a l) (IsRoutineQuiet v r' a l)) q.1),
   )
-  routine_still (switch s p r r') h q = one_map (is_valid (env v) p) _ _ _ _ (routine_still r h.1) (routine_still r' h.2) q
+  routine_still (point s p r r') h q = one_map (is_valid (env v) p) _ _ _ _ (routine_still r h.1) (routine_still r' h.2) q
 
   purpose_still : (u : Purpose) (x : Value) → IsPurposeIn C k n d u → IsPurposeQuiet v u a l x → IsPurposeQuiet v u a (l ++ m) x
   purpose_still answer x h q = tt
@@ -176,9 +176,9 @@ module _ (C : ℕ → ℕ → Type 0) (k n : ℕ) (v : Setting) (a : List Value)
       quiet c d (s + m) (truth (routine x d 0 u) (routine y d 0 u)) l h.0 (routine_in C k n x d 0 u h.1 g, routine_in C k n y d 0 u h.2 g) e q.0
       (in_turn (run_code (env v) c a l) (λ b. choose b (run_code (env v) x a l) (run_code (env v) y a l)) (λ b. Chosen b (IsQuiet v x a l) (IsQuiet v y a l)) (IsPurposeQuiet v u a l) _ q.1 p
       (λ b e' w. chosen b (run_code (env v) x a l) (run_code (env v) y a l) _ _ _ _ _ e' w (quiet x d 0 u l h.1 g e) (quiet y d 0 u l h.2 g e)))
-  quiet (switch_code m j x y) d s u l h g e q p =
+  quiet (point_code m j x y) d s u l h g e q p =
       one (is_valid (env v) j) (run_code (env v) x a l) (run_code (env v) y a l) _ _ _ _ _ q p (quiet x d 0 u l h.1 g e) (quiet y d 0 u l h.2 g e)
-  quiet (call m site os) d s u l h g e q p = used_quiet d (s + m) (invocation site os) u l g e q p
+  quiet (invoke m site os) d s u l h g e q p = used_quiet d (s + m) (invocation site os) u l g e q p
 
 -- it takes one place more than the code has locals at once
 tested_slots : (d s : ℕ) (x : Source) (r q : Routine) → slots (tested d s x r q) ≤ max (d + 1) (max (slots r) (slots q))
@@ -211,5 +211,5 @@ few_slots (bind m f c) d s u =
     omega (arith, few_slots f d (s + m) (bound d c u (routine c (d + 1) 0 u)), bound_slots d c u (routine c (d + 1) 0 u), few_slots c (d + 1) 0 u)
 few_slots (branch m c x y) d s u =
     omega (arith, few_slots c d (s + m) (truth (routine x d 0 u) (routine y d 0 u)), few_slots x d 0 u, few_slots y d 0 u)
-few_slots (switch_code m j x y) d s u = omega (arith, few_slots x d 0 u, few_slots y d 0 u)
-few_slots (call m site os) d s u = omega (arith, used_slots d (s + m) (invocation site os) u)
+few_slots (point_code m j x y) d s u = omega (arith, few_slots x d 0 u, few_slots y d 0 u)
+few_slots (invoke m site os) d s u = omega (arith, used_slots d (s + m) (invocation site os) u)

@@ -1,6 +1,6 @@
 -- Routines that run with no further memory: what runs gives no text, and joins none.
 use Rattle.std.specs.Prelude.{◌≡◌, ℕ, ◌+◌, max, List, [], ◌∷◌, map}
-use Rattle.mh_code.specs.Routine.{Source, operand, operation, invocation, Routine, give, keep, pick, switch, Purpose, answer, local, truth, untruth}
+use Rattle.mh_code.specs.Routine.{Source, operand, operation, invocation, Routine, give, keep, pick, point, Purpose, answer, local, truth, untruth}
 use Rattle.mh_code.specs.inner.Runs.{source_outcome, put}
 use Rattle.mh_eval.specs.Entered.{WithValue, Chosen, OneOf, plain_below}
 use Rattle.mh_eval.specs.Quiet.{NoTexts}
@@ -31,7 +31,7 @@ IsRoutineQuiet v (keep s x i r) a l =
     IsSourceQuiet v x a l × WithValue (source_outcome (env v) x a l) (λ y. IsRoutineQuiet v r a (put l i y))
 IsRoutineQuiet v (pick s x r q) a l =
     IsTestQuiet v x a l × WithValue (source_outcome (env v) x a l) (λ b. Chosen b (IsRoutineQuiet v r a l) (IsRoutineQuiet v q a l))
-IsRoutineQuiet v (switch s p r q) a l = OneOf (is_valid (env v) p) (IsRoutineQuiet v r a l) (IsRoutineQuiet v q a l)
+IsRoutineQuiet v (point s p r q) a l = OneOf (is_valid (env v) p) (IsRoutineQuiet v r a l) (IsRoutineQuiet v q a l)
 
 -- what is done with a value
 abbrev pub IsPurposeQuiet : Setting → Purpose → List Value → List Value → Value → Type 0
@@ -45,7 +45,7 @@ abbrev pub slots : Routine → ℕ
 slots (give s x) = 0
 slots (keep s x i r) = max (i + 1) (slots r)
 slots (pick s x r q) = max (slots r) (slots q)
-slots (switch s p r q) = max (slots r) (slots q)
+slots (point s p r q) = max (slots r) (slots q)
 
 abbrev pub purpose_slots : Purpose → ℕ
 purpose_slots answer = 0

@@ -13,9 +13,8 @@ use Rattle.mh_site.specs.declared.site.Site.{Site}
 use Rattle.mh_site.specs.declared.world.SiteWorld.{SiteWorld}
 use Rattle.mh_tree.specs.Handle.{TypedTree}
 use Rattle.mh_tree.specs.Typing.{IsTyped}
-use Rattle.mh_site.specs.SiteStates.{plain_site, site_state, site_states}
+use Rattle.mh_site.specs.Worlds.{plain_site, site_state, site_states, AreTyped, opening, SiteState, WorldState, no_state, retargeted, relinked, relink_site, after, replay, IsWorld, state_at}
 use Rattle.mh_site.specs.Defined.{no_site, no_tree}
-use Rattle.mh_site.specs.Worlds.{AreTyped, opening, SiteState, WorldState, no_state, retargeted, relinked, relink_site, after, replay, IsWorld, state_at}
 
 -- whether a number is below another
 below : (m n : ℕ) → (m < n) ⊎ (n ≤ m)

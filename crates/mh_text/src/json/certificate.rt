@@ -1,94 +1,72 @@
 //! Plans as JSON.
 ghost use Rattle.std.specs.Prelude.{◌≡◌, ◌++◌, codes, map, string_bytes, IfOk, OnOk};
-ghost use Rattle.serde_json.specs.Data.{object, member};
-ghost use Rattle.serde_json.specs.View.{view};
-ghost use Rattle.mh_text.specs.PlanLines.{charge_data, charges_data, count_data, counts_data, flow_data, row_data, uncharged, plan_data, plan_json as json_of};
+ghost use Rattle.serde_json.specs.Data.{Data, array, object, member};
+ghost use Rattle.serde_json.specs.View.{view, items_of};
+ghost use Rattle.mh_text.specs.PlanLines.{charge_data, count_data, row_data, uncharged, plan_data, plan_json as json_of};
 
 use mh_cert::Plan;
 use serde_json::{Value, json};
 use std::alloc::{AllocError, Global};
 
-/// Appends a JSON number for each.
-fn push_counts(list: &mut Vec<Value>, numbers: &[u32]) -> Result<(), AllocError>
-    ensures value { OnOk result (map view list.new.items
-        ≡ map view list.old.items ++ map count_data numbers.now) }
-{
-    for number in numbers {
-        list.push(Value::from(*number))?;
+/// An item of a list that a plan has.
+trait ListItem {
+    ghost json: { Self → Data };
+
+    /// The item as JSON.
+    fn value(&self, alloc: Global) -> Result<Value, AllocError>
+        ensures value { IfOk result (λ v. view v ≡ json self.now) };
+}
+
+/// The number of a link or a point.
+impl ListItem for u32 {
+    ghost json = { count_data };
+
+    fn value(&self, _alloc: Global) -> Result<Value, AllocError> {
+        Ok(Value::from(*self))
     }
-    Ok(())
 }
 
-/// A JSON array of numbers.
-fn counts_value(alloc: Global, numbers: &[u32]) -> Result<Value, AllocError>
-    ensures value { IfOk result (λ v. view v ≡ counts_data numbers.now) }
-{
-    let mut list = Vec::new(alloc);
-    push_counts(&mut list, numbers)?;
-    Ok(Value::Array(list))
+/// A row of a flow: link, point, amount.
+impl ListItem for (u32, u32, u64) {
+    ghost json = { row_data };
+
+    fn value(&self, alloc: Global) -> Result<Value, AllocError> {
+        let (link, point, amount) = *self;
+        json!(in alloc; [link, point, amount])
+    }
 }
 
-/// A JSON array of a link, a point and an amount.
-fn row_value(alloc: Global, row: &(u32, u32, u64)) -> Result<Value, AllocError>
-    ensures value { IfOk result (λ v. view v ≡ row_data row.now) }
-{
-    let (link, point, amount) = *row;
-    json!(in alloc; [link, point, amount])
+/// A row of charges: link, amount.
+impl ListItem for (u32, u64) {
+    ghost json = { charge_data };
+
+    fn value(&self, alloc: Global) -> Result<Value, AllocError> {
+        let (link, amount) = *self;
+        json!(in alloc; [link, amount])
+    }
 }
 
-/// Appends a JSON array for each row of a flow.
-fn push_rows(
+/// Appends each item as JSON.
+fn push_items<T: ListItem>(
     alloc: Global,
     list: &mut Vec<Value>,
-    flow: &[(u32, u32, u64)],
+    items: &[T],
 ) -> Result<(), AllocError>
     ensures value { OnOk result (map view list.new.items
-        ≡ map view list.old.items ++ map row_data flow.now) }
+        ≡ map view list.old.items ++ map T.json items.now) }
 {
-    for row in flow {
-        list.push(row_value(alloc, row)?)?;
+    for item in items {
+        list.push(item.value(alloc)?)?;
     }
     Ok(())
 }
 
-/// A JSON array of the rows of a flow.
-fn flow_value(alloc: Global, flow: &[(u32, u32, u64)]) -> Result<Value, AllocError>
-    ensures value { IfOk result (λ v. view v ≡ flow_data flow.now) }
+/// A list as a JSON array.
+fn list_value<T: ListItem>(alloc: Global, items: &[T]) -> Result<Value, AllocError>
+    ensures value { IfOk result (λ v. view v ≡ array (items_of (map T.json items.now))) }
 {
     let mut list = Vec::new(alloc);
-    push_rows(alloc, &mut list, flow)?;
-    Ok(Value::Array(list))
-}
-
-/// A JSON array of a link and an amount.
-fn charge_value(alloc: Global, row: &(u32, u64)) -> Result<Value, AllocError>
-    ensures value { IfOk result (λ v. view v ≡ charge_data row.now) }
-{
-    let (link, amount) = *row;
-    json!(in alloc; [link, amount])
-}
-
-/// Appends a JSON array for each row of charges.
-fn push_charges(
-    alloc: Global,
-    list: &mut Vec<Value>,
-    charges: &[(u32, u64)],
-) -> Result<(), AllocError>
-    ensures value { OnOk result (map view list.new.items
-        ≡ map view list.old.items ++ map charge_data charges.now) }
-{
-    for row in charges {
-        list.push(charge_value(alloc, row)?)?;
-    }
-    Ok(())
-}
-
-/// A JSON array of the rows of charges.
-fn charges_value(alloc: Global, charges: &[(u32, u64)]) -> Result<Value, AllocError>
-    ensures value { IfOk result (λ v. view v ≡ charges_data charges.now) }
-{
-    let mut list = Vec::new(alloc);
-    push_charges(alloc, &mut list, charges)?;
+    push_items(alloc, &mut list, items)?;
     Ok(Value::Array(list))
 }
 
@@ -126,13 +104,13 @@ fn charged_value(
 fn plan_value(alloc: Global, plan: &Plan) -> Result<Value, AllocError>
     ensures value { IfOk result (λ v. view v ≡ plan_data plan.now) }
 {
-    let flow = flow_value(alloc, plan.flow.as_slice())?;
-    let links = counts_value(alloc, plan.links.as_slice())?;
-    let points = counts_value(alloc, plan.points.as_slice())?;
+    let flow = list_value(alloc, plan.flow.as_slice())?;
+    let links = list_value(alloc, plan.links.as_slice())?;
+    let points = list_value(alloc, plan.points.as_slice())?;
     if plan.charges.len() == 0 {
         return uncharged_value(alloc, flow, links, points, plan.value);
     }
-    let charges = charges_value(alloc, plan.charges.as_slice())?;
+    let charges = list_value(alloc, plan.charges.as_slice())?;
     charged_value(alloc, charges, flow, links, points, plan.value)
 }
 

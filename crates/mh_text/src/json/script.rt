@@ -23,13 +23,11 @@ use crate::json::wanted::Wanted;
 use crate::key::Field;
 use crate::misfit::misread_of_misfit;
 use crate::misread::Misread;
+use mh_base::MOST_WORKERS;
 use mh_core::Limits;
 use mh_site::{Definition, Listing, Point, Site, Version};
 use serde_json::Value;
 use std::alloc::Global;
-
-/// The most workers of a script.
-pub(crate) const MOST_WORKERS: usize = 64;
 
 /// What a run needs.
 #[derive(Debug, Drop)]
@@ -108,7 +106,7 @@ pub fn read_definition(alloc: Global, value: &Value) -> Result<Declarations, Mis
 fn read_workers(value: &Value) -> Result<u32, Misread>
     ensures value { Gives (λ x. x) result (workers_of (view value.now)) }
 {
-    let workers = count(value, MOST_WORKERS as u64, Wanted::Workers)?;
+    let workers = count(value, u64::from(MOST_WORKERS), Wanted::Workers)?;
     if workers == 0 {
         return Err(Misread::bad_shape(Wanted::Workers));
     }

@@ -8,6 +8,7 @@ use crate::json::shape::{amount, count, member_or};
 use crate::json::wanted::Wanted;
 use crate::key::Field;
 use crate::misread::Misread;
+use mh_network::MOST_LINKS;
 use mh_site::Version;
 use serde_json::Value;
 use std::alloc::Global;
@@ -51,6 +52,6 @@ pub fn most_links(version: Version) -> usize
 {
     match version {
         Version::One => 4096,
-        Version::Two => 16384,
+        Version::Two => MOST_LINKS,
     }
 }

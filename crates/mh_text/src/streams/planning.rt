@@ -6,7 +6,7 @@ ghost use Rattle.mh_text.specs.Bytes.{HasFailed, LosesAtMost, most_bytes};
 ghost use Rattle.mh_text.specs.Gives.{no_memory, IsHonest, IsHonestReading, IsOfInput, NoOtherFailed};
 ghost use Rattle.mh_text.specs.Output.{IsUnread, outside};
 ghost use Rattle.mh_text.specs.Planning.{IsProblemBy, IsProblemInput, IsProblemFault, IsProblemFaultBy, IsPlanOf, IsPlanned, IsPlannedBy, IsCutShort, FailsPlan, FailsPlanBy, line_where, lines_for};
-ghost use Rattle.mh_text.specs.Script.{most_workers};
+ghost use Rattle.mh_base.specs.Limits.{most_workers};
 ghost use Rattle.mh_text.specs.declared.fault.TextFault.TheVariants.{ReadFailed, WriteFailed};
 
 use crate::fault::Fault;

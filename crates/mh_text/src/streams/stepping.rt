@@ -6,12 +6,12 @@ ghost use Rattle.mh_core.specs.Histories.{records};
 ghost use Rattle.mh_core.specs.Legal.{Step as legal_step};
 ghost use Rattle.mh_core.specs.Problems.{IsTaken, problem_at};
 ghost use Rattle.mh_core.specs.declared.event.Event.TheVariants.{Publish};
-ghost use Rattle.mh_text.specs.Script.{most_workers};
+ghost use Rattle.mh_base.specs.Limits.{most_workers};
 ghost use Rattle.mh_text.specs.Steps.{Answers, IsUnplanned, IsBestFor};
 ghost use Rattle.mh_text.specs.declared.json.step.Step.TheVariants.{Plan as ask_plan};
 
-use crate::json::script::MOST_WORKERS;
 use crate::json::step::Step;
+use mh_base::MOST_WORKERS;
 use mh_core::{Machine, Refusal, Reply, SharedPlan};
 use mh_network::Problem;
 use mh_plan::{OpenGate, plan};
@@ -81,7 +81,7 @@ fn make_plan<T: Threads + Sync>(
         (Reply.Refused told)) }
 {
     let problem = machine.book().problem(snapshot)?;
-    let workers = (machine.workers() as usize).clamp(1, MOST_WORKERS);
+    let workers = (machine.workers() as usize).clamp(1, MOST_WORKERS as usize);
     let plan = best_plan(rt, alloc, &problem, workers)?;
     Ok(plan)
 }

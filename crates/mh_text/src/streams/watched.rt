@@ -12,7 +12,7 @@ use std::io::ErrorKind;
 ///
 /// A read, a write or a flush that gives an error is a failure, and so is a write that takes none
 /// of its bytes. One that a signal interrupted (`ErrorKind::Interrupted`) is tried again, as by
-/// `std::io::Write::write_all`, and is none. The count is private, so that it tells of calls that
+/// `std::io::Write::write_all`, and is none. The count is private, so that it is of calls that
 /// were made; it begins again at 0 after 2^64 - 1.
 #[derive(Debug, Drop)]
 pub struct Watched<T> {

@@ -1,6 +1,6 @@
 -- Code that names only what is there.
 use Rattle.std.specs.Prelude.{ℕ, ◌+◌, ◌<◌, List, [], ◌∷◌, length}
-use Rattle.mh_tree.specs.Code.{Code, leaf, apply, bind, branch, switch, call}
+use Rattle.mh_tree.specs.Code.{Code, leaf, apply, bind, branch, point, invoke}
 use Rattle.mh_tree.specs.declared.operand.Operand.{Operand}
 use Rattle.mh_tree.specs.declared.operand.Operand.TheVariants.{Argument, Local, Constant}
 
@@ -21,5 +21,5 @@ IsScoped C k n d (leaf s o) = IsIn n d o
 IsScoped C k n d (apply s op x y) = IsIn n d x × IsIn n d y
 IsScoped C k n d (bind s f g) = IsScoped C k n d f × IsScoped C k n (d + 1) g
 IsScoped C k n d (branch s c x y) = IsScoped C k n d c × IsScoped C k n d x × IsScoped C k n d y
-IsScoped C k n d (switch s p x y) = (p < k) × IsScoped C k n d x × IsScoped C k n d y
-IsScoped C k n d (call s site os) = C site (length os) × AllIn n d os
+IsScoped C k n d (point s p x y) = (p < k) × IsScoped C k n d x × IsScoped C k n d y
+IsScoped C k n d (invoke s site os) = C site (length os) × AllIn n d os

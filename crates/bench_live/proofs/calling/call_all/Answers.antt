@@ -10,7 +10,7 @@ map_vec-requires-send-J g c κs within =
 
 pub map_vec-requires-send-X : goal.map_vec-requires-send-X
 map_vec-requires-send-X g c κs within =
-    param_send 2 _ (arg_send _ no _ (worked_send (param 0 g.row.N) g.N.Name c.cross_threads.ensures.pass))
+    param_send 2 _ (arg_send _ no _ (worked_send (param 0 g.row.N) g.N.ListName c.cross_threads.ensures.pass))
 
 pub map_vec-requires-sync-F : goal.map_vec-requires-sync-F
 map_vec-requires-sync-F g c κs within =

@@ -19,5 +19,5 @@ join-worked-requires-send-F g c κs within =
 
 pub join-worked-requires-send-A : goal.join-worked-requires-send-A
 join-worked-requires-send-A g c κs within =
-    let w = worked_send (param 0 g.row.N) g.N.Name c.cross_threads.ensures.pass in
+    let w = worked_send (param 0 g.row.N) g.N.ListName c.cross_threads.ensures.pass in
     search lists depth 60 fits 20000

@@ -8,11 +8,11 @@ returns-clause-pass g c =
     let t = c.trees_cross_threads.ensures.trees in
     let s = c.stacks_cross_threads.ensures.stacks in
     let w = c.worlds_cross_threads.ensures.worlds in
-    pass_send t s w (param 0 g.row.N) g.N.Name (param_send 0 _ c.type_bounds.send-N) (param_sync 0 _ c.type_bounds.sync-N)
+    pass_send t s w (param 0 g.row.N) g.N.ListName (param_send 0 _ c.type_bounds.send-N) (param_sync 0 _ c.type_bounds.sync-N)
 
 pub returns-clause-live : goal.returns-clause-live
 returns-clause-live g c =
     let t = c.trees_cross_threads.ensures.trees in
     let s = c.stacks_cross_threads.ensures.stacks in
     let w = c.worlds_cross_threads.ensures.worlds in
-    live_sync t s w (param 0 g.row.N) g.N.Name (param_send 0 _ c.type_bounds.send-N) (param_sync 0 _ c.type_bounds.sync-N)
+    live_sync t s w (param 0 g.row.N) g.N.ListName (param_send 0 _ c.type_bounds.send-N) (param_sync 0 _ c.type_bounds.sync-N)

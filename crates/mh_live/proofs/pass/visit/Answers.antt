@@ -6,7 +6,7 @@ use Rattle.mh_live.proofs.Ruling.{enters}
 use Rattle.mh_live.proofs.pass.visit.Goals as goal
 
 pub enter_as-requires : goal.enter_as-requires
-enter_as-requires g c = enters g.N.Name.book g.N.Name.definition _ _
+enter_as-requires g c = enters g.N.ListName.book g.N.ListName.definition _ _
 
 pub of-front-requires : goal.of-front-requires
 of-front-requires g c =
@@ -14,7 +14,7 @@ of-front-requires g c =
     let stands = c.in-Ok.ensures.1.0 in
     record {
       past = (
-        c.front.ensures.value ∙ (ap (λ (x : Published). x.world.front) entered ∙ (front_is g.N.Name.book g.N.Name.definition c.in-Ok.reading.part.value stands ∙ sym (ap (λ (x : Published). length x.past.log) entered))),
+        c.front.ensures.value ∙ (ap (λ (x : Published). x.world.front) entered ∙ (front_is g.N.ListName.book g.N.ListName.definition c.in-Ok.reading.part.value stands ∙ sym (ap (λ (x : Published). length x.past.log) entered))),
         ap (λ (x : Published). x.past.book) entered ∙ stands.book_is,
         ap (λ (x : Published). x.past.names) entered ∙ stands.names_are,
       );
@@ -22,6 +22,6 @@ of-front-requires g c =
 
 pub evaluate-given-requires : goal.evaluate-given-requires
 evaluate-given-requires g c =
-    let d = g.N.Name.definition in
-    let there = world_of g.N.Name.book d c.in-Ok.reading.part.value c.in-Ok.ensures.1.0 in
+    let d = g.N.ListName.definition in
+    let there = world_of g.N.ListName.book d c.in-Ok.reading.part.value c.in-Ok.ensures.1.0 in
     record { callable = (d, (subst (λ (x : Published). IsWorldOf d x.world) (sym c.get-entered.ensures) there, c.requires.callable)) }

@@ -1,6 +1,6 @@
 use Rattle.std.proofs.Common.{◌≡◌}
 use Rattle.mh_plan.specs.Joined.{joined, links_of}
-use Rattle.mh_plan.specs.Shares.{run_at}
+use Rattle.mh_plan.specs.inner.Shares.{run_at}
 use Rattle.mh_plan.proofs.joining.join_links.Given as goal
 
 abbrev pub invariant-loop-part : goal.invariant-loop-part

@@ -5,7 +5,7 @@ use Rattle.std.specs.Prelude.{FitsSigned}
 use Rattle.mh_network.specs.Problems.{needs_point, sum_of_gains}
 use Rattle.mh_network.specs.Selection.{member, value_of}
 use Rattle.mh_plan.specs.Joined.{joined, links_of}
-use Rattle.mh_plan.specs.Shares.{run_at}
+use Rattle.mh_plan.specs.inner.Shares.{run_at}
 use Rattle.mh_plan.proofs.Amounts.{charges_below, links_below, points_below}
 use Rattle.mh_plan.proofs.Best.{chosen_below, reached_below}
 use Rattle.mh_plan.proofs.Whole.{charges_listed, gains_kept, links_inside, links_least, matched, rows_needed}

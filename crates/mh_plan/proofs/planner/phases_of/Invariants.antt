@@ -1,5 +1,5 @@
 use Rattle.std.proofs.Common.{◌≡◌, ◌<◌, ℕ, length, get_or}
-use Rattle.mh_plan.specs.Shares.{run_at}
+use Rattle.mh_plan.specs.inner.Shares.{run_at}
 use Rattle.mh_plan.proofs.planner.phases_of.Given as goal
 
 abbrev pub invariant-loop-part : goal.invariant-loop-part

@@ -4,7 +4,7 @@ use Rattle.mh_network.specs.declared.part.Part.{Part}
 use Rattle.mh_network.specs.Parts.{part_at, part_row}
 use Rattle.mh_network.specs.Problems.{cost_of}
 use Rattle.mh_plan.specs.Phases.{AreCounted}
-use Rattle.mh_plan.specs.Shares.{run_at}
+use Rattle.mh_plan.specs.inner.Shares.{run_at}
 use Rattle.mh_plan.specs.Solved.{AreSolved}
 use Rattle.mh_plan.proofs.planner.plan_counted.Goals as goal
 

@@ -1,6 +1,5 @@
 use Rattle.std.proofs.Common.{◌≡◌, map, take, length}
-use Rattle.mh_site.specs.SiteStates.{site_states}
-use Rattle.mh_site.specs.Worlds.{AreTyped, opening}
+use Rattle.mh_site.specs.Worlds.{site_states, AreTyped, opening}
 use Rattle.mh_site.proofs.world.open_sites.Given as goal
 
 abbrev pub invariant-loop-site : goal.invariant-loop-site

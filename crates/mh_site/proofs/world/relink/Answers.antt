@@ -1,10 +1,9 @@
 use Rattle.std.proofs.Common.{ap, arith, ◌∙◌, List, ℕ}
 use Rattle.mh_tree.specs.Handle.{TypedTree}
 use Rattle.mh_site.specs.declared.world.SiteWorld.{SiteWorld}
-use Rattle.mh_site.specs.SiteStates.{site_state, site_states}
+use Rattle.mh_site.specs.Worlds.{site_state, site_states, relinked, relink_site}
 use Rattle.mh_site.specs.Controls.{Relinked}
 use Rattle.mh_site.specs.Defined.{no_tree}
-use Rattle.mh_site.specs.Worlds.{relinked, relink_site}
 use Rattle.mh_site.specs.Laws.Tables.{unwritten, written}
 use Rattle.mh_site.proofs.world.relink.Goals as goal
 

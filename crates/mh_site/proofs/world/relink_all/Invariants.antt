@@ -1,8 +1,7 @@
 use Rattle.std.proofs.Common.{◌≡◌, fold, length}
 use Rattle.std.specs.List.{All}
 use Rattle.mh_tree.specs.Typing.{IsTyped}
-use Rattle.mh_site.specs.SiteStates.{site_states}
-use Rattle.mh_site.specs.Worlds.{relink_site}
+use Rattle.mh_site.specs.Worlds.{site_states, relink_site}
 use Rattle.mh_site.proofs.world.relink_all.Given as goal
 
 abbrev pub invariant-loop-change : goal.invariant-loop-change

@@ -1,8 +1,7 @@
 use Rattle.std.proofs.Common.{◌≡◌, length, fold}
 use Rattle.std.specs.List.{All}
 use Rattle.mh_tree.specs.Typing.{IsTyped}
-use Rattle.mh_site.specs.SiteStates.{site_states}
-use Rattle.mh_site.specs.Worlds.{relink_site}
+use Rattle.mh_site.specs.Worlds.{site_states, relink_site}
 use Rattle.mh_site.proofs.world.relink_each.Given as goal
 
 abbrev pub invariant-loop-next : goal.invariant-loop-next

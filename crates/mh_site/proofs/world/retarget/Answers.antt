@@ -1,10 +1,9 @@
 use Rattle.std.proofs.Common.{ap, arith, ◌∙◌, ◌≡◌, slice_set, slice_index_or, [], List, ℕ}
 use Rattle.mh_tree.specs.Handle.{TypedTree}
 use Rattle.mh_site.specs.declared.world.SiteWorld.{SiteWorld}
-use Rattle.mh_site.specs.SiteStates.{site_state, site_states}
+use Rattle.mh_site.specs.Worlds.{site_state, site_states, retargeted, SiteState, no_state}
 use Rattle.mh_site.specs.Controls.{Retargeted}
 use Rattle.mh_site.specs.Defined.{no_tree}
-use Rattle.mh_site.specs.Worlds.{retargeted, SiteState, no_state}
 use Rattle.mh_site.specs.Laws.Tables.{unwritten, written}
 use Rattle.mh_site.proofs.world.retarget.Goals as goal
 

@@ -1,5 +1,5 @@
 use Rattle.std.proofs.Common.{◌≡◌, map, take}
-use Rattle.mh_site.specs.SiteStates.{plain_site}
+use Rattle.mh_site.specs.Worlds.{plain_site}
 use Rattle.mh_site.proofs.world.share_sites.Given as goal
 
 abbrev pub invariant-loop-site : goal.invariant-loop-site

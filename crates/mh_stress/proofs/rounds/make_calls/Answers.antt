@@ -6,7 +6,7 @@ use Rattle.mh_stress.proofs.rounds.make_calls.Goals as goal
 
 pub loop-call-preserved : goal.loop-call-preserved
 loop-call-preserved g c =
-    let d = g.N.Name.definition in
+    let d = g.N.ListName.definition in
     let before = c.loop-call.invariant in
     let calls = c.make_call.ensures.made in
     record {

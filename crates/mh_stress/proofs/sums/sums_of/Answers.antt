@@ -27,18 +27,18 @@ loop-link-preserved g c =
 
 pub overflow_add-unflushed : goal.overflow_add-unflushed
 overflow_add-unflushed g c =
-    let few = few_places g.N.Name.definition g.N.Name.limits g.N.Name.workers c.args.settled.now c.links-link-end.ensures.settled in
+    let few = few_places g.N.ListName.definition g.N.ListName.limits g.N.ListName.workers c.args.settled.now c.links-link-end.ensures.settled in
     let small = c.requires.small c.loop-link.link (omega (arith, c.loop-link-test.true, c.links-link-end.ensures.count)) in
     omega (arith, c.loop-link.invariant.within, c.unflushed-unflushed.ensures.value, small, c.loop-link-test.true, c.links-link-end.ensures.count, few)
 
 pub overflow_add-result : goal.overflow_add-result
 overflow_add-result g c =
-    let few = few_places g.N.Name.definition g.N.Name.limits g.N.Name.workers c.args.settled.now c.links-link-end.ensures.settled in
+    let few = few_places g.N.ListName.definition g.N.ListName.limits g.N.ListName.workers c.args.settled.now c.links-link-end.ensures.settled in
     omega (arith, c.loop-link.invariant.within, c.loop-link.invariant.small, c.loop-link.auto.link-end, c.links-link-end.ensures.count, few)
 
 pub returns : goal.returns
 returns g c =
-    let last : c.loop-link.link ≡ length (links g.N.Name.definition) = omega (arith, c.loop-link-test.false, c.loop-link.auto.link-end, c.links-link-end.ensures.count) in
+    let last : c.loop-link.link ≡ length (links g.N.ListName.definition) = omega (arith, c.loop-link-test.false, c.loop-link.auto.link-end, c.links-link-end.ensures.count) in
     let totals = c.loop-link.invariant.totals ∙ ap (λ n. sum_by (at c.args.settled.now.book.totals.total) (range_with_len 0 n)) last in
     let rest = c.loop-link.invariant.unflushed ∙ ap (λ n. sum_by (at c.args.settled.now.unflushed) (range_with_len 0 n)) last in
     record {

@@ -18,5 +18,5 @@ map_vec-requires-sync-F g c κs within =
     let a = call_sync c.values_cross_threads.ensures.values in
     let t = c.type_bounds.sync-T in
     let s = c.type_bounds.sync-S in
-    let r : IsSync (lts.arg-2-4 g.row.N g.row.T g.row.S g.N.laws g.T.laws g.S.laws g.N.Name g.N.Name-dict g.T.Threads g.T.Threads-dict g.T.Wait g.T.Wait-dict g.S.ShowRounds g.S.ShowRounds-dict κs) = search sendable depth 60 fits 20000 in
+    let r : IsSync (lts.arg-2-4 g.row.N g.row.T g.row.S g.N.laws g.T.laws g.S.laws g.N.ListName g.N.ListName-dict g.T.Threads g.T.Threads-dict g.T.Wait g.T.Wait-dict g.S.ShowRounds g.S.ShowRounds-dict κs) = search sendable depth 60 fits 20000 in
     param_sync 4 _ r

@@ -1,5 +1,5 @@
 use Rattle.std.proofs.Common.{rules, ◌∙◌, arith, ap, inl, inr, length, refl}
-use Rattle.mhlink_c.specs.declared.fault.Fault.TheVariants.{Short}
+use Rattle.mhlink_c.specs.declared.failure.Failure.TheVariants.{Short}
 use Rattle.mhlink_c.proofs.Planned.{begins, rests, sums_begin, sums_long}
 use Rattle.mhlink_c.proofs.flow.mhlink_plan_problem_flow.Goals.{then-chosen-links-via-then-chosen-links, then-chosen-links-via-else-chosen-links+then-points-needed, then-chosen-links-via-else-chosen-links+else-points-needed+then-paid-len, then-chosen-links-via-else-chosen-links+else-points-needed+else-paid-len+then-given-len, then-chosen-links-via-else-chosen-links+else-points-needed+else-paid-len+else-given-len+then-gets-len}
 use Rattle.mhlink_c.proofs.flow.mhlink_plan_problem_flow.Goals as goal

@@ -2,7 +2,7 @@ use denote.Exit.{no}
 use denote.Param.{param}
 use denote.Param.Send.{IsSend, param_send, arg_send, sendable}
 use denote.RattleType.{RattleType}
-use Rattle.mh_live.specs.declared.front.Name.{Ghosts}
+use Rattle.mh_live.specs.declared.front.ListName.{Ghosts}
 use Rattle.std.proofs.Crossing as crossing
 use Rattle.mh_live.specs.contracts.pass.Pass as Pass
 use Rattle.tests_live.proofs.Sending.{word_sync}
@@ -20,7 +20,7 @@ map_vec-requires-send-J g c κs within =
 
 pub map_vec-requires-send-X : goal.map_vec-requires-send-X
 map_vec-requires-send-X g c κs within =
-    param_send 2 _ (arg_send _ no _ (called_send (param 0 g.row.N) g.N.Name c.cross_threads.ensures.pass))
+    param_send 2 _ (arg_send _ no _ (called_send (param 0 g.row.N) g.N.ListName c.cross_threads.ensures.pass))
 
 pub map_vec-requires-sync-F : goal.map_vec-requires-sync-F
 map_vec-requires-sync-F g c κs within =

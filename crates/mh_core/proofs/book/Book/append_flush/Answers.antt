@@ -3,7 +3,7 @@ use Rattle.mh_core.specs.declared.record.Record.{Record}
 use Rattle.mh_core.specs.declared.record.Record.TheVariants.{Flushed}
 use Rattle.mh_core.specs.Books.{BookState, IsBook, book_state}
 use Rattle.mh_core.specs.Records.{hits_in}
-use Rattle.mh_core.specs.Rows.{tests}
+use Rattle.mh_core.specs.Rows.{tests_of_record}
 use Rattle.mh_base.specs.Tests.{Passes}
 use Rattle.mh_core.proofs.Deciding.{sure}
 use Rattle.mh_core.proofs.Growing.{book_grows}
@@ -16,7 +16,7 @@ invariant_of-self-2 c =
     let is : IsBook b = c.self.invariant in
     let l = c.args.ledger.now in
     let e : Record = Flushed l.worker (hits_in l.unflushed) in
-    let passes = subst (λ (x : BookState). Passes (tests x.definition x.limits (length x.records + c.args.calls) x.records e)) (sym c.self.view_is) c.requires.passes in
+    let passes = subst (λ (x : BookState). Passes (tests_of_record x.definition x.limits (length x.records + c.args.calls) x.records e)) (sym c.self.view_is) c.requires.passes in
     let room = fits_room b l is passes.1.0 in
     let hits : c.in_ok-hits.hits ≡ hits_in l.unflushed = c.in_ok-hits.ensures.value ∙ ap hits_in c.unflushed_hits.ensures.value in
     let items =
@@ -31,5 +31,5 @@ pub returns-clause-ledger : goal.returns-clause-ledger
 returns-clause-ledger c =
     let b = book_state c.self.inside in
     let l = c.args.ledger.now in
-    let passes = subst (λ (x : BookState). Passes (tests x.definition x.limits (length x.records + c.args.calls) x.records (Flushed l.worker (hits_in l.unflushed)))) (sym c.self.view_is) c.requires.passes in
+    let passes = subst (λ (x : BookState). Passes (tests_of_record x.definition x.limits (length x.records + c.args.calls) x.records (Flushed l.worker (hits_in l.unflushed)))) (sym c.self.view_is) c.requires.passes in
     sure c.flush-room.result c.flush-room.ensures.full (fits_room b l c.self.invariant passes.1.0) c.flush-room.ensures.ledger

@@ -4,7 +4,7 @@ use Rattle.std.proofs.lemmas.List.{with_items_is}
 use Rattle.std.proofs.lemmas.Grind.{get_or_default_zero}
 use Rattle.mh_flow.specs.declared.need_row.NeedRow.{NeedRow}
 use Rattle.mh_flow.specs.Carried.{number_at}
-use Rattle.mh_flow.specs.Layers.{IsPushed}
+use Rattle.mh_flow.specs.Paths.{IsPushed}
 use Rattle.mh_flow.specs.LayerData.{LayerData}
 use Rattle.mh_flow.proofs.Runs.{run_within}
 use Rattle.mh_flow.proofs.Running.{pushed_run, pushed_indexed}

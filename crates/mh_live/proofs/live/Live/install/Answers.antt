@@ -4,10 +4,10 @@ use Rattle.mh_live.proofs.Receiving.{installation_ends, receipt_of_change, refus
 use Rattle.mh_live.proofs.live.Live.install.Goals as goal
 
 pub returns-clause-receipt : goal.returns-clause-receipt
-returns-clause-receipt g c = receipt_of_change _ _ g.N.Name.workers _ _ (Installed c.args.plan) _ c.install.ensures.changes
+returns-clause-receipt g c = receipt_of_change _ _ g.N.ListName.workers _ _ (Installed c.args.plan) _ c.install.ensures.changes
 
 pub returns-clause-ends : goal.returns-clause-ends
 returns-clause-ends g c = MatchResult-weaker c.install.result (returns-clause-receipt g c) (λ r receipt. installation_ends _ _ c.args.plan r receipt) (λ _ always. always)
 
 pub returns-clause-refused : goal.returns-clause-refused
-returns-clause-refused g c = refusal_of_change _ _ g.N.Name.workers _ _ (Installed c.args.plan) _ c.install.ensures.changes
+returns-clause-refused g c = refusal_of_change _ _ g.N.ListName.workers _ _ (Installed c.args.plan) _ c.install.ensures.changes

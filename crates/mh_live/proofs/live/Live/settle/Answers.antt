@@ -11,7 +11,7 @@ new-requires g c =
     let sums = c.in-Ok.ensures in
     let closing = c.close-book.ensures in
     record {
-      settled = settled_of g.N.Name.definition g.N.Name.limits g.N.Name.workers c.into_inner-office.result c.as_slice-2.result.now c.in-Ok.unflushed.items closing.office sums.totals sums.back sums.value c.close-book.result.0 c.close-book.result.1 closing.book closing.front sums.within;
+      settled = settled_of g.N.ListName.definition g.N.ListName.limits g.N.ListName.workers c.into_inner-office.result c.as_slice-2.result.now c.in-Ok.unflushed.items closing.office sums.totals sums.back sums.value c.close-book.result.0 c.close-book.result.1 closing.book closing.front sums.within;
     }
 
 pub returns-in-Ok-clause-sums : goal.returns-in-Ok-clause-sums
@@ -26,8 +26,8 @@ returns-in-Ok-clause-sums g c =
     let value = subst (λ (ps : List PassState). hits ≡ map (unflushed_by ps) (range_with_len 0 (length totals.total))) is sums.value in
     let known = subst (All (IsWithin c.front.result.now)) c.as_slice.ensures.value c.compare_all.ensures.within in
     let fronts = subst (λ (cs : List Control). All (IsWithin cs) passes) (c.front.ensures.value ∙ sym closing.front) known in
-    let all = settles_of g.N.Name.definition g.N.Name.limits g.N.Name.workers c.into_inner-office.result passes hits closing.office sums.totals back value c.close-book.result.0 c.close-book.result.1 closing.book closing.front fronts in
-    subst (Settles g.N.Name.definition passes) (sym c.new.ensures.value) all
+    let all = settles_of g.N.ListName.definition g.N.ListName.limits g.N.ListName.workers c.into_inner-office.result passes hits closing.office sums.totals back value c.close-book.result.0 c.close-book.result.1 closing.book closing.front fronts in
+    subst (Settles g.N.ListName.definition passes) (sym c.new.ensures.value) all
 
 pub returns-in-Err-clause-refused : goal.returns-in-Err-clause-refused
 returns-in-Err-clause-refused g c =
@@ -37,4 +37,4 @@ returns-in-Err-clause-refused g c =
     let told = subst (λ (ps : List PassState). IsUnsettledBy o.book.totals ps c.in-Err.fault) c.as_slice-2.ensures.value why.refused in
     let known = subst (All (IsWithin c.front.result.now)) c.as_slice.ensures.value c.compare_all.ensures.within in
     let fronts = subst (λ (cs : List Control). All (IsWithin cs) passes) c.front.ensures.value known in
-    unsettled_of g.N.Name.definition g.N.Name.limits g.N.Name.workers o passes c.in-Err.fault why.office why.totals fronts told
+    unsettled_of g.N.ListName.definition g.N.ListName.limits g.N.ListName.workers o passes c.in-Err.fault why.office why.totals fronts told

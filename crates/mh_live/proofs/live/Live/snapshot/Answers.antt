@@ -5,8 +5,8 @@ use Rattle.mh_live.proofs.live.Live.snapshot.Goals as goal
 
 pub returns-clause-receipt : goal.returns-clause-receipt
 returns-clause-receipt g c =
-    MatchResult-weaker c.snapshot.result c.snapshot.ensures.accepted (λ r accepts. receipt_of g.N.Name.definition g.N.Name.limits g.N.Name.workers _ _ Snapped r c.snapshot.ensures.office accepts) (λ _ always. always)
+    MatchResult-weaker c.snapshot.result c.snapshot.ensures.accepted (λ r accepts. receipt_of g.N.ListName.definition g.N.ListName.limits g.N.ListName.workers _ _ Snapped r c.snapshot.ensures.office accepts) (λ _ always. always)
 
 pub returns-clause-refused : goal.returns-clause-refused
 returns-clause-refused g c =
-    MatchResult-weaker c.snapshot.result c.snapshot.ensures.refused (λ _ always. always) (λ told legal. refusal_of g.N.Name.definition g.N.Name.limits g.N.Name.workers _ Snapped told c.snapshot.ensures.office legal)
+    MatchResult-weaker c.snapshot.result c.snapshot.ensures.refused (λ _ always. always) (λ told legal. refusal_of g.N.ListName.definition g.N.ListName.limits g.N.ListName.workers _ Snapped told c.snapshot.ensures.office legal)

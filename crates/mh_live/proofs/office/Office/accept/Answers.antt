@@ -17,7 +17,7 @@ show-requires-clause-standing g c =
     let is = c.self.invariant in
     let ready = subst (λ (o : OfficeState). IsReady o.book c.args.change) (sym c.self.view_is) c.requires.ready in
     let own : control_of c.args.change.effect ≡ Some c.in-Some.control = sym c.in-Ok.ensures.value ∙ c.in-Some.is in
-    stands_after g.N.Name.definition shown.world shown.past.log c.self.inside.book c.args.change c.in-Some.control c.kept.ensures.book is.definition ready is.stands.replays is.published
+    stands_after g.N.ListName.definition shown.world shown.past.log c.self.inside.book c.args.change c.in-Some.control c.kept.ensures.book is.definition ready is.stands.replays is.published
     own
 
 pub invariant_of-self : goal.invariant_of-self

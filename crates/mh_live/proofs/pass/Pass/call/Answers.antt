@@ -20,7 +20,7 @@ full d l s a None room hit is count fails decides = absurd (let has = decides.1 
 
 pub returns-then-not-has_room-clause-refused : goal.returns-then-not-has_room-clause-refused
 returns-then-not-has_room-clause-refused g c =
-    let d = g.N.Name.definition in
+    let d = g.N.ListName.definition in
     let s = c.args.site in
     let a = c.args.arguments.now in
     let l = c.self.inside.ledger in

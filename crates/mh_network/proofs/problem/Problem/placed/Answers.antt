@@ -1,6 +1,7 @@
 use Rattle.std.proofs.Common.{inl}
 use Rattle.std.proofs.lemmas.Result.{err_from_is_err_and}
-use Rattle.mh_network.specs.Limits.{most_links, most_points, most_needs}
+use Rattle.mh_base.specs.Limits.{most_needs}
+use Rattle.mh_network.specs.Limits.{most_links, most_points}
 use Rattle.mh_network.proofs.Keeping.{kept_problem}
 use Rattle.mh_network.proofs.Placing.{unplaced}
 use Rattle.mh_network.proofs.problem.Problem.placed.Goals as goal

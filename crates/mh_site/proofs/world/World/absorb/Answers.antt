@@ -1,7 +1,6 @@
 use Rattle.std.proofs.Common.{List, ◌≤◌, ◌+◌, ap, sym, subst, arith}
 use Rattle.mh_site.specs.declared.control.Control.TheVariants.{Install, Invalidate, Target}
-use Rattle.mh_site.specs.SiteStates.{site_states}
-use Rattle.mh_site.specs.Worlds.{IsWorld, SiteState}
+use Rattle.mh_site.specs.Worlds.{site_states, IsWorld, SiteState}
 use Rattle.mh_site.specs.Laws.Tables.{after_keeps, room_of}
 use Rattle.mh_site.proofs.world.World.absorb.Goals as goal
 

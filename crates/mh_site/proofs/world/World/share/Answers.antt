@@ -1,7 +1,6 @@
 use Rattle.std.proofs.Common.{◌∙◌, ap, arith, subst, sym, length, map}
 use Rattle.std.proofs.lemmas.List.{length-map}
-use Rattle.mh_site.specs.SiteStates.{plain_site}
-use Rattle.mh_site.specs.Worlds.{IsWorld}
+use Rattle.mh_site.specs.Worlds.{plain_site, IsWorld}
 use Rattle.mh_site.specs.Laws.Tables.{shared_world}
 use Rattle.mh_site.proofs.world.World.share.Goals as goal
 

@@ -1,7 +1,6 @@
 use Rattle.std.proofs.Common.{List, ◌≤◌, ◌+◌, ◌≡◌, sym, subst, arith, length}
 use Rattle.mh_site.specs.declared.control.Control.TheVariants.{Target, Invalidate, Install}
-use Rattle.mh_site.specs.SiteStates.{site_states}
-use Rattle.mh_site.specs.Worlds.{IsWorld, SiteState, WorldState}
+use Rattle.mh_site.specs.Worlds.{site_states, IsWorld, SiteState, WorldState}
 use Rattle.mh_site.specs.Laws.Tables.{after_keeps, room_of}
 use Rattle.mh_site.proofs.world.World.try_absorb.Goals.{in-Target+in_ok-share-in-Target, in-Invalidate, in-Install+in_ok-share_all-in-Install}
 use Rattle.mh_site.proofs.world.World.try_absorb.Goals as goal

@@ -1,6 +1,6 @@
 use Rattle.std.proofs.Common.{◌≡◌, ◌≤◌, ◌*◌, ◌^◌, take}
 use Rattle.mhlink_c.specs.Texts.{unflushed_of}
-use Rattle.mhlink_c.proofs.asking.unflushed.Given as goal
+use Rattle.mhlink_c.proofs.host.answers.unflushed.Given as goal
 
 -- the hits in the first ledgers
 abbrev pub invariant-loop-ledger : goal.invariant-loop-ledger

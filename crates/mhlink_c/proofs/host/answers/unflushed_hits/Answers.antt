@@ -3,7 +3,7 @@ use Rattle.std.proofs.lemmas.List.Elements.{All-push, All-same}
 use Rattle.mh_core.specs.Laws.Numbered.{more_numbers}
 use Rattle.mh_text.specs.Report.{most_unflushed}
 use Rattle.mhlink_c.specs.Texts.{unflushed_of}
-use Rattle.mhlink_c.proofs.asking.unflushed_hits.Goals as goal
+use Rattle.mhlink_c.proofs.host.answers.unflushed_hits.Goals as goal
 
 -- what the workers hold
 abbrev small : ℕ → Type 0

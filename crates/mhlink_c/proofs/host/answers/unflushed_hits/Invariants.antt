@@ -3,7 +3,7 @@ use Rattle.std.specs.List.{All}
 use Rattle.mh_core.specs.Records.{numbers}
 use Rattle.mh_text.specs.Report.{most_unflushed}
 use Rattle.mhlink_c.specs.Texts.{unflushed_of}
-use Rattle.mhlink_c.proofs.asking.unflushed_hits.Given as goal
+use Rattle.mhlink_c.proofs.host.answers.unflushed_hits.Given as goal
 
 -- those of the first links
 abbrev pub invariant-loop-link : goal.invariant-loop-link

@@ -12,11 +12,11 @@ ghost use Rattle.mhlink_c.specs.Changes.{HasNoBest, Installs, MakesChange, Publi
 ghost use Rattle.mhlink_c.specs.Hosts.{Flushes, Records, RefusesToFlush};
 ghost use Rattle.mhlink_c.specs.Statuses.{no_memory};
 ghost use Rattle.mhlink_c.specs.Texts.{IsCertificate, report_of, unflushed_of};
-ghost use Rattle.mhlink_c.specs.declared.fault.Fault.TheVariants.{Unknown};
+ghost use Rattle.mhlink_c.specs.declared.failure.Failure.TheVariants.{Unknown};
 ghost use Rattle.mh_core.specs.declared.record.Record.TheVariants.{Installed};
 
 use crate::books::{best_plan_for, listed, read_tree};
-use crate::fault::Fault;
+use crate::failure::Failure;
 use crate::host::Host;
 use crate::request::Change;
 use mh_core::{Book, Ledger, Plan, SharedPlan};
@@ -25,7 +25,7 @@ use std::alloc::Global;
 
 impl Host {
     /// A worker's hits go to the totals.
-    pub(crate) fn flush(&mut self, worker: u32) -> Result<(), Fault>
+    pub(crate) fn flush(&mut self, worker: u32) -> Result<(), Failure>
         ensures flushed { OnOk result (Flushes self.old worker self.new) }
         ensures refused { IfErr result (RefusesToFlush self.old worker) }
         ensures kept { OnErr result (self.new ≡ self.old) }
@@ -35,7 +35,7 @@ impl Host {
     }
 
     /// Makes a change, and gives its answer.
-    pub(crate) fn change(&mut self, alloc: Global, change: Change<'_>) -> Result<u64, Fault>
+    pub(crate) fn change(&mut self, alloc: Global, change: Change<'_>) -> Result<u64, Failure>
         ensures makes { IfOk result (MakesChange (Records self.old self.new)
             self.old.runtime.book self.old.scope change.entry) }
         ensures refused { IfErr result (RefusesChange self.old.runtime.book self.old.scope
@@ -52,7 +52,7 @@ impl Host {
         }
     }
 
-    fn target(&mut self, alloc: Global, site: usize, tree: &[u8]) -> Result<u64, Fault>
+    fn target(&mut self, alloc: Global, site: usize, tree: &[u8]) -> Result<u64, Failure>
         ensures taken { OnOk result (Retargets (Records self.old self.new) self.old.scope site
             tree.now) }
         ensures refused { IfErr result (RefusesTarget self.old.runtime.book self.old.scope site
@@ -64,7 +64,7 @@ impl Host {
         Ok(0)
     }
 
-    fn invalidate(&mut self, alloc: Global, points: &[u32]) -> Result<u64, Fault>
+    fn invalidate(&mut self, alloc: Global, points: &[u32]) -> Result<u64, Failure>
         ensures taken { OnOk result (Records self.old self.new (Invalidated points.now)) }
         ensures refused { IfErr result (RefusesInvalidation self.old.runtime.book points.now) }
         ensures kept { OnErr result (self.new ≡ self.old) }
@@ -74,7 +74,7 @@ impl Host {
         Ok(0)
     }
 
-    fn snapshot(&mut self) -> Result<u64, Fault>
+    fn snapshot(&mut self) -> Result<u64, Failure>
         ensures taken { IfOk result (TakesSnapshot (Records self.old self.new)
             self.old.runtime.book) }
         ensures refused { IfErr result (RefusesRecord self.old.runtime.book Snapped) }
@@ -83,7 +83,7 @@ impl Host {
         Ok(self.runtime.snapshot()? as u64)
     }
 
-    fn install(&mut self, plan: usize) -> Result<u64, Fault>
+    fn install(&mut self, plan: usize) -> Result<u64, Failure>
         ensures taken { IfOk result (Installs (Records self.old self.new) self.old.runtime.book
             plan) }
         ensures refused { IfErr result (RefusesRecord self.old.runtime.book (Installed plan)) }
@@ -92,7 +92,7 @@ impl Host {
         Ok(self.runtime.install(plan)?.linked() as u64)
     }
 
-    fn plan(&mut self, alloc: Global, snapshot: usize) -> Result<u64, Fault>
+    fn plan(&mut self, alloc: Global, snapshot: usize) -> Result<u64, Failure>
         ensures taken { IfOk result (PublishesBest (Records self.old self.new)
             self.old.runtime.book snapshot) }
         ensures refused { IfErr result (RefusesBest self.old.runtime.book snapshot) }
@@ -102,7 +102,7 @@ impl Host {
         self.publish(alloc, snapshot, plan)
     }
 
-    fn offer(&mut self, alloc: Global, snapshot: usize, plan: &[u8]) -> Result<u64, Fault>
+    fn offer(&mut self, alloc: Global, snapshot: usize, plan: &[u8]) -> Result<u64, Failure>
         ensures taken { IfOk result (PublishesOffer (Records self.old self.new)
             self.old.runtime.book snapshot plan.now) }
         ensures refused { IfErr result (RefusesOffer self.old.runtime.book snapshot plan.now) }
@@ -112,7 +112,7 @@ impl Host {
         self.publish(alloc, snapshot, plan)
     }
 
-    fn publish(&mut self, alloc: Global, snapshot: usize, plan: Plan) -> Result<u64, Fault>
+    fn publish(&mut self, alloc: Global, snapshot: usize, plan: Plan) -> Result<u64, Failure>
         ensures taken { IfOk result (Publishes (Records self.old self.new)
             self.old.runtime.book snapshot plan) }
         ensures refused { IfErr result (RefusesPublished self.old.runtime.book snapshot plan) }
@@ -123,7 +123,7 @@ impl Host {
     }
 
     /// The best plan for a snapshot with its flow, as compact JSON, which `mhlink check` reads.
-    pub(crate) fn certificate(&self, alloc: Global, snapshot: usize) -> Result<String, Fault>
+    pub(crate) fn certificate(&self, alloc: Global, snapshot: usize) -> Result<String, Failure>
         ensures value { IfOk result (λ text. IsCertificate self.now.runtime snapshot
             (string_bytes text)) }
         ensures refused { IfErr result (HasNoBest self.now.runtime.book snapshot) }
@@ -133,7 +133,7 @@ impl Host {
     }
 
     /// A line for each point, site and link, with the hits that the workers have not flushed.
-    pub(crate) fn report(&self, alloc: Global) -> Result<String, Fault>
+    pub(crate) fn report(&self, alloc: Global) -> Result<String, Failure>
         ensures value { IfOk result (λ text. string_bytes text ≡ report_of self.now.runtime) }
         ensures refused { IfErr result (λ e. e ≡ no_memory) }
     {
@@ -145,7 +145,7 @@ impl Host {
     }
 
     /// The unflushed hits of a link by a worker's calls.
-    pub(crate) fn hits(&self, worker: u32, link: usize) -> Result<u64, Fault>
+    pub(crate) fn hits(&self, worker: u32, link: usize) -> Result<u64, Failure>
         ensures value { IfOk result (λ n. n
             ≡ at (ledger_at self.now.runtime.ledgers worker).unflushed link) }
         ensures unknown { IfErr result (λ e. (e ≡ Unknown)
@@ -154,26 +154,26 @@ impl Host {
     {
         let ledgers = self.runtime.ledgers();
         if worker as usize >= ledgers.len() {
-            return Err(Fault::Unknown);
+            return Err(Failure::Unknown);
         }
         hits_in(&ledgers[worker as usize], link)
     }
 }
 
 /// The unflushed hits of a link in a ledger.
-pub(crate) fn hits_in(ledger: &Ledger, link: usize) -> Result<u64, Fault>
+pub(crate) fn hits_in(ledger: &Ledger, link: usize) -> Result<u64, Failure>
     ensures value { IfOk result (λ n. n ≡ at ledger.now.unflushed link) }
     ensures unknown { IfErr result (λ e. (e ≡ Unknown)
         × (link < length ledger.now.unflushed → ⊥)) }
 {
     if link >= ledger.links() {
-        return Err(Fault::Unknown);
+        return Err(Failure::Unknown);
     }
     Ok(ledger.unflushed(link))
 }
 
 // The hits of each link in these ledgers.
-fn unflushed_hits(alloc: Global, book: &Book, ledgers: &[Ledger]) -> Result<Vec<u128>, Fault>
+fn unflushed_hits(alloc: Global, book: &Book, ledgers: &[Ledger]) -> Result<Vec<u128>, Failure>
     ensures value { IfOk result (λ hits. hits.items ≡ map (unflushed_of ledgers.now)
         (numbers (length (links book.now.definition)))) }
     ensures refused { IfErr result (λ e. e ≡ no_memory) }

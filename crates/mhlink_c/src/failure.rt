@@ -9,7 +9,7 @@ use std::alloc::{AllocError, AllocFailed};
 
 /// Why an export did nothing.
 #[derive(Clone, Copy, Debug)]
-pub(crate) enum Fault {
+pub(crate) enum Failure {
     /// The machine refused.
     Refused(Refusal),
     /// A text that was passed in has a fault.
@@ -26,7 +26,7 @@ pub(crate) enum Fault {
     BadLimits,
 }
 
-impl Fault {
+impl Failure {
     /// The number that C gets, never 0: a refusal's own, 100 and an input fault's, 200 and a fault
     /// of a problem, and 301 to 304.
     #[tactic(auto, using(crate::proofs::Statuses::some_number))]
@@ -35,13 +35,13 @@ impl Fault {
         ensures some { result ≢ 0 }
     {
         match self {
-            Fault::Refused(refusal) => u32::from(refusal.number()),
-            Fault::Input(fault) => 100 + input_number(fault),
-            Fault::Problem(fault) => 200 + u32::from(fault.number()),
-            Fault::Unknown => 301,
-            Fault::Short => 302,
-            Fault::BadValue => 303,
-            Fault::BadLimits => 304,
+            Failure::Refused(refusal) => u32::from(refusal.number()),
+            Failure::Input(fault) => 100 + input_number(fault),
+            Failure::Problem(fault) => 200 + u32::from(fault.number()),
+            Failure::Unknown => 301,
+            Failure::Short => 302,
+            Failure::BadValue => 303,
+            Failure::BadLimits => 304,
         }
     }
 
@@ -50,9 +50,9 @@ impl Fault {
         ensures value { result ≡ part_of self }
     {
         match self {
-            Fault::Refused(Refusal::PlanRefused(cause)) => u64::from(cause.number()),
-            Fault::Refused(Refusal::OldPlan(newest)) => newest as u64,
-            Fault::Input(fault) => input_part(fault),
+            Failure::Refused(Refusal::PlanRefused(cause)) => u64::from(cause.number()),
+            Failure::Refused(Refusal::OldPlan(newest)) => newest as u64,
+            Failure::Input(fault) => input_part(fault),
             _ => 0,
         }
     }
@@ -94,105 +94,105 @@ fn input_part(fault: InputFault) -> u64
     }
 }
 
-impl From<Refusal> for Fault {
+impl From<Refusal> for Failure {
     ghost use Rattle.std.specs.Prelude.{◌≡◌};
-    ghost use Rattle.mhlink_c.specs.declared.fault.Fault.TheVariants.{Refused};
+    ghost use Rattle.mhlink_c.specs.declared.failure.Failure.TheVariants.{Refused};
 
     ghost from_gives = { λ told e. e ≡ Refused told };
 
-    fn from(refusal: Refusal) -> Fault {
-        Fault::Refused(refusal)
+    fn from(refusal: Refusal) -> Failure {
+        Failure::Refused(refusal)
     }
 }
 
-impl From<NoMemory> for Fault {
+impl From<NoMemory> for Failure {
     ghost use Rattle.std.specs.Prelude.{◌≡◌};
     ghost use Rattle.mhlink_c.specs.Statuses.{no_memory};
 
     ghost from_gives = { λ _ e. e ≡ no_memory };
 
-    fn from(_e: NoMemory) -> Fault {
-        Fault::Refused(Refusal::NoMemory)
+    fn from(_e: NoMemory) -> Failure {
+        Failure::Refused(Refusal::NoMemory)
     }
 }
 
-impl From<AllocError> for Fault {
+impl From<AllocError> for Failure {
     ghost use Rattle.std.specs.Prelude.{◌≡◌};
     ghost use Rattle.mhlink_c.specs.Statuses.{no_memory};
 
     ghost from_gives = { λ _ e. e ≡ no_memory };
 
-    fn from(_e: AllocError) -> Fault {
-        Fault::Refused(Refusal::NoMemory)
+    fn from(_e: AllocError) -> Failure {
+        Failure::Refused(Refusal::NoMemory)
     }
 }
 
-impl<T: Drop> From<AllocFailed<T>> for Fault {
+impl<T: Drop> From<AllocFailed<T>> for Failure {
     ghost use Rattle.std.specs.Prelude.{◌≡◌};
     ghost use Rattle.mhlink_c.specs.Statuses.{no_memory};
 
     ghost from_gives = { λ _ e. e ≡ no_memory };
 
-    fn from(_e: AllocFailed<T>) -> Fault {
-        Fault::Refused(Refusal::NoMemory)
+    fn from(_e: AllocFailed<T>) -> Failure {
+        Failure::Refused(Refusal::NoMemory)
     }
 }
 
-impl From<TextualFault> for Fault {
+impl From<TextualFault> for Failure {
     ghost use Rattle.std.specs.Prelude.{◌≡◌};
     ghost use Rattle.mhlink_c.specs.Statuses.{of_text};
 
     ghost from_gives = { λ fault e. e ≡ of_text fault };
 
-    fn from(fault: TextualFault) -> Fault {
+    fn from(fault: TextualFault) -> Failure {
         match fault.kind {
-            TextFault::Input(cause) => Fault::from(cause),
-            _ => Fault::Refused(Refusal::NoMemory),
+            TextFault::Input(cause) => Failure::from(cause),
+            _ => Failure::Refused(Refusal::NoMemory),
         }
     }
 }
 
-impl From<InputFault> for Fault {
+impl From<InputFault> for Failure {
     ghost use Rattle.std.specs.Prelude.{◌≡◌};
     ghost use Rattle.mhlink_c.specs.Statuses.{of_input};
 
     ghost from_gives = { λ fault e. e ≡ of_input fault };
 
-    fn from(fault: InputFault) -> Fault {
+    fn from(fault: InputFault) -> Failure {
         match fault {
-            InputFault::NoMemory => Fault::Refused(Refusal::NoMemory),
-            _ => Fault::Input(fault),
+            InputFault::NoMemory => Failure::Refused(Refusal::NoMemory),
+            _ => Failure::Input(fault),
         }
     }
 }
 
-impl From<Misread> for Fault {
+impl From<Misread> for Failure {
     ghost use Rattle.std.specs.Prelude.{◌≡◌};
     ghost use Rattle.mhlink_c.specs.Statuses.{of_input};
 
     ghost from_gives = { λ misread e. e ≡ of_input misread.fault };
 
-    fn from(misread: Misread) -> Fault {
-        Fault::from(misread.fault())
+    fn from(misread: Misread) -> Failure {
+        Failure::from(misread.fault())
     }
 }
 
-impl From<ProblemFault> for Fault {
+impl From<ProblemFault> for Failure {
     ghost use Rattle.std.specs.Prelude.{◌≡◌};
     ghost use Rattle.mhlink_c.specs.Statuses.{of_problem};
 
     ghost from_gives = { λ fault e. e ≡ of_problem fault };
 
-    fn from(fault: ProblemFault) -> Fault {
+    fn from(fault: ProblemFault) -> Failure {
         match fault {
-            ProblemFault::NoMemory => Fault::Refused(Refusal::NoMemory),
-            _ => Fault::Problem(fault),
+            ProblemFault::NoMemory => Failure::Refused(Refusal::NoMemory),
+            _ => Failure::Problem(fault),
         }
     }
 }
 
 /// The status of an answer: 0, or the fault's number.
-pub(crate) fn status<T: Drop>(answer: Result<T, Fault>) -> u32
+pub(crate) fn status<T: Drop>(answer: Result<T, Failure>) -> u32
     ensures ok { OnOk answer (result ≡ 0) }
     ensures refused { OnErr answer (result ≢ 0) }
     ensures status { IfErr answer (λ e. result ≡ status_of e) }
@@ -204,7 +204,7 @@ pub(crate) fn status<T: Drop>(answer: Result<T, Fault>) -> u32
 }
 
 /// The status of an answer; what its fault leaves open is written to `part`, and else 0.
-pub(crate) fn write_part<T: Drop>(answer: Result<T, Fault>, part: &mut u64) -> u32
+pub(crate) fn write_part<T: Drop>(answer: Result<T, Failure>, part: &mut u64) -> u32
     ensures ok { OnOk answer (result ≡ 0) }
     ensures no_part { OnOk answer (part.new ≡ 0) }
     ensures refused { OnErr answer (result ≢ 0) }
@@ -224,7 +224,7 @@ pub(crate) fn write_part<T: Drop>(answer: Result<T, Fault>, part: &mut u64) -> u
 }
 
 /// The same, where the answer is written to `out`.
-pub(crate) fn write_change(answer: Result<u64, Fault>, out: &mut u64, part: &mut u64) -> u32
+pub(crate) fn write_change(answer: Result<u64, Failure>, out: &mut u64, part: &mut u64) -> u32
     ensures ok { OnOk answer (result ≡ 0) }
     ensures answer { IfOk answer (λ n. out.new ≡ n) }
     ensures no_part { OnOk answer (part.new ≡ 0) }
@@ -240,7 +240,7 @@ pub(crate) fn write_change(answer: Result<u64, Fault>, out: &mut u64, part: &mut
 }
 
 /// The status of an answer, which is written to `out` where there is one.
-pub(crate) fn write_answer(answer: Result<u64, Fault>, out: &mut u64) -> u32
+pub(crate) fn write_answer(answer: Result<u64, Failure>, out: &mut u64) -> u32
     ensures ok { OnOk answer (result ≡ 0) }
     ensures answer { IfOk answer (λ n. out.new ≡ n) }
     ensures refused { OnErr answer (result ≢ 0) }

@@ -1,0 +1,2 @@
+-- Definitions that the clauses of private functions alone use: no promise asks for them to be read.
+pub mod Shares
