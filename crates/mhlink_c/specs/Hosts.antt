@@ -23,7 +23,7 @@ coded_host =
     (λ h. (h.runtime, (h.scope, h.given))) (λ p. record { runtime = p.0; scope = p.1.0; given = p.1.1 }) (λ _. refl)
 
 -- the names and the text of the last call stay
-pub record IsKept (h new : HostState) : Type 0 where
+pub record KeepsNamesAndText (h new : HostState) : Type 0 where
   pub scope : new.scope ≡ h.scope
   pub given : new.given ≡ h.given
 
@@ -31,14 +31,14 @@ pub record IsKept (h new : HostState) : Type 0 where
 pub record Records (h new : HostState) (e : Record) : Type 0 where
   pub taken : Takes h.runtime.book 0 e new.runtime.book
   pub ledgers : new.runtime.ledgers ≡ h.runtime.ledgers
-  pub kept : IsKept h new
+  pub kept : KeepsNamesAndText h new
 
 -- the hits of a worker go to the totals, and its ledger has none that are not flushed
 pub record Flushes (h : HostState) (w : ℕ) (new : HostState) : Type 0 where
   pub known : w < length h.runtime.ledgers
   pub taken : Takes h.runtime.book 0 (flush_of h.runtime w) new.runtime.book
   pub ledgers : new.runtime.ledgers ≡ slice_set h.runtime.ledgers w (settled (ledger_at h.runtime.ledgers w))
-  pub kept : IsKept h new
+  pub kept : KeepsNamesAndText h new
 
 abbrev pub RefusesToFlush : HostState → ℕ → Failure → Type 0
 RefusesToFlush h w e = (told : Refusal) × ((e ≡ Refused told) × RefusesFlush h.runtime 0 w told)

@@ -8,7 +8,7 @@ use Rattle.mh_core.specs.Links.{links as links_of}
 use Rattle.mh_core.specs.Records.{snapshots as snapshots_in, plans as plans_in}
 use Rattle.mh_core.specs.Renewals.{MeansTheSame, Renews, renewal_tests}
 use Rattle.mhlink_c.specs.Statuses.{IsRefusedBy}
-use Rattle.mhlink_c.specs.Hosts.{HostState, IsKept}
+use Rattle.mhlink_c.specs.Hosts.{HostState, KeepsNamesAndText}
 use Rattle.mhlink_c.specs.declared.failure.Failure.{Failure}
 use Rattle.mhlink_c.specs.declared.failure.Failure.TheVariants.{Unknown}
 use Rattle.mhlink_c.specs.declared.renewing.MhlinkUsed.{MhlinkUsed}
@@ -39,7 +39,7 @@ pub record BeginsAnew (h : HostState) (again : List ℕ) (hits : OldHits) (new :
   pub links : links_of new.runtime.book.definition ≡ links_of h.runtime.book.definition
   pub ledgers : new.runtime.ledgers ≡ map (renewed_ledger hits) h.runtime.ledgers
   pub fresh : IsFresh new.runtime.book (length h.runtime.ledgers)
-  pub kept : IsKept h new
+  pub kept : KeepsNamesAndText h new
 
 -- the first failing test of a renewal
 abbrev pub RefusesAnew : HostState → List ℕ → Failure → Type 0
