@@ -48,7 +48,7 @@ enum mhlink_status {
     MHLINK_NEEDS_NOT_ASCENDING = 205, MHLINK_TOO_MANY_LINKS = 206, MHLINK_TOO_MANY_POINTS = 207, MHLINK_TOO_MANY_NEEDS = 208,
     /* of these calls alone */
     MHLINK_UNKNOWN = 301,    /* a question about a name, a key or a number of nothing that is there */
-    MHLINK_SHORT = 302,      /* the buffer is shorter than the length that is told */
+    MHLINK_SHORT = 302,      /* the buffer is shorter than the length that is reported */
     MHLINK_BAD_VALUE = 303,  /* a value of no kind, out of its kind's range, or whose text is not passed */
     MHLINK_BAD_LIMITS = 304  /* a limit, or the number of workers, is out of its range */
 };
@@ -98,8 +98,8 @@ enum mhlink_old_hits { MHLINK_KEEP_HITS = 0, MHLINK_HALVE_HITS = 1, MHLINK_DROP_
 /* What a text is read as: a definition, as mhlink_open reads one, or what the program mhlink reads. */
 enum mhlink_forms { MHLINK_FORM_DEFINITION = 0, MHLINK_FORM_SCRIPT = 1, MHLINK_FORM_PROBLEM = 2, MHLINK_FORM_PROBLEM_WITH_PLAN = 3 };
 
-/* What mhlink_detail tells: how many there are of all; and of a point, a site, a link or a published plan, each by its number. Where
-   it has several, as MHLINK_SITE_LINKS counts them, one is told by its place, from 0. */
+/* What mhlink_detail reports: how many there are in all; or one detail of a point, a site, a link or a published plan, which is asked
+   for by its number. Where there are several, as MHLINK_SITE_LINKS counts them, one is asked for by its place, from 0. */
 enum mhlink_details {
     MHLINK_POINTS = 0, MHLINK_SITES = 1, MHLINK_LINKS = 2,
     MHLINK_POINT_IS_VALID = 3, /* 1 or 0 */

@@ -15,7 +15,7 @@ static const char definition[] =
 
 static mhlink_machine machine;
 
-/* What one name of the header tells, of a number, and at each place up to the first that is none. */
+/* Prints a detail of the header: of one number, and where it has places, at each up to the first that is none. */
 static void tell(const char *name, uint32_t detail, size_t number, int has_places) {
     uint64_t told = 0;
     uint32_t status = MHLINK_OK;

@@ -26,7 +26,7 @@ static unsigned refusals;
 
 #define ASK(CALL) tell(#CALL, again(CALL) ? (CALL) : MHLINK_OK)
 
-/* Whether a call has to be made again. What is refused otherwise is told when it is made again. */
+/* Whether a call has to be made again. Any other refusal is printed when it is made again. */
 static int again(uint32_t status) {
     if (status == MHLINK_NO_MEMORY) refusals++;
     return status != MHLINK_OK;

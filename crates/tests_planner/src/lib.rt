@@ -9,4 +9,4 @@ mod planner;
 #[cfg(test)]
 mod plans;
 #[cfg(test)]
-mod selection;
+mod problems;

@@ -1,4 +1,4 @@
-//! Limits of problems.
+//! What `Problem::new` refuses at its limits, and how a listing gives back its items.
 
 use mh_base::{Listing, is_ascending};
 use mh_network::{LinkRow, Problem, ProblemFault};
