@@ -1,37 +1,38 @@
-//! The program `refused_growths`: works of which a growth is refused from outside, while they run.
+//! The program `refused_growths`: does one thing that takes memory, so that `tools/refuse_growth`
+//! can refuse each allocation of it in turn.
 //!
-//! `refused_growths SUBJECT` makes ready what a work needs, writes what stands, and `opened`. Then
-//! it does the work, writes `worked`, what the work gave, and what stands. It does the work again and
-//! writes the same. With no word it does so for every subject.
-//! `tools/refuse_growth` refuses each growth between `opened` and `worked` in turn.
+//! `refused_growths SUBJECT` reads a script from standard input, prepares what the subject needs,
+//! prints its state and `opened`. Then it does the work and prints `worked`, the result, and the
+//! state. It does the work again and prints the same. Without a word it prints the subjects.
 #![tactic(auto)]
 
-mod books;
-mod definition;
-mod machines;
+mod histories;
 mod offices;
 mod openings;
-mod passes;
-mod plans;
-mod reopening;
-mod runtimes;
+mod script;
 mod settling;
 mod subject;
 mod telling;
 mod trees;
 
-use crate::subject::{Subject, try_all, try_subject};
+use crate::script::Input;
+use crate::subject::{Subject, tell_subjects, try_subject};
 use anyhow::Context;
-use std::env;
+use std::{env, io};
 
 fn main(rt: HostRuntime) -> anyhow::Result<()> {
     let alloc = rt.alloc();
+    let text = io::read_to_string(alloc, rt.stdin())?;
+    let input = Input {
+        alloc,
+        bytes: text.as_bytes(),
+    };
     let words = env::args(&rt)?.collect::<Vec<String>>(alloc)?;
     match words.as_slice() {
         [_, word] => {
             let subject = Subject::named(word.as_str()).context("no such subject")?;
-            try_subject(&rt, alloc, subject)
+            try_subject(&rt, input, subject)
         }
-        _ => try_all(&rt, alloc),
+        _ => tell_subjects(&rt, input),
     }
 }

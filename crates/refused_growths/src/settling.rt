@@ -1,27 +1,24 @@
-//! The settlement of an office and its passes.
+//! Settles an office and its passes.
 
 ghost use Rattle.std.specs.Prelude.{◌≡◌};
 
-use crate::definition::F;
-use crate::offices::{make_opening, make_ready, tell};
-use crate::telling::{tell_again, tell_opened, tell_part, tell_worked};
-use anyhow::Context;
-use mh_live::mh_core::Value;
-use mh_live::{ListName, Live, Opening, Pass, SettleFault, Settled, Unsettled};
+use crate::offices::{Running, ask_before, tell};
+use crate::script::Input;
+use crate::telling::{tell_again, tell_opened, tell_worked};
+use mh_live::{ListName, Opening, SettleFault, Settled, Unsettled};
 use std::alloc::Global;
 use std::marker::Brand;
 use std::sync::Wait;
 
-/// Settles, and again where it was refused.
-pub(crate) fn try_settle<R: Print + Wait>(rt: &R, alloc: Global) -> anyhow::Result<()> {
-    let opening = make_opening(alloc)?;
-    try_opened::<Brand, R>(rt, alloc, opening)
+/// Asks a new office for all events, and settles it, again if that is refused.
+pub(crate) fn try_settle<R: Print + Wait>(rt: &R, input: Input<'_>) -> anyhow::Result<()> {
+    let opening = input.opening()?;
+    try_opened::<Brand, R>(rt, input, opening)
 }
 
-/// The same of an opening.
 fn try_opened<N: ListName, R: Print + Wait>(
     rt: &R,
-    alloc: Global,
+    input: Input<'_>,
     opening: Opening,
 ) -> anyhow::Result<()>
     requires name { opening.name ≡ N.book }
@@ -29,61 +26,79 @@ fn try_opened<N: ListName, R: Print + Wait>(
     requires limits { opening.limits ≡ N.limits }
     requires workers { opening.workers ≡ N.workers }
 {
-    let (live, mut passes) = opening.open::<N>()?;
-    make_first_ready(rt, alloc, &live, &mut passes)?;
-    tell_all(rt, &live, &mut passes)?;
-    tell_opened(rt)?;
-    match live.settle(rt, alloc, passes) {
-        Ok(settled) => tell_settled(rt, &settled),
-        Err(unsettled) => try_again(rt, alloc, unsettled),
+    let (live, passes) = opening.open::<N>()?;
+    let mut running = Running { live, passes };
+    make_ready(rt, input, &mut running)?;
+    settle_first(rt, input.alloc, running)
+}
+
+/// Asks for all events, and prints the state and that all is ready.
+fn make_ready<N: ListName, R: Print + Wait>(
+    rt: &R,
+    input: Input<'_>,
+    running: &mut Running<N>,
+) -> anyhow::Result<()> {
+    ask_before(rt, input, running, input.count()?)?;
+    tell(rt, running)?;
+    tell_opened(rt)
+}
+
+/// Settles while an allocation may be refused, and again if it was.
+fn settle_first<N: ListName, R: Print + Wait>(
+    rt: &R,
+    alloc: Global,
+    running: Running<N>,
+) -> anyhow::Result<()> {
+    match settle(rt, alloc, running) {
+        Ok(settled) => tell_worked::<usize, SettleFault>(rt, &Ok(settled.links())),
+        Err(unsettled) => settle_again(rt, alloc, unsettled),
     }
 }
 
-/// Two hits of the first pass, their flush and plan, and one hit more.
-fn make_first_ready<N: ListName, R: Wait>(
+/// Settles an office and its passes.
+fn settle<N: ListName, R: Wait>(
     rt: &R,
     alloc: Global,
-    live: &Live<N>,
-    passes: &mut Vec<Pass<N>>,
-) -> anyhow::Result<()> {
-    let pass = passes.get_mut(0).context("there is no pass")?;
-    make_ready(rt, alloc, live, pass)
+    running: Running<N>,
+) -> Result<Settled<N>, Unsettled<N>> {
+    let Running { live, passes } = running;
+    live.settle(rt, alloc, passes)
 }
 
-/// Why it was refused, that all stands and works, and what comes where it is done again.
-fn try_again<N: ListName, R: Print + Wait>(
+/// Prints why a settlement was refused, and the state of what was handed back, and settles again.
+fn settle_again<N: ListName, R: Print + Wait>(
     rt: &R,
     alloc: Global,
     unsettled: Unsettled<N>,
 ) -> anyhow::Result<()> {
     let Unsettled {
         live,
-        mut passes,
+        passes,
         fault,
     } = unsettled;
+    let running = Running { live, passes };
+    tell_refused(rt, &running, fault)?;
+    settle_last(rt, alloc, running)
+}
+
+/// Prints why a settlement was refused, and the state of what was handed back.
+fn tell_refused<N: ListName, R: Print + Wait>(
+    rt: &R,
+    running: &Running<N>,
+    fault: SettleFault,
+) -> anyhow::Result<()> {
     tell_worked::<usize, SettleFault>(rt, &Err(fault))?;
-    tell_all(rt, &live, &mut passes)?;
-    match live.settle(rt, alloc, passes) {
+    tell(rt, running)
+}
+
+/// Settles with ample memory.
+fn settle_last<N: ListName, R: Print + Wait>(
+    rt: &R,
+    alloc: Global,
+    running: Running<N>,
+) -> anyhow::Result<()> {
+    match settle(rt, alloc, running) {
         Ok(settled) => tell_again::<usize, SettleFault>(rt, &Ok(settled.links())),
         Err(unsettled) => tell_again::<usize, SettleFault>(rt, &Err(unsettled.fault)),
     }
-}
-
-/// The hits of a settlement.
-fn tell_settled<N: ListName>(rt: &impl Print, settled: &Settled<N>) -> anyhow::Result<()> {
-    tell_worked::<usize, SettleFault>(rt, &Ok(settled.links()))
-}
-
-/// What stands in an office and its passes, and what each pass gives for a call that hits no link.
-fn tell_all<N: ListName, R: Print + Wait>(
-    rt: &R,
-    live: &Live<N>,
-    passes: &mut Vec<Pass<N>>,
-) -> anyhow::Result<()> {
-    for pass in passes.iter_mut() {
-        let answer = pass.call(F, &[Value::Int(3)])?;
-        tell_part(rt, "answer", &answer)?;
-        tell(rt, live, pass)?;
-    }
-    Ok(())
 }

@@ -1,8 +1,8 @@
-//! The constructors of trees, and chains.
+//! Makes trees by the constructors, and a chain.
 
-use crate::definition::{guarded, text, with_one};
+use crate::script::Input;
 use crate::telling::{tell_again, tell_opened, tell_part, tell_worked};
-use mh_live::mh_core::{Declared, Handle, Kind, MethodType, Op, Prepared, TreeFault, Value};
+use mh_live::mh_core::{Declared, Handle, Kind, MethodType, Op, Prepared, Text, TreeFault, Value};
 use mh_pic::{Entry, chain, may_chain};
 use std::alloc::Global;
 
@@ -26,91 +26,119 @@ pub(crate) enum Maker {
     Chain,
 }
 
-/// What trees are made of.
+/// The trees and the text of which trees are made.
 #[derive(Debug, Drop)]
 struct Parts {
     text: Value,
-    unary: MethodType,
     negation: Handle,
     sum: Handle,
     test: Handle,
-    filters: Vec<Option<Handle>>,
-    base: Declared,
-    entries: Vec<Entry>,
 }
 
-/// The parts.
+/// Makes the parts.
 fn make_parts(alloc: Global) -> anyhow::Result<Parts> {
     Ok(Parts {
-        text: text(alloc, "text")?,
-        unary: MethodType::unary(Kind::Int, Kind::Int),
+        text: Value::Text(Text::new(alloc, "text")?),
         negation: Handle::op(alloc, Op::Ineg)?,
         sum: Handle::op(alloc, Op::Iadd)?,
-        test: with_one(alloc, Op::Ieq)?,
-        filters: filters(alloc)?,
-        base: guarded(alloc)?,
-        entries: entries(alloc)?,
+        test: equals_one(alloc)?,
     })
 }
 
-/// The negation, and no filter.
+/// The lists of which trees are made, and the base of a chain.
+#[derive(Debug, Drop)]
+struct Lists {
+    filters: Vec<Option<Handle>>,
+    entries: Vec<Entry>,
+    base: Declared,
+}
+
+/// Makes the lists. The base of a chain is the negation.
+fn make_lists(alloc: Global) -> anyhow::Result<Lists> {
+    Ok(Lists {
+        filters: filters(alloc)?,
+        entries: entries(alloc)?,
+        base: declared_negation(alloc)?,
+    })
+}
+
+/// Makes the test whether an int is 1.
+fn equals_one(alloc: Global) -> Result<Handle, TreeFault> {
+    Handle::insert(alloc, &Handle::op(alloc, Op::Ieq)?, 1, &[Value::Int(1)])
+}
+
+/// Makes a filter and no filter.
 fn filters(alloc: Global) -> anyhow::Result<Vec<Option<Handle>>> {
     let negation = Handle::op(alloc, Op::Ineg)?;
     Ok(vec![in alloc; Some(negation), None]?)
 }
 
-/// The cases of the two links.
+/// Makes the negation, and declares it.
+fn declared_negation(alloc: Global) -> anyhow::Result<Declared> {
+    let negation = Handle::op(alloc, Op::Ineg)?;
+    Ok(Declared::new(&negation)?)
+}
+
+/// Makes two entries, of which one needs a point and the other two.
 fn entries(alloc: Global) -> anyhow::Result<Vec<Entry>> {
     let first = Entry::new(Value::Int(1), Vec::from_slice(alloc, &[0])?);
     let second = Entry::new(Value::Int(2), Vec::from_slice(alloc, &[0, 1])?);
     Ok(vec![in alloc; first, second]?)
 }
 
-/// Makes a tree of parts.
-fn make(alloc: Global, maker: Maker, parts: &Parts) -> Result<Handle, TreeFault> {
+/// Makes a tree of parts and lists.
+fn make(alloc: Global, maker: Maker, parts: &Parts, lists: &Lists) -> Result<Handle, TreeFault> {
+    let unary = MethodType::unary(Kind::Int, Kind::Int);
     match maker {
         Maker::Constant => Handle::constant(alloc, &parts.text),
         Maker::Identity => Handle::identity(alloc, Kind::Text),
         Maker::Operation => Handle::op(alloc, Op::Concat),
-        Maker::Invocation => Handle::invoke(alloc, 0, &parts.unary),
+        Maker::Invocation => Handle::invoke(alloc, 0, &unary),
         Maker::Insertion => Handle::insert(alloc, &parts.sum, 1, &[Value::Int(1)]),
         Maker::Dropping => Handle::drop(alloc, &parts.negation, 1, &[Kind::Long]),
-        Maker::Permutation => Handle::permute(alloc, &parts.sum, &parts.unary, &[0, 0]),
-        Maker::Filters => Handle::filter(alloc, &parts.sum, 0, parts.filters.as_slice()),
+        Maker::Permutation => Handle::permute(alloc, &parts.sum, &unary, &[0, 0]),
+        Maker::Filters => Handle::filter(alloc, &parts.sum, 0, lists.filters.as_slice()),
         Maker::ReturnFilter => Handle::filter_return(alloc, &parts.sum, &parts.negation),
         Maker::Fold => Handle::fold(alloc, &parts.sum, &parts.negation),
         Maker::Guard => Handle::guard(alloc, &parts.test, &parts.negation, &parts.negation),
         Maker::Point => Handle::point(alloc, 0, &parts.negation, &parts.negation),
         Maker::Declaration => Ok(Declared::new(&parts.negation)?.handle().share()?),
-        Maker::Preparation => Ok(Prepared::new(alloc, parts.base.handle())?.handle().share()?),
-        Maker::Chain => make_chain(alloc, parts),
+        Maker::Preparation => Ok(Prepared::new(alloc, &parts.test)?.handle().share()?),
+        Maker::Chain => make_chain(alloc, &lists.base, lists.entries.as_slice()),
     }
 }
 
-/// The cache of the two links.
-fn make_chain(alloc: Global, parts: &Parts) -> Result<Handle, TreeFault> {
-    if !may_chain(
-        parts.base.handle().method_type(),
-        0,
-        parts.entries.as_slice(),
-    ) {
+/// Makes a chain of entries over a base.
+fn make_chain(alloc: Global, base: &Declared, entries: &[Entry]) -> Result<Handle, TreeFault> {
+    if !may_chain(base.handle().method_type(), 0, entries) {
         return Err(TreeFault::BadPosition);
     }
-    Ok(chain(alloc, &parts.base, 0, parts.entries.as_slice())?)
+    Ok(chain(alloc, base, 0, entries)?)
 }
 
-/// Makes a tree of parts, and again.
-pub(crate) fn try_maker(rt: &impl Print, alloc: Global, maker: Maker) -> anyhow::Result<()> {
-    let parts = make_parts(alloc)?;
-    try_parts(rt, alloc, maker, &parts)
+/// Makes a tree, and makes it again.
+pub(crate) fn try_maker(rt: &impl Print, input: Input<'_>, maker: Maker) -> anyhow::Result<()> {
+    let parts = make_parts(input.alloc)?;
+    let lists = make_lists(input.alloc)?;
+    try_parts(rt, input.alloc, maker, &parts, &lists)
 }
 
-/// The same of parts that stand.
-fn try_parts(rt: &impl Print, alloc: Global, maker: Maker, parts: &Parts) -> anyhow::Result<()> {
-    tell_part(rt, "parts", parts)?;
+fn try_parts(
+    rt: &impl Print,
+    alloc: Global,
+    maker: Maker,
+    parts: &Parts,
+    lists: &Lists,
+) -> anyhow::Result<()> {
+    tell_parts(rt, parts, lists)?;
     tell_opened(rt)?;
-    tell_worked(rt, &make(alloc, maker, parts))?;
+    tell_worked(rt, &make(alloc, maker, parts, lists))?;
+    tell_parts(rt, parts, lists)?;
+    tell_again(rt, &make(alloc, maker, parts, lists))?;
+    tell_parts(rt, parts, lists)
+}
+
+fn tell_parts(rt: &impl Print, parts: &Parts, lists: &Lists) -> anyhow::Result<()> {
     tell_part(rt, "parts", parts)?;
-    tell_again(rt, &make(alloc, maker, parts))?;
-    tell_part(rt, "parts", parts)
+    tell_part(rt, "lists", lists)
 }
