@@ -8,7 +8,7 @@ import java.lang.invoke.SwitchPoint;
 
 /**
  * Times calls of a tree of method handles: {@code java Calls.java SUBJECT ROUNDS RUNS}. The trees and arguments are those of
- * bench_calls, and a call is exact, through a spreader, with boxed arguments. The handle is no constant to the compiler, which
+ * crates/bench, and a call is exact, through a spreader, with boxed arguments. The handle is no constant to the compiler, which
  * would otherwise take the calls out of the loop. It prints the sum of the answers of one run, and the least nanoseconds of
  * the runs.
  */

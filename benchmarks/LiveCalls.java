@@ -17,7 +17,7 @@ import java.util.concurrent.locks.LockSupport;
 /**
  * Times calls of a site by several threads while one retargets it: {@code java LiveCalls.java KIND CALLERS PER_SECOND SECONDS}.
  * The tree is that of f in the README's first example, called with 1. A call is exact, through a spreader, with boxed arguments,
- * as in Calls.java. It prints one line, in the form of bench_live.
+ * as in Calls.java. It prints one line, of words and numbers.
  *
  * <p>KIND is {@code mutable}, a {@link MutableCallSite} with {@code syncAll} after each {@code setTarget}, or {@code volatile}, a
  * {@link VolatileCallSite}. HotSpot's compiler takes the target of either for a constant and throws code away at a {@code setTarget},

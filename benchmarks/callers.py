@@ -23,12 +23,18 @@ def timed(program, how, threads, rate):
     return told["nanoseconds"] / told["calls"], told["changes"] / SECONDS
 
 
+def built(prefix, folder):
+    """Compiles callers.c into a folder."""
+    program = Path(folder) / "callers"
+    said("cc", *FLAGS, f"-I{prefix}/include", HERE / "callers.c", prefix / "lib/libmhlink.a", "-o", program)
+    return program
+
+
 def main():
     prefix = Path(sys.argv[1]).resolve() if sys.argv[1:] else HERE.parent / "out/c"
     print("| Threads | Changes a second | callers | made | locked machine | made |\n|---|---|---|---|---|---|")
     with tempfile.TemporaryDirectory(prefix="mhlink-c-") as folder:
-        program = Path(folder) / "callers"
-        said("cc", *FLAGS, f"-I{prefix}/include", HERE / "callers.c", prefix / "lib/libmhlink.a", "-o", program)
+        program = built(prefix, folder)
         for rate in RATES:
             for threads in THREADS:
                 runs = [[timed(program, how, threads, rate) for how in HOW] for _ in range(RUNS)]

@@ -1,45 +1,48 @@
 #!/usr/bin/env python3
-"""calls.py [ROUNDS]: times calls by bench_calls, ten million where no number is named, and beside them the same trees by the JDK.
+"""calls.py [ROUNDS]: times calls by crates/bench, ten million by default, and the same trees by the JDK.
 
-It proves and builds crates/bench_calls where that was not done (`rt run`), and prints nanoseconds a call, the least of several
-runs: by `run` on a prepared tree, by `eval` on a plain handle, by `Machine::step`, and by `java.lang.invoke`, an exact call of a
-handle that is no constant, through a spreader, with boxed arguments. The sums of all answers have to be the same. Below stand
-a million calls through a machine with a flush after each 1,000, with the peak of memory, and the targets. Where there is no
-`java` on the path, it says so, and leaves its column empty."""
+It proves and builds crates/bench if that was not done (`rt run`), and prints nanoseconds per call, the least of several runs: by
+`run` on a prepared tree, by `eval` on a plain handle, by `Machine::step`, and by `java.lang.invoke`, an exact call of a handle
+that is not a constant, through a spreader, with boxed arguments. The sums of all answers have to be the same. Then it prints a
+million calls through a machine with a flush after each 1,000, with the peak of memory, and the targets. If `java` is not on the
+path, it says so, and leaves its column empty."""
 import os, re, shutil, subprocess, sys
 from pathlib import Path
 
 HERE = Path(__file__).resolve().parent
-CRATE = HERE.parent / "crates/bench_calls"
-PROGRAM = CRATE / "out/bench_calls"
+CRATE = HERE.parent / "crates/bench"
+PROGRAM = CRATE / "out/bench"
 ROUNDS = int(sys.argv[1]) if sys.argv[1:] else 10_000_000
 RUNS = 7
-SUBJECTS = {
-    "f1": "`f(1)` of the first example",
-    "f2": "`f(2)`",
-    "operation": "one operation, `ineg`",
-    "constant": "a constant",
-    "concat": "`concat` of two texts of two bytes",
-    "eleven": "every combinator, `eleven`",
-    "twice": "every combinator, `abab`",
-    "negative": "every combinator, `negative`",
-    "greet": "every combinator, `hello, ab`",
-    "one-site": "a site that invokes one of `ineg`",
-    "two-sites": "the same through two sites",
-    "three-sites": "the same through three sites",
-}
+# the calls of crates/bench/stdin by their places: the word of Calls.java, and the row's name
+SUBJECTS = [
+    ("f1", "`f(1)` of the first example"),
+    ("f2", "`f(2)`"),
+    ("operation", "one operation, `ineg`"),
+    ("constant", "a constant"),
+    ("concat", "`concat` of two texts of two bytes"),
+    ("eleven", "every combinator, `eleven`"),
+    ("twice", "every combinator, `abab`"),
+    ("negative", "every combinator, `negative`"),
+    ("greet", "every combinator, `hello, ab`"),
+    ("one-site", "a site that invokes one of `ineg`"),
+    ("two-sites", "the same through two sites"),
+    ("three-sites", "the same through three sites"),
+]
+# the call of the site that has a link
+LINKED = 12
 TARGETS = {("f1", "run"): 16, ("concat", "run"): 75, ("f1", "step"): 60}
 LINE = re.compile(r"answers (\d+), steps \d+, (\d+) ns")
 
 
 def build():
     """Proves and builds the program, if need be."""
-    subprocess.run(["rt", "run", "--", "run", "f1", "0"], cwd=CRATE, check=True, stdout=sys.stderr)
+    subprocess.run(["rt", "run"], cwd=CRATE, check=True, stdout=sys.stderr)
 
 
-def told(words):
+def told(words, given=subprocess.DEVNULL):
     """What a program prints, and the most kilobytes that it held."""
-    child = subprocess.Popen(words, stdout=subprocess.PIPE, encoding="utf-8")
+    child = subprocess.Popen(words, stdin=given, stdout=subprocess.PIPE, encoding="utf-8")
     said = child.stdout.read()
     _, status, used = os.wait4(child.pid, 0)
     child.returncode = os.waitstatus_to_exitcode(status)
@@ -48,9 +51,15 @@ def told(words):
     return said, used.ru_maxrss
 
 
-def timed(way, subject, rounds):
-    """The sum of the answers, the least nanoseconds a call, and the most kilobytes."""
-    runs = [told([PROGRAM, way, subject, str(rounds), "timed"]) for _ in range(RUNS)]
+def call(way, place, rounds):
+    """One run of the program."""
+    with open(CRATE / "stdin", encoding="utf-8") as script:
+        return told([PROGRAM, "call", way, str(place), str(rounds)], script)
+
+
+def timed(way, place, rounds):
+    """The sum of the answers, the least nanoseconds per call, and the most kilobytes."""
+    runs = [call(way, place, rounds) for _ in range(RUNS)]
     lines = [LINE.search(said) for said, _ in runs]
     return int(lines[0][1]), min(int(line[2]) for line in lines) / rounds, max(memory for _, memory in runs)
 
@@ -63,9 +72,9 @@ def by_java(subject):
     return int(total), int(took) / ROUNDS
 
 
-def row(subject):
-    """The figures of a subject, by way, of which all have the same sum."""
-    found = {way: timed(way, subject, ROUNDS)[:2] for way in ("run", "eval", "step")}
+def row(place, subject):
+    """The figures of a subject, by way, all of which have the same sum."""
+    found = {way: timed(way, place, ROUNDS)[:2] for way in ("run", "eval", "step")}
     jdk = by_java(subject)
     if jdk:
         found["JDK"] = jdk
@@ -78,15 +87,15 @@ def row(subject):
 def main():
     build()
     if not shutil.which("java"):
-        print("there is no java on the path: the JDK is left out\n")
+        print("java is not on the path: the JDK is left out\n")
     print("| Call | `run` | `eval` | `Machine::step` | JDK | `run` to JDK |\n|---|---|---|---|---|---|")
     rows = {}
-    for subject, name in SUBJECTS.items():
-        rows[subject] = it = row(subject)
+    for place, (subject, name) in enumerate(SUBJECTS):
+        rows[subject] = it = row(place, subject)
         cells = [f"{it[way]:.1f}" for way in ("run", "eval", "step")]
         cells += [f"{it['JDK']:.1f}", f"{it['run'] / it['JDK']:.1f}"] if "JDK" in it else ["", ""]
         print(f"| {name} | {' | '.join(cells)} |", flush=True)
-    _, took, memory = timed("flush", "f1", 1_000_000)
+    _, took, memory = timed("flush", LINKED, 1_000_000)
     print(f"\na million calls of f(1) with a flush after each 1,000: {took:.1f} ms, at most {memory / 1024:.0f} MiB")
     for (subject, way), target in TARGETS.items():
         took = rows[subject][way]

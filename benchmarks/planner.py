@@ -1,18 +1,18 @@
 #!/usr/bin/env python3
-"""planner.py [--large] [PROGRAM [FLOW_BENCH]]: times `mhlink plan`, and its greatest flow alone beside LEMON's, on the largest problems.
+"""planner.py [--large] [PROGRAM [BENCH]]: times `mhlink plan`, and its greatest flow alone beside LEMON's, on the largest problems.
 
-PROGRAM is ../mhlink where none is named, and FLOW_BENCH is what `rt run` builds in ../crates/bench_flow. LEMON's flow wants
+PROGRAM is ../mhlink where none is named, and BENCH is what `rt run` builds in ../crates/bench. LEMON's flow wants
 g++ and LEMON (Debian's liblemon-dev); without them its column is empty. For each problem it prints the phases of the flow,
 part by part and over the whole, and in milliseconds, the least of several runs: the whole of `mhlink plan` on one worker, on
 two and on four; the reading of its input, which is `mhlink check` on the same problem with no plan beside it; planning, which
-is the difference of the first and this; `max_flow` on the whole problem, read before, which is a run of FLOW_BENCH less one
+is the difference of the first and this; `max_flow` on the whole problem, read before, which is a run of BENCH less one
 that finds no flow; and LEMON's Preflow over a network that was built before. The last two are what they took of a processor,
 all others are by the clock. All have to find flows of the same value. Numbers are drawn from a fixed seed, so the problems are
 always the same: as large as version 1 lets them be, with charges too, and as large as version 2 does.
 
 A second table has problems past these limits: profiles that VMs logged (../examples/profiles), and made ones of 2^20 links. It
 has what a plan, `max_flow` and LEMON's Preflow took of a processor, the least of several runs, LEMON's time over that of
-`max_flow`, the most memory that FLOW_BENCH had while it made the plan and that LEMON's program had, both with the problem that
+`max_flow`, the most memory that BENCH had while it made the plan and that LEMON's program had, both with the problem that
 they read, and the ratio of these (what starts them has 14 MiB itself, which count). Where LEMON takes longer than LIMIT it is
 stopped, and its columns are empty. With --large only this table is made, and PROGRAM is not run.
 """
@@ -23,7 +23,7 @@ HERE = Path(__file__).resolve().parent
 LINKS, POINTS = 4096, 1024
 LARGEST = 16384, 4096
 RUNS = 9
-# how many links a run of FLOW_BENCH goes over: fifty flows of 4,096 links, twelve of 16,384
+# how many links a run of BENCH goes over: fifty flows of 4,096 links, twelve of 16,384
 ALL_LINKS = 204800
 # the most links of any problem, and after how many seconds by the clock a program is stopped on such a one
 MOST = 2**20
@@ -177,7 +177,7 @@ def numbers(given):
 def flow_alone(program, given):
     """The milliseconds of one `max_flow` without its reading, the value of the flow, and its phases."""
     often, text = ALL_LINKS // len(given["links"]), "\n".join(numbers(given))
-    (none, _), (some, said) = (least([program, "flow"], f"{rounds}\n{text}".encode(), taken) for rounds in (0, often))
+    (none, _), (some, said) = (least([program, "solve", "flow", str(rounds)], text.encode(), taken) for rounds in (0, often))
     _, value, _, phases = said.split()
     return (some - none) / often, value, phases
 
@@ -189,19 +189,19 @@ def used(words, text):
 
 
 def done_alone(program, word, text, often, runs):
-    """The milliseconds of one work of FLOW_BENCH without its reading, its most memory in MiB, and what it printed."""
-    none = min(used([program, word], b"0\n" + text)[0] for _ in range(runs))
-    some = [used([program, word], b"%d\n" % often + text) for _ in range(runs)]
+    """The milliseconds of one work of BENCH without its reading, its most memory in MiB, and what it printed."""
+    none = min(used([program, "solve", word, "0"], text)[0] for _ in range(runs))
+    some = [used([program, "solve", word, str(often)], text) for _ in range(runs)]
     return (min(it[0] for it in some) - none) * 1000 / often, max(it[1] for it in some), some[0][2]
 
 
-def large_row(name, given, bench_flow, lemon):
+def large_row(name, given, bench, lemon):
     """A row of the second table."""
     links, needs = len(given["links"]), sum(len(link["needs"]) for link in given["links"])
     text, often = "\n".join(numbers(given)).encode(), max(1, ALL_LINKS // links)
     runs, turns = (RUNS, "7") if often > 1 else (3, "1")
-    plan, memory, _ = done_alone(bench_flow, "plan", text, often, runs)
-    flow, _, said = done_alone(bench_flow, "flow", text, often, runs)
+    plan, memory, _ = done_alone(bench, "plan", text, often, runs)
+    flow, _, said = done_alone(bench, "flow", text, often, runs)
     beside = used([lemon, turns], text) if lemon else None
     row = f"| {name} | {links:,} | {len(given['costs']):,} | {needs:,} | {plan:.2f} | {flow:.2f} | "
     if beside is None:
@@ -212,11 +212,11 @@ def large_row(name, given, bench_flow, lemon):
     return row + f"{took:.2f} | {took / flow:.1f} | {memory:.0f} | {beside[1]:.0f} | {beside[1] / memory:.1f} |"
 
 
-def large_table(bench_flow, lemon):
+def large_table(bench, lemon):
     print("| Problem | links | points | needs | plan | max_flow | LEMON | LEMON / max_flow | MiB | LEMON's MiB | ratio |")
     print("|---|---|---|---|---|---|---|---|---|---|---|")
     for name, problem_of in LARGE.items():
-        print(large_row(name, problem_of(), bench_flow, lemon), flush=True)
+        print(large_row(name, problem_of(), bench, lemon), flush=True)
 
 
 def lemon_in(room):
@@ -228,13 +228,13 @@ def lemon_in(room):
     return None if built.returncode else lemon
 
 
-def first_row(program, bench_flow, lemon, name, given):
+def first_row(program, bench, lemon, name, given):
     """A row of the first table."""
     text = json.dumps(given, separators=(",", ":")).encode()
     whole, said = least([program, "plan", "--phases"], text)
     two, four = (least([program, "plan", "--workers", str(count)], text)[0] for count in (2, 4))
     reading, _ = least([program, "check"], b'{"problem":' + text + b"}")
-    alone, value, rounds = flow_alone(bench_flow, given)
+    alone, value, rounds = flow_alone(bench, given)
     plan, phases = said.splitlines()
     assert plan.endswith(f" flow {value}"), f"{name}: max_flow gives {value}, and the plan is {plan[-60:]}"
     beside = "-"
@@ -247,25 +247,25 @@ def first_row(program, bench_flow, lemon, name, given):
     return f"| {name} | {count} | {bound} | {row} |"
 
 
-def first_table(program, bench_flow, lemon):
+def first_table(program, bench, lemon):
     print("| Problem | phases | bound | plan | 2 workers | 4 workers | reading | planning | phases of the whole | max_flow | LEMON |")
     print("|---|---|---|---|---|---|---|---|---|---|---|")
     for name, given in PROBLEMS.items():
-        print(first_row(program, bench_flow, lemon, name, given), flush=True)
+        print(first_row(program, bench, lemon, name, given), flush=True)
     print()
 
 
 def main():
     words = [it for it in sys.argv[1:] if it != "--large"]
     program = words[0] if words else str(HERE.parent / "mhlink")
-    bench_flow = words[1] if len(words) > 1 else str(HERE.parent / "crates/bench_flow/out/bench_flow")
-    if not Path(bench_flow).is_file():
-        sys.exit(f"{bench_flow} is not built: run `rt run -- flow <stdin` in crates/bench_flow")
+    bench = words[1] if len(words) > 1 else str(HERE.parent / "crates/bench/out/bench")
+    if not Path(bench).is_file():
+        sys.exit(f"{bench} is not built: run `rt run` in crates/bench")
     with tempfile.TemporaryDirectory() as room:
         lemon = lemon_in(room)
         if "--large" not in sys.argv[1:]:
-            first_table(program, bench_flow, lemon)
-        large_table(bench_flow, lemon)
+            first_table(program, bench, lemon)
+        large_table(bench, lemon)
 
 
 if __name__ == "__main__":

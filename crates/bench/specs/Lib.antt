@@ -1,0 +1,3 @@
+pub mod Called
+pub mod Found
+pub mod Tallies

@@ -1,6 +1,0 @@
-use Rattle.std.specs.Prelude.{IfSome}
-use Rattle.bench_flow.specs.Found.{IsFound}
-use Rattle.bench_flow.proofs.found.find.Given as goal
-
-abbrev pub invariant-loop : goal.invariant-loop
-invariant-loop l = IfSome l.found (λ f. IsFound l.problem l.work f)
