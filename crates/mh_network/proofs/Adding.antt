@@ -8,7 +8,8 @@ use Rattle.mh_network.specs.Sums.{kept, sum_below}
 use Rattle.mh_network.specs.Problems.{ProblemData, IsProblem, gain_of, charge_of, cost_of, needs_point, sum_of_gains}
 use Rattle.mh_network.specs.Parts.{AreParts, part_at, part_problem, restricted}
 use Rattle.mh_network.specs.Selection.{member, gain_sum, cost_sum, price, union_of_needs, worth}
-use Rattle.mh_network.proofs.Joining.{meet, up_to, gain_split, price_split, meet_step, less_step, all_up, ArePartMasks}
+use Rattle.mh_network.specs.Laws.Halves.{meet}
+use Rattle.mh_network.proofs.Joining.{up_to, gain_split, price_split, meet_step, less_step, all_up, ArePartMasks}
 use Rattle.mh_network.specs.Laws.Optimal.{some_below-from, some_below-gives}
 use Rattle.mh_network.proofs.Parted.{every, part_gains}
 use Rattle.mh_network.proofs.Renumbering.{gains_here, prices_here, part_of, part_masks}

@@ -1,56 +1,21 @@
 -- Least best links of sets of links that share no point join to the least best links of all.
 use Rattle.std.proofs.Common.{◌≡◌, ℕ, zero, suc, ◌+◌, ◌≤◌, ◌<◌, ◌⊎◌, Bool, true, false, cond, refl, arith, sym, ◌∙◌, ap, inl, inr, length, subst}
-use Rattle.std.specs.Prelude.{not, ◌&&◌, ◌||◌, pos, ◌-ℤ◌, ◌≤ℤ◌}
+use Rattle.std.specs.Prelude.{not, ◌&&◌, ◌||◌}
 use Rattle.std.proofs.Math.Path.{fun_ext}
-use Rattle.std.proofs.lemmas.Int.{ints}
 use Rattle.std.proofs.lemmas.List.{get_or_past}
 use Rattle.std.proofs.lemmas.Bool.{cases_Bool, cases_lt, true≢false, and_parts, and_from, or_cases}
 use Rattle.mh_network.specs.declared.link_row.LinkRow.{LinkRow}
 use Rattle.mh_network.specs.Sums.{sum_below, some_below, kept}
 use Rattle.mh_network.specs.Problems.{ProblemData, link_at, gain_of, charge_of, cost_of, needs_point, no_link}
-use Rattle.mh_network.specs.Selection.{union_of_needs, gain_sum, cost_sum, price, worth, AllEligible, IsBest, IsLeast}
-use Rattle.mh_network.specs.Laws.SumLaws.{sum_below-same, sum_below-add, sum_below-split}
+use Rattle.mh_network.specs.Selection.{union_of_needs, gain_sum, cost_sum, price, AllEligible, IsBest, IsLeast}
+use Rattle.mh_network.specs.Laws.Halves.{meet, less, half_sums}
+use Rattle.mh_network.specs.Laws.Nets.{NoBetter, no_better, worth_le, IsBestWithin, IsLeastWithin}
+use Rattle.mh_network.specs.Laws.SumLaws.{sum_below-same, sum_below-add}
 use Rattle.mh_network.specs.Laws.Optimal.{some_below-from, some_below-gives}
-
-abbrev pub meet : (ℕ → Bool) → (ℕ → Bool) → ℕ → Bool
-meet S A j = S j && A j
-
-abbrev pub less : (ℕ → Bool) → (ℕ → Bool) → ℕ → Bool
-less S A j = S j && not (A j)
 
 -- links that share a point are both in A, or both not
 pub record IsSeparate (P : ProblemData) (A : ℕ → Bool) : Type 0 where
   pub same : (j k p : ℕ) → needs_point P j p ≡ true → needs_point P k p ≡ true → A j ≡ A k
-
--- T is worth no more than S
-abbrev pub NoBetter : ProblemData → (ℕ → Bool) → (ℕ → Bool) → Type 0
-NoBetter P T S = gain_sum P T + price P S ≤ gain_sum P S + price P T
-
-difference-back : (a b c d : ℕ) → (pos a -ℤ pos c) ≤ℤ (pos b -ℤ pos d) → a + d ≤ b + c
-difference-back a b c d h = omega (arith, ints)
-
-difference-le : (a b c d : ℕ) → a + d ≤ b + c → (pos a -ℤ pos c) ≤ℤ (pos b -ℤ pos d)
-difference-le a b c d h = omega (arith, ints)
-
-pub no_better : (P : ProblemData) (T S : ℕ → Bool) → worth P T ≤ℤ worth P S → NoBetter P T S
-no_better P T S h = difference-back _ _ _ _ h
-
-pub worth_le : (P : ProblemData) (T S : ℕ → Bool) → NoBetter P T S → worth P T ≤ℤ worth P S
-worth_le P T S h = difference-le _ _ _ _ h
-
-pub kept_meet : (S A : ℕ → Bool) (f : ℕ → ℕ) (k : ℕ) → kept A (kept S f) k ≡ kept (meet S A) f k
-kept_meet S A f k = elim (S k) as (λ b. cond (A k) (cond b (f k) 0) 0 ≡ cond (b && A k) (f k) 0) [
-  | true ↦ refl
-  | false ↦ elim (A k) as (λ c. cond {A = ℕ} c 0 0 ≡ 0) [ true ↦ refl | false ↦ refl ]
-]
-
--- a sum over a set is that over its half in A and that over the other
-half_sums : (n : ℕ) (f : ℕ → ℕ) (S A : ℕ → Bool) → sum_below n (kept (meet S A) f) + sum_below n (kept (less S A) f) ≡ sum_below n (kept S f)
-half_sums n f S A =
-    let whole = sum_below-split n A (kept S f) in
-    let first : sum_below n (kept A (kept S f)) ≡ sum_below n (kept (meet S A) f) = sum_below-same n _ _ (λ k l. kept_meet S A f k) in
-    let second : sum_below n (kept (λ k. not (A k)) (kept S f)) ≡ sum_below n (kept (less S A) f) = sum_below-same n _ _ (λ k l. kept_meet S (λ i. not (A i)) f k) in
-    omega arith
 
 pub gain_split : (P : ProblemData) (S A : ℕ → Bool) → gain_sum P (meet S A) + gain_sum P (less S A) ≡ gain_sum P S
 gain_split P S A = half_sums (length P.links) (gain_of P) S A
@@ -106,16 +71,6 @@ cost_split P S A separate =
 
 pub price_split : (P : ProblemData) (S A : ℕ → Bool) → IsSeparate P A → price P (meet S A) + price P (less S A) ≡ price P S
 price_split P S A separate = omega (arith, cost_split P S A separate, half_sums (length P.links) (charge_of P) S A)
-
--- best, and least, among the sets within A
-pub record IsBestWithin (P : ProblemData) (A S : ℕ → Bool) : Type 0 where
-  pub inside : (j : ℕ) → S j ≡ true → A j ≡ true
-  pub eligible : AllEligible P S
-  pub greatest : (T : ℕ → Bool) → AllEligible P T → ((j : ℕ) → T j ≡ true → A j ≡ true) → NoBetter P T S
-
-pub record IsLeastWithin (P : ProblemData) (A S : ℕ → Bool) : Type 0 where
-  pub best : IsBestWithin P A S
-  pub least : (T : ℕ → Bool) → IsBestWithin P A T → (j : ℕ) → S j ≡ true → T j ≡ true
 
 -- two halves that are no better make a whole that is no better
 pub whole_no_better : (P : ProblemData) (T S A : ℕ → Bool) → IsSeparate P A → NoBetter P (meet T A) (meet S A) → NoBetter P (less T A) (less S A) → NoBetter P T S

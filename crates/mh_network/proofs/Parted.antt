@@ -15,7 +15,7 @@ use Rattle.mh_network.specs.Parts.{IsPartOf, place_of, part_row, part_problem, r
 use Rattle.mh_network.specs.Laws.Kept.{sum_below-list}
 use Rattle.mh_network.specs.Laws.Members.{found, listed_sum, all_members}
 use Rattle.mh_network.specs.Laws.SumLaws.{sum_below-same, sum_below-le}
-use Rattle.mh_network.proofs.Joining.{meet}
+use Rattle.mh_network.specs.Laws.Halves.{meet}
 use Rattle.mh_network.proofs.Renumbering.{num, place_in, member_at, any_map, row_here, gains_here, charges_here}
 
 -- one more number of a list, as a function gives it

@@ -19,7 +19,9 @@ use Rattle.mh_network.specs.Laws.Kept.{sum_below-list}
 use Rattle.mh_network.specs.Laws.Members.{found, passing, same_answer, listed_sum, all_members}
 use Rattle.mh_network.specs.Laws.SumLaws.{sum_below-same}
 use Rattle.mh_network.specs.Laws.Optimal.{some_below-from, some_below-gives, needs-in_range}
-use Rattle.mh_network.proofs.Joining.{meet, NoBetter, no_better, worth_le, kept_meet, IsBestWithin, IsLeastWithin, ArePartMasks, least_of_masks}
+use Rattle.mh_network.specs.Laws.Halves.{meet, kept_meet}
+use Rattle.mh_network.specs.Laws.Nets.{NoBetter, no_better, worth_le, IsBestWithin, IsLeastWithin}
+use Rattle.mh_network.proofs.Joining.{ArePartMasks, least_of_masks}
 
 abbrev pub num : List ℕ → ℕ → ℕ
 num xs k = slice_index_or xs k 0
@@ -172,7 +174,7 @@ module _ (P : ProblemData) (part : Part) (h : IsPartOf P part) where
   into_part : (T S : ℕ → Bool) → NoBetter P (meet T (member part.links)) (meet S (member part.links)) → NoBetter (part_problem P part) (restricted T part) (restricted S part)
   into_part T S better = omega (arith, better, gains_here T, gains_here S, prices_here T, prices_here S)
 
-  met : (T : ℕ → Bool) → ((j : ℕ) → T j ≡ true → member part.links j ≡ true) → meet T (member part.links) ≡ T
+  pub met : (T : ℕ → Bool) → ((j : ℕ) → T j ≡ true → member part.links j ≡ true) → meet T (member part.links) ≡ T
   met T inside = fun_ext (λ j. elim (cases_Bool (T j)) [
     | inl e ↦ rw (e, inside j e) refl
     | inr e ↦ rw e refl
@@ -195,7 +197,7 @@ module _ (P : ProblemData) (part : Part) (h : IsPartOf P part) where
     | inr e ↦ e
   ]
 
-  restricted_spread : (V : ℕ → Bool) → AllEligible (part_problem P part) V → restricted (λ j. member part.links j && V (place_of part.links j)) part ≡ V
+  pub restricted_spread : (V : ℕ → Bool) → AllEligible (part_problem P part) V → restricted (λ j. member part.links j && V (place_of part.links j)) part ≡ V
   restricted_spread V fits = fun_ext (λ k. elim (cases_lt k (length part.links)) [
     | inl l ↦ rw (lt-ltb k (length part.links) l, member_at part.links k l, place_here part.links k h.links l) refl
     | inr past ↦
