@@ -1,0 +1,10 @@
+pub mod Computes
+pub mod Forms
+pub mod Frames
+pub mod Handled
+pub mod Lowers
+pub mod Pieces
+pub mod Placed
+pub mod Quotients
+pub mod Entries
+pub mod WordValues

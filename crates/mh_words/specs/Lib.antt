@@ -1,0 +1,12 @@
+pub mod Codes
+pub mod Holds
+pub mod Laws
+pub mod Limits
+pub mod Means
+pub mod Operations
+pub mod Routine
+pub mod RoutineOf
+pub mod Running
+pub mod Values
+pub mod Words
+pub mod inner

@@ -1,0 +1,5 @@
+-- Definitions that the clauses of private functions alone use: no promise asks for them to be read.
+pub mod Agrees
+pub mod Forms
+pub mod Lowered
+pub mod Switches

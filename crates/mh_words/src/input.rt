@@ -1,0 +1,12 @@
+//! Words that are known.
+
+use crate::slot::Slot;
+
+/// A slot, or a constant.
+#[derive(Clone, Copy, Debug)]
+pub(crate) enum Input {
+    /// The word in a slot.
+    Read(Slot),
+    /// A constant.
+    Constant(i64),
+}

@@ -1,0 +1,11 @@
+//! What is known of a local.
+
+use crate::input::Input;
+use mh_type::Kind;
+
+/// The kind of a value, and its word.
+#[derive(Clone, Copy, Debug)]
+pub(crate) struct Known {
+    pub(crate) kind: Kind,
+    pub(crate) input: Input,
+}
