@@ -7,6 +7,7 @@ mod Deciding
 mod Extended
 mod FlushedCalls
 mod Growing
+mod Headlines
 mod HitCounts
 mod HitLinks
 mod InstalledLinks

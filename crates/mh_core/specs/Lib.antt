@@ -24,6 +24,7 @@ pub mod Extensions
 pub mod Machines
 pub mod Arguments
 pub mod Pasts
+pub mod Headline
 pub use Rattle.mh_base.specs.Tests
 pub use Rattle.mh_cert.specs.Plans
 pub use Rattle.mh_ledger.specs.Ledgers

@@ -12,7 +12,10 @@ ghost use Rattle.mh_core.specs.declared.record.Record.TheVariants.{Published};
 ghost use Rattle.mh_core.specs.Problems.{problem_at};
 ghost use Rattle.mh_site.specs.Links.{links};
 ghost use Rattle.mh_core.specs.declared.event.Event.{Event};
+ghost use Rattle.mh_core.specs.declared.reply.Reply.{Reply};
+ghost use Rattle.mh_core.specs.Headline.{IsHeadline};
 ghost use Rattle.mh_core.specs.Histories.{records};
+ghost use Rattle.mh_core.specs.Legal.{Run};
 ghost use Rattle.mh_core.specs.Hits.{total_calls};
 ghost use Rattle.mh_core.specs.Books.{Legal};
 ghost use Rattle.mh_core.specs.Installations.{linked, kept};
@@ -22,6 +25,23 @@ ghost use Rattle.mh_core.specs.Replayed.{world};
 ghost use Rattle.mh_core.specs.Standing.{AreStanding};
 
 use crate::book::Book;
+use crate::machine::Machine;
+
+/// The headline. Over every interleaving of calls, flushes, retargetings, invalidations, snapshots,
+/// publications and installations, each call that is not refused returns what its site's
+/// unspeculated tree means at that step, whatever caches are installed; and each published plan has
+/// the greatest gain less cost among all sets of eligible links with their points, for the totals
+/// of the snapshot that it names, and carries a flow that shows it.
+///
+/// `run` promises such a run behind what a machine has accepted, and a machine that was just opened
+/// has accepted nothing.
+pub fn every_run_is_right(machine: &Machine)
+    ensures headline { (events : List Event) → (replies : List Reply) → (h : List Event)
+        → Run machine.now.setting machine.now.history events replies h
+        → IsHeadline machine.now.setting machine.now.history events replies h }
+{
+    machine.book().kept();
+}
 
 /// The world after any records has at each site, and of each point, what looking back through the
 /// records finds.

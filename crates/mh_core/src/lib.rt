@@ -50,7 +50,10 @@ pub use event::Event;
 pub use extending::ExtensionFault;
 pub use hits::hit_link;
 pub use install_report::{InstallReport, Linkage, SiteLinkage};
-pub use laws::{legal_worlds_stand, published_plans_are_best, records_look_back, totals_are_sums};
+pub use laws::{
+    every_run_is_right, legal_worlds_stand, published_plans_are_best, records_look_back,
+    totals_are_sums,
+};
 pub use limits::{
     LARGEST_LEDGER, LARGEST_TOTAL, LONGEST_HISTORY, Limits, MOST_PLANS, MOST_SNAPSHOTS,
 };

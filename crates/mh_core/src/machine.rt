@@ -5,6 +5,7 @@ ghost use Rattle.mh_cert.specs.Plans.{Matches};
 ghost use Rattle.mh_core.specs.declared.event.Event.TheVariants.{Call, Flush, Publish};
 ghost use Rattle.mh_core.specs.declared.reply.Reply.TheVariants.{Called, Refused};
 ghost use Rattle.mh_core.specs.Steps.{IsAccepted, IsNoCall, IsRefused, call_reply, reply_of};
+ghost use Rattle.mh_core.specs.Headline.{IsHeadline};
 ghost use Rattle.mh_core.specs.Histories.{event_of, records};
 ghost use Rattle.mh_core.specs.Legal.{MachineState, Step, Run, TakesNoMemory, opened_machine};
 ghost use Rattle.mh_core.specs.Pending.{IsNoFlush};
@@ -236,14 +237,20 @@ impl Machine {
         self.history.len() as u64 >= self.book().limits().history()
     }
 
-    /// Answers the events in order. Where there is no memory for the replies, that is reported
-    /// before the first event, and nothing changes.
+    /// Answers the events in order: each call that is not refused with what its site's unspeculated
+    /// tree means at that step, and each published plan is best for its snapshot (`headline`).
+    ///
+    /// Where there is no memory for the replies, that is reported before the first event, and
+    /// nothing changes.
     pub fn run(&mut self, events: Vec<Event>) -> Result<Vec<Reply>, NoMemory>
+        ensures headline { IfOk result (λ replies. IsHeadline self.old.setting
+            self.old.history events.items replies.items self.new.history) }
         ensures run { IfOk result (λ replies. Run self.old.setting self.old.history events.items
             replies.items self.new.history) }
         ensures setting { self.new.setting ≡ self.old.setting }
         ensures refused { OnErr result (self.new ≡ self.old) }
     {
+        self.book().kept();
         let mut replies = Vec::with_capacity(self.alloc, events.len())?;
         for event in events {
             let reply = self.step(event);

@@ -87,10 +87,33 @@ fn handle_of(prepared: &Prepared) -> Result<Handle, NoMemory>
     prepared.handle().share()
 }
 
-/// The inline cache of `chain` with its code, in which the base's code stands once: only key tests
-/// and specialised trees are prepared. The base is within the limits of declared trees; the rest is
-/// as at `chain`.
+/// Returns the inline cache of `chain` with its code, in which the base's code is shared: only key
+/// tests and specialised trees are prepared. The base is within the limits of declared trees; the
+/// rest is as for `chain`. An installation installs these caches.
 pub fn prepared_chain(
+    alloc: Global,
+    base: &Prepared,
+    key_place: usize,
+    entries: &[Entry],
+) -> Result<Prepared, NoMemory>
+    requires declared { IsDeclared base.now }
+    requires may { MayChain base.now.signature key_place entries.now }
+    ensures value { IfOk result (λ p. p ≡ record {
+      tree = chain_of
+          (take key_place base.now.signature.parameters) base.now.tree entries.now;
+      signature
+          = base.now.signature;
+    }) }
+    ensures faithful { IfOk result (λ p. IsFaithful p.tree base.now.tree base.now.signature) }
+{
+    // The type is the tree's, and has at most 16 parameters.
+    let _typed = base.handle().method_type().parameters();
+    let cache = link_all(alloc, base, key_place, entries)?;
+    Ok(cache)
+}
+
+// The guards of all entries, the last over the base.
+fn link_all(
     alloc: Global,
     base: &Prepared,
     key_place: usize,
@@ -108,7 +131,7 @@ pub fn prepared_chain(
     let Some((entry, rest)) = entries.split_first() else {
         return base.share();
     };
-    let others = prepared_chain(alloc, base, key_place, rest)?;
+    let others = link_all(alloc, base, key_place, rest)?;
     let cache = link(alloc, base, key_place, entry, &others)?;
     Ok(cache)
 }

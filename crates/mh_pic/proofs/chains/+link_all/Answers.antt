@@ -3,7 +3,7 @@ use Rattle.mh_tree.specs.Handle.{TypedTree}
 use Rattle.mh_tree.specs.Limits.{depth, size}
 use Rattle.mh_pic.specs.Chains.{PlainEntry, HaveFewNeeds}
 use Rattle.mh_pic.specs.Laws.Bounds.{chain_depth, chain_size}
-use Rattle.mh_pic.proofs.chains.+prepared_chain.Goals as goal
+use Rattle.mh_pic.proofs.chains.+link_all.Goals as goal
 
 pub link-requires-clause-shallow : goal.link-requires-clause-shallow
 link-requires-clause-shallow t c =
