@@ -2,6 +2,7 @@ mod Adding
 mod Answering
 mod Entered
 mod Fresh
+mod Headlines
 mod Opened
 mod Prefixes
 mod Receiving

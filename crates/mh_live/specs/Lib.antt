@@ -7,6 +7,7 @@ pub mod Openings
 pub mod Offices
 pub mod Receipts
 pub mod Settled
+pub mod Headline
 pub mod Faults
 pub mod Limits
 pub use Rattle.mh_core.specs.Books

@@ -7,8 +7,9 @@
 //! memory for it and no owner of a tree.
 //!
 //! All that changes a world is in one list of controls, of which each published world is the replay
-//! of a beginning. What a pass has seen, and the receipt of a change, are beginnings of that list:
-//! a pass that has learnt a receipt answers by no world before it.
+//! of a beginning. Of any two lists that passes have seen or that receipts name, the shorter begins
+//! the longer (`Front::compare`): a pass that has learnt a receipt answers by no world before it.
+//! `every_answer_is_right` states what is promised of all calls and plans.
 //!
 //! What its calls name of the crates below stands here too, and the whole of mh_core under its own
 //! name:
@@ -29,6 +30,7 @@ mod call_fault;
 mod crossing;
 mod flush_fault;
 mod front;
+mod laws;
 mod live;
 mod office;
 mod open_fault;
@@ -46,6 +48,7 @@ pub use call_fault::CallFault;
 pub use crossing::cross_threads;
 pub use flush_fault::FlushFault;
 pub use front::{Front, ListName};
+pub use laws::{every_answer_is_right, every_settled_answer_is_right};
 pub use live::Live;
 pub use mh_base::MOST_WORKERS;
 pub use mh_core;

@@ -74,7 +74,7 @@ fn site_of(alloc: Global, target: Declared, links: Vec<Link>) -> Result<Listing<
 }
 
 /// No point, and the negation with a link for 1 that gains 3.
-fn plain(alloc: Global) -> Result<Definition, Fail> {
+pub(crate) fn plain(alloc: Global) -> Result<Definition, Fail> {
     let mut links = Vec::new(alloc);
     links.push(link(alloc, 1, 3, &[])?)?;
     let sites = site_of(alloc, negation(alloc)?, links)?;

@@ -8,7 +8,9 @@ mod calling;
 #[cfg(test)]
 mod definitions;
 #[cfg(test)]
-mod learning;
+mod desks;
+#[cfg(test)]
+mod judged;
 #[cfg(test)]
 mod offices;
 #[cfg(test)]
