@@ -23,6 +23,7 @@ case_of hotspot-path.jsonl ../../tools/from_hotspot hotspot-small.log
 case_of hotspot-site.jsonl ../../tools/from_hotspot --by site hotspot-small.log
 case_of hotspot-method.jsonl ../../tools/from_hotspot --by method hotspot-small.log
 case_of hotspot-two-runs.jsonl ../../tools/from_hotspot --virtual 3 --interface 1 --scale 0.5 hotspot-small.log hotspot-other.log
+case_of hotspot-unbroken.lines sh -c 'grep -v dependency_failed hotspot-small.log | ../../tools/from_hotspot /dev/stdin'
 case_of v8-site.jsonl ../../tools/from_v8 v8-small.log v8-small
 case_of v8-site.jsonl ../../tools/from_v8 v8-small.log v8-small/coverage-1-1-0.json
 case_of v8-function.jsonl ../../tools/from_v8 --by function --even --optimise 28 --scale 0.5 v8-small.log v8-small

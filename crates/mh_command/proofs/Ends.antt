@@ -3,20 +3,21 @@ use Rattle.std.proofs.Common.{◌≡◌, ◌≢◌, ◌⊎◌, ◌<◌, ◌≤�
 use Rattle.std.proofs.KnownBytes.{Appends-kept, Keeps-refl, Keeps-trans}
 use Rattle.std.specs.Io.KnownBytes.{Appends, Keeps}
 use Rattle.mh_core.specs.Legal.{MachineState}
-use Rattle.mh_text.specs.declared.json.step.Step.{Step}
+use Rattle.mh_json.specs.declared.json.step.Step.{Step}
 use Rattle.mh_text.specs.Bytes.{HasFailed, one_more}
-use Rattle.mh_text.specs.Faults.{fault_line}
-use Rattle.mh_text.specs.Gives.{IsEndOf, IsHonest, NoOtherFailed, no_memory}
+use Rattle.mh_json.specs.Faults.{fault_line}
+use Rattle.mh_json.specs.Gives.{IsEndOf, no_memory, outside}
+use Rattle.mh_text.specs.Honest.{IsHonest, NoOtherFailed}
 use Rattle.mh_text.specs.Lines.{lines_of}
 use Rattle.mh_text.specs.Output as output
-use Rattle.mh_text.specs.Output.{first, outside, EndsEarly, Failed}
-use Rattle.mh_text.specs.declared.fault.Fault.{Fault}
-use Rattle.mh_text.specs.declared.fault.InputFault.{InputFault}
-use Rattle.mh_text.specs.declared.fault.InputFault.TheVariants.{NoMemory, TooLong, NotJson, BadShape, BadValue, UnknownShared, UnknownSite, Tree, Definition, Problem, BadType, UnknownPoint, PointTwice, NeedTwice}
-use Rattle.mh_text.specs.declared.fault.TextFault.{TextFault}
-use Rattle.mh_text.specs.declared.fault.TextFault.TheVariants.{Input, ReadFailed, WriteFailed, NoReader}
-use Rattle.mh_text.specs.declared.json.script.Script.{Script}
-use Rattle.mh_text.specs.declared.streams.refused.RefusedEvent.{RefusedEvent}
+use Rattle.mh_text.specs.Output.{first, EndsEarly, Failed}
+use Rattle.mh_json.specs.declared.fault.Fault.{Fault}
+use Rattle.mh_json.specs.declared.fault.InputFault.{InputFault}
+use Rattle.mh_json.specs.declared.fault.InputFault.TheVariants.{NoMemory, TooLong, NotJson, BadShape, BadValue, UnknownShared, UnknownSite, Tree, Definition, Problem, BadType, UnknownPoint, PointTwice, NeedTwice}
+use Rattle.mh_json.specs.declared.fault.TextFault.{TextFault}
+use Rattle.mh_json.specs.declared.fault.TextFault.TheVariants.{Input, ReadFailed, WriteFailed, NoReader}
+use Rattle.mh_json.specs.declared.json.script.Script.{Script}
+use Rattle.mh_json.specs.declared.refused.RefusedEvent.{RefusedEvent}
 use Rattle.mh_text.specs.declared.streams.run.RunOptions.{RunOptions}
 use Rattle.mh_explain.specs.Refused.{NamesRefused}
 use Rattle.mh_command.specs.Answers.{Answers, AreKnown, FailsIn, FailsOn, IsAnswerOf, IsAnswerTo, IsAnswerUnless, IsHelp, IsStopped, Works, answered, turned_down}

@@ -8,29 +8,30 @@ use Rattle.mh_cert.specs.declared.plan.Plan.{Plan}
 use Rattle.mh_network.specs.Problems.{ProblemData, problem_of}
 use Rattle.mh_network.specs.declared.fault.ProblemFault.{ProblemFault}
 use Rattle.mh_network.specs.declared.fault.ProblemFault.TheVariants.{NoMemory, GainTooLarge, CostTooLarge, NeedOutOfRange, NeedsNotAscending, TooManyLinks, TooManyPoints, TooManyNeeds}
-use Rattle.mh_text.specs.Checks.{claim_read, IsClaimFault}
-use Rattle.mh_text.specs.Gives.{◌>>=◌, at_place, no_memory, of_problem, or_fault}
-use Rattle.mh_text.specs.Inputs.{json_of_input}
-use Rattle.mh_text.specs.Keys.{field_name}
-use Rattle.mh_text.specs.Misfits.{fitted}
-use Rattle.mh_text.specs.Misreads.{MisreadData, behind, here, under}
-use Rattle.mh_text.specs.Output.{outside, IsScriptFault}
+use Rattle.mh_json.specs.Claims.{claim_read}
+use Rattle.mh_text.specs.Checks.{IsClaimFault}
+use Rattle.mh_json.specs.Gives.{◌>>=◌, at_place, no_memory, of_problem, or_fault, outside}
+use Rattle.mh_json.specs.Inputs.{json_of_input}
+use Rattle.mh_json.specs.Keys.{field_name}
+use Rattle.mh_json.specs.Misfits.{fitted}
+use Rattle.mh_json.specs.Misreads.{MisreadData, behind, here, under}
+use Rattle.mh_text.specs.Output.{IsScriptFault}
 use Rattle.mh_text.specs.Planning.{IsProblemFault}
-use Rattle.mh_text.specs.Plans.{plan_at, plan_of, plan_of_input}
-use Rattle.mh_text.specs.Problems.{decided_tests, misread_in, problem_made, problem_read, row_list_of, rows_at, rows_of, rows_of_input, IsNotMade}
-use Rattle.mh_text.specs.Script.{script_of, script_read}
-use Rattle.mh_text.specs.Shape.{counts_of, member_of}
-use Rattle.mh_text.specs.Versions.{version_of, version_tests}
-use Rattle.mh_text.specs.declared.fault.Fault.{Fault}
-use Rattle.mh_text.specs.declared.fault.InputFault.TheVariants.{BadShape}
-use Rattle.mh_text.specs.declared.fault.TextFault.TheVariants.{Input}
-use Rattle.mh_text.specs.declared.json.problem.ProblemRows.{ProblemRows}
-use Rattle.mh_text.specs.declared.key.Field.TheVariants as field
-use Rattle.mh_text.specs.declared.key.Key.TheVariants.{Member}
-use Rattle.mh_text.specs.declared.streams.claim.Claim.{Claim}
+use Rattle.mh_json.specs.Plans.{plan_at, plan_of, plan_of_input}
+use Rattle.mh_json.specs.Problems.{decided_tests, misread_in, problem_made, problem_read, row_list_of, rows_at, rows_of, rows_of_input, IsNotMade}
+use Rattle.mh_json.specs.Script.{script_of, script_read}
+use Rattle.mh_json.specs.Shape.{counts_of, member_of}
+use Rattle.mh_json.specs.Versions.{version_of, version_tests}
+use Rattle.mh_json.specs.declared.fault.Fault.{Fault}
+use Rattle.mh_json.specs.declared.fault.InputFault.TheVariants.{BadShape}
+use Rattle.mh_json.specs.declared.fault.TextFault.TheVariants.{Input}
+use Rattle.mh_json.specs.declared.json.problem.ProblemRows.{ProblemRows}
+use Rattle.mh_json.specs.declared.key.Field.TheVariants as field
+use Rattle.mh_json.specs.declared.key.Key.TheVariants.{Member}
+use Rattle.mh_json.specs.declared.json.claim.Claim.{Claim}
 use Rattle.mh_command.specs.inner.Findings.{event_of, fault_in}
 use Rattle.mh_command.proofs.Placed.{AreOutside, IsOutside, both_outside, member_outside, no_err, ok_outside, same_err, script_fails}
-use Rattle.mh_text.proofs.ProblemTests.{decided}
+use Rattle.mh_json.proofs.ProblemTests.{decided}
 
 -- a fault outside the events, at 0
 at_0 : (m : MisreadData) → IsOutside m → fault_in m ≡ record { kind = Input m.fault; at = 0 }

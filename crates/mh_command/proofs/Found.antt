@@ -4,21 +4,19 @@ use Rattle.std.proofs.lemmas.Bool.{le-leb}
 use Rattle.std.specs.Prelude.{if◌then◌else◌, option_map}
 use Rattle.std.proofs.KnownBytes.{Keeps-refl}
 use Rattle.serde_json.specs.Data.{Data}
-use Rattle.mh_text.specs.Bytes.{most_bytes}
-use Rattle.mh_text.specs.Forms.{misread_by}
-use Rattle.mh_text.specs.Gives.{IsEndOf, no_memory, ◌>>=◌, at_place}
-use Rattle.mh_text.specs.Inputs.{json_in, json_of_input}
-use Rattle.mh_text.specs.Misreads.{MisreadData, err_of}
-use Rattle.mh_text.specs.Output.{outside}
-use Rattle.mh_text.specs.Problems.{rows_at}
-use Rattle.mh_text.specs.Script.{script_of}
-use Rattle.mh_text.specs.declared.fault.Fault.{Fault}
-use Rattle.mh_text.specs.declared.fault.InputFault.{InputFault}
-use Rattle.mh_text.specs.declared.fault.InputFault.TheVariants.{BadShape, NoMemory}
-use Rattle.mh_text.specs.declared.fault.TextFault.{TextFault}
-use Rattle.mh_text.specs.declared.fault.TextFault.TheVariants.{Input, NoReader}
-use Rattle.mh_text.specs.declared.json.form.InputForm.{InputForm}
-use Rattle.mh_text.specs.declared.json.form.InputForm.TheVariants.{Script, Problem, Claim}
+use Rattle.mh_json.specs.Inputs.{most_bytes, json_in, json_of_input}
+use Rattle.mh_json.specs.Forms.{misread_by}
+use Rattle.mh_json.specs.Gives.{IsEndOf, no_memory, ◌>>=◌, at_place, outside}
+use Rattle.mh_json.specs.Misreads.{MisreadData, err_of}
+use Rattle.mh_json.specs.Problems.{rows_at}
+use Rattle.mh_json.specs.Script.{script_of}
+use Rattle.mh_json.specs.declared.fault.Fault.{Fault}
+use Rattle.mh_json.specs.declared.fault.InputFault.{InputFault}
+use Rattle.mh_json.specs.declared.fault.InputFault.TheVariants.{BadShape, NoMemory}
+use Rattle.mh_json.specs.declared.fault.TextFault.{TextFault}
+use Rattle.mh_json.specs.declared.fault.TextFault.TheVariants.{Input, NoReader}
+use Rattle.mh_json.specs.declared.json.form.InputForm.{InputForm}
+use Rattle.mh_json.specs.declared.json.form.InputForm.TheVariants.{Script, Problem, Claim}
 use Rattle.mh_explain.specs.Explanations.{ExplainsMisread, ExplainsRead}
 use Rattle.mh_explain.specs.Unread.{first_of_read, first_unread, first_unread_in}
 use Rattle.mh_command.specs.Answers.{FailsIn, FailsOn, IsFaultOf, IsHelp}

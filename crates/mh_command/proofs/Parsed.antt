@@ -3,18 +3,18 @@ use Rattle.std.proofs.Common.{◌≡◌, inl, refl, sym, subst, ℕ, List, [], O
 use Rattle.std.specs.Io.KnownBytes.{Appends}
 use Rattle.serde_json.specs.Data.{Data}
 use Rattle.mh_text.specs.Checks.{FailsCheckBy, IsVerdictBy, verdict_line}
-use Rattle.mh_text.specs.Gives.{◌>>=◌}
-use Rattle.mh_text.specs.Inputs.{json_of_input}
-use Rattle.mh_text.specs.Output.{first, outside, run_text, AppendsRun, FailedBy}
+use Rattle.mh_json.specs.Gives.{◌>>=◌, outside}
+use Rattle.mh_json.specs.Inputs.{json_of_input}
+use Rattle.mh_text.specs.Output.{first, run_text, AppendsRun, FailedBy}
 use Rattle.mh_text.specs.Planning.{FailsPlanBy, IsPlannedBy}
 use Rattle.mh_text.specs.Refused.{refused_behind}
-use Rattle.mh_text.specs.Script.{script_of}
-use Rattle.mh_text.specs.declared.fault.Fault.{Fault}
-use Rattle.mh_text.specs.declared.fault.TextFault.TheVariants.{NoReader}
-use Rattle.mh_text.specs.declared.json.script.Script.{Script}
+use Rattle.mh_json.specs.Script.{script_of}
+use Rattle.mh_json.specs.declared.fault.Fault.{Fault}
+use Rattle.mh_json.specs.declared.fault.TextFault.TheVariants.{NoReader}
+use Rattle.mh_json.specs.declared.json.script.Script.{Script}
 use Rattle.mh_text.specs.declared.lines.verdict.Verdict.{Verdict}
 use Rattle.mh_text.specs.declared.streams.planning.PlanOptions.{PlanOptions}
-use Rattle.mh_text.specs.declared.streams.refused.RefusedEvent.{RefusedEvent}
+use Rattle.mh_json.specs.declared.refused.RefusedEvent.{RefusedEvent}
 use Rattle.mh_text.specs.declared.streams.run.RunOptions.{RunOptions}
 use Rattle.mh_stress.specs.Stress.{FailsStressBy, IsScriptBy, IsStressedBy}
 use Rattle.mh_stress.specs.declared.stress.StressOptions.{StressOptions}

@@ -4,22 +4,22 @@ use Rattle.std.specs.Prelude.{if◌then◌else◌, nat_le, nat_lt, ◌&&◌}
 use Rattle.serde_json.specs.Data.{Data, null, boolean, number, string, array, object}
 use Rattle.serde_json.specs.Find.{get}
 use Rattle.mh_core.specs.Limits.{most_events, most_held, most_hits}
-use Rattle.mh_text.specs.Gives.{◌>>=◌, at_place, or_fault}
-use Rattle.mh_text.specs.Keys.{field_name}
-use Rattle.mh_text.specs.Misreads.{MisreadData, behind, here, under}
-use Rattle.mh_text.specs.Script.{definition_of, events_of, limits_in, limits_of, limits_where, preamble_of, script_of, script_read, script_with, step_list_of, step_of, workers_of}
-use Rattle.mh_text.specs.Shape.{each_from, list_of, member_of}
-use Rattle.mh_text.specs.declared.fault.Fault.{Fault}
-use Rattle.mh_text.specs.declared.fault.InputFault.{InputFault}
-use Rattle.mh_text.specs.declared.fault.InputFault.TheVariants.{BadShape}
-use Rattle.mh_text.specs.declared.fault.TextFault.TheVariants.{Input}
-use Rattle.mh_text.specs.declared.json.declarations.Declarations.{Declarations}
-use Rattle.mh_text.specs.declared.json.script.Preamble.{Preamble}
-use Rattle.mh_text.specs.declared.json.step.Step.{Step}
-use Rattle.mh_text.specs.declared.key.Field.{Field}
-use Rattle.mh_text.specs.declared.key.Field.TheVariants as field
-use Rattle.mh_text.specs.declared.key.Key.{Key}
-use Rattle.mh_text.specs.declared.key.Key.TheVariants.{Member, Item}
+use Rattle.mh_json.specs.Gives.{◌>>=◌, at_place, or_fault}
+use Rattle.mh_json.specs.Keys.{field_name}
+use Rattle.mh_json.specs.Misreads.{MisreadData, behind, here, under}
+use Rattle.mh_json.specs.Script.{definition_of, events_of, limits_in, limits_of, limits_where, preamble_of, script_of, script_read, script_with, step_list_of, step_of, workers_of}
+use Rattle.mh_json.specs.Shape.{each_from, list_of, member_of}
+use Rattle.mh_json.specs.declared.fault.Fault.{Fault}
+use Rattle.mh_json.specs.declared.fault.InputFault.{InputFault}
+use Rattle.mh_json.specs.declared.fault.InputFault.TheVariants.{BadShape}
+use Rattle.mh_json.specs.declared.fault.TextFault.TheVariants.{Input}
+use Rattle.mh_json.specs.declared.json.declarations.Declarations.{Declarations}
+use Rattle.mh_json.specs.declared.json.script.Preamble.{Preamble}
+use Rattle.mh_json.specs.declared.json.step.Step.{Step}
+use Rattle.mh_json.specs.declared.key.Field.{Field}
+use Rattle.mh_json.specs.declared.key.Field.TheVariants as field
+use Rattle.mh_json.specs.declared.key.Key.{Key}
+use Rattle.mh_json.specs.declared.key.Key.TheVariants.{Member, Item}
 use Rattle.mh_command.specs.inner.Findings.{event_of, fault_in}
 
 -- an error of this type

@@ -4,11 +4,12 @@ use Rattle.std.proofs.lemmas.Bool.{lt-leb}
 use Rattle.std.specs.Prelude.{if◌then◌else◌}
 use Rattle.std.proofs.KnownBytes.{Keeps-refl}
 use Rattle.std.specs.Io.KnownBytes.{Appends, Keeps}
-use Rattle.mh_text.specs.Bytes.{HasFailed, most_bytes}
-use Rattle.mh_text.specs.Gives.{IsEndOf, IsHonest, no_memory, too_long, ◌>>=◌, at_place}
-use Rattle.mh_text.specs.Inputs.{json_of_input}
+use Rattle.mh_text.specs.Bytes.{HasFailed}
+use Rattle.mh_json.specs.Inputs.{most_bytes, json_of_input}
+use Rattle.mh_json.specs.Gives.{IsEndOf, no_memory, too_long, ◌>>=◌, at_place, outside}
+use Rattle.mh_text.specs.Honest.{IsHonest}
 use Rattle.mh_text.specs.Checks.{IsClaimFault, IsVerdict, verdict_line}
-use Rattle.mh_text.specs.Output.{outside, EndsReading, IsUnread}
+use Rattle.mh_text.specs.Output.{EndsReading, IsUnread}
 use Rattle.mh_text.specs.Planning.{IsPlanned, IsProblemFault}
 use Rattle.mh_text.specs.declared.streams.planning.PlanOptions.{PlanOptions}
 use Rattle.mh_text.specs.declared.lines.verdict.Verdict.{Verdict}
@@ -19,18 +20,17 @@ use Rattle.mh_profile.specs.Planning as profile
 use Rattle.mh_profile.specs.declared.planning.ProfileOptions.{ProfileOptions}
 use Rattle.mh_command.specs.Statuses.{status_found}
 use Rattle.mh_profile.specs.Claims.{IsReadClaimFault}
-use Rattle.mh_profile.specs.Inputs.{IsProfileFault}
-use Rattle.mh_text.specs.Problems.{rows_at}
-use Rattle.mh_text.specs.Script.{script_of}
-use Rattle.mh_text.specs.declared.fault.Fault.{Fault}
-use Rattle.mh_text.specs.declared.fault.InputFault.{InputFault}
-use Rattle.mh_text.specs.declared.fault.InputFault.TheVariants.{BadShape}
-use Rattle.mh_text.specs.declared.fault.TextFault.{TextFault}
-use Rattle.mh_text.specs.declared.fault.TextFault.TheVariants.{Input, ReadFailed, WriteFailed, NoReader}
+use Rattle.mh_json.specs.Problems.{rows_at}
+use Rattle.mh_json.specs.Script.{script_of}
+use Rattle.mh_json.specs.declared.fault.Fault.{Fault}
+use Rattle.mh_json.specs.declared.fault.InputFault.{InputFault}
+use Rattle.mh_json.specs.declared.fault.InputFault.TheVariants.{BadShape}
+use Rattle.mh_json.specs.declared.fault.TextFault.{TextFault}
+use Rattle.mh_json.specs.declared.fault.TextFault.TheVariants.{Input, ReadFailed, WriteFailed, NoReader}
 use Rattle.mh_explain.specs.Refused.{NamesRefused}
 use Rattle.mh_explain.specs.Unread.{first_unread, first_of_read}
-use Rattle.mh_text.specs.declared.streams.refused.RefusedEvent.{RefusedEvent}
-use Rattle.mh_text.specs.declared.json.form.InputForm.{InputForm}
+use Rattle.mh_json.specs.declared.refused.RefusedEvent.{RefusedEvent}
+use Rattle.mh_json.specs.declared.json.form.InputForm.{InputForm}
 use Rattle.mh_command.specs.Answers.{FailsIn, FailsOn, IsAnswerUnless, IsFaultOf, IsHelp, Works, WorksOn, answered, fault_at, output_alone}
 use Rattle.mh_command.specs.Readings.{fault_explained, fault_told, form_of, refused_at, unread_fault, unread_in, IsExplained, IsExplainedWith, IsRefusal}
 use Rattle.mh_command.specs.declared.request.Asked.{Asked}
@@ -103,7 +103,7 @@ module _ (old new : Option (List ℕ)) (A C B : Type 0) (e : Fault) (bytes : Lis
   fails_by (Stress options) (inl (kept, inl unread), script) = (inl (kept, inl (unread_by EndsReading unread)), script)
   fails_by (Stress options) (inl (kept, inr reader), script) = (inl (kept, inr reader), script)
   fails_by (Stress options) (inr cut, script) = (inr cut, script)
-  fails_by (Profile options) (inl (kept, unread)) = inl (kept, unread_by IsProfileFault unread)
+  fails_by (Profile options) (inl (kept, unread)) = inl (kept, unread_by (profile.IsPlanFault options) unread)
   fails_by (Profile options) (inr cut) = inr cut
 
 is_read_failed : (k : TextFault) → (k ≡ ReadFailed) ⊎ (k ≢ ReadFailed)

@@ -3,21 +3,22 @@ use Rattle.std.specs.Prelude.{◌≡◌, ◌⊎◌, ℕ, false, List, [], ◌++�
 use Rattle.std.specs.Io.KnownBytes.{Appends, Keeps}
 use Rattle.mh_core.specs.declared.event.Event.{Event}
 use Rattle.mh_text.specs.Checks.{IsClaimFault, IsVerdict, FailsCheck, verdict_line}
-use Rattle.mh_text.specs.Faults.{fault_line}
-use Rattle.mh_text.specs.Output.{script_of_input, first, outside, run_text, IsScriptFault, IsUnread, Failed}
-use Rattle.mh_text.specs.declared.fault.Fault.{Fault}
+use Rattle.mh_json.specs.Faults.{fault_line}
+use Rattle.mh_json.specs.Script.{script_of_input}
+use Rattle.mh_text.specs.Output.{first, run_text, IsScriptFault, IsUnread, Failed}
+use Rattle.mh_json.specs.Gives.{outside}
+use Rattle.mh_json.specs.declared.fault.Fault.{Fault}
 use Rattle.mh_text.specs.Planning.{IsPlanned, IsProblemFault, FailsPlan}
 use Rattle.mh_text.specs.declared.streams.planning.PlanOptions.{PlanOptions}
 use Rattle.mh_text.specs.declared.streams.run.RunOptions.{RunOptions}
-use Rattle.mh_text.specs.declared.json.script.Script.{Script}
+use Rattle.mh_json.specs.declared.json.script.Script.{Script}
 use Rattle.mh_text.specs.Refused.{refused_behind}
-use Rattle.mh_text.specs.declared.streams.refused.RefusedEvent.{RefusedEvent}
+use Rattle.mh_json.specs.declared.refused.RefusedEvent.{RefusedEvent}
 use Rattle.mh_text.specs.Steps.{Told, Run}
 use Rattle.mh_text.specs.declared.lines.verdict.Verdict.{Verdict}
-use Rattle.mh_text.specs.declared.fault.TextFault.TheVariants.{NoReader, WriteFailed}
+use Rattle.mh_json.specs.declared.fault.TextFault.TheVariants.{NoReader, WriteFailed}
 use Rattle.mh_stress.specs.Stress.{FailsStress, IsScript, IsStressed}
 use Rattle.mh_stress.specs.declared.stress.StressOptions.{StressOptions}
-use Rattle.mh_profile.specs.Inputs.{IsProfileFault}
 use Rattle.mh_profile.specs.Claims as claim
 use Rattle.mh_profile.specs.Planning as profile
 use Rattle.mh_profile.specs.declared.planning.ProfileOptions.{ProfileOptions}
@@ -87,7 +88,7 @@ IsStressAnswer options input answer =
 abbrev pub IsProfileAnswer : ProfileOptions → List ℕ → Answer → Type 0
 IsProfileAnswer options input answer =
     ((text : List ℕ) × profile.IsPlanned options input text × (answer ≡ output_alone 0 text))
-    ⊎ ((e : Fault) × IsProfileFault input e × (answer ≡ turned_down e))
+    ⊎ ((e : Fault) × profile.IsPlanFault options input e × (answer ≡ turned_down e))
 
 -- what the work of a request is answered with where no stream fails and memory is to be had
 abbrev pub IsAnswerOf : Request → List ℕ → Answer → Type 0
@@ -105,7 +106,7 @@ IsFaultOf request.Check = IsClaimFault
 IsFaultOf request.CheckProfile = claim.IsReadClaimFault
 IsFaultOf (request.Plan options) = IsProblemFault
 IsFaultOf (request.Stress options) = IsScriptFault
-IsFaultOf (request.Profile options) = IsProfileFault
+IsFaultOf (request.Profile options) = profile.IsPlanFault options
 
 -- an input is refused where one of its keys stands, or else there is an answer of the work
 abbrev pub IsAnswerUnless : Option ℕ → Request → List ℕ → Answer → Type 0

@@ -71,7 +71,8 @@ stress_app =
     with_rule (with_rule (with_rule (with_reading (new_app (codes "stress"))) callers_rule) rounds_rule) (flag_rule (codes "report"))
 
 abbrev pub profile_app : App
-profile_app = with_rule (with_rule (with_explain (new_app (codes "profile"))) workers_rule) (flag_rule (codes "certificate"))
+profile_app =
+    with_rule (with_rule (with_rule (with_explain (new_app (codes "profile"))) workers_rule) (flag_rule (codes "certificate"))) (flag_rule (codes "sweep"))
 
 -- the program with its first two subcommands
 abbrev pub plain_app : App
@@ -121,6 +122,7 @@ pub record AreOptions (options : PlanOptions) (rows : List Row) : Type 0 where
 pub record AreProfiled (options : ProfileOptions) (rows : List Row) : Type 0 where
   pub workers : AreWorkers options.workers rows
   pub certificate : one_of (codes "certificate") rows ≡ Some (truth_text options.certificate)
+  pub sweep : one_of (codes "sweep") rows ≡ Some (truth_text options.sweep)
 
 -- a number that may be left out
 abbrev pub MayBeNumber : Option (List ℕ) → Option ℕ → Type 0

@@ -2,17 +2,17 @@
 use Rattle.std.specs.Prelude.{◌≡◌, ◌⊎◌, ◌∷◌, ◌++◌, ℕ, List, [], Option, Some, None, codes, if◌then◌else◌}
 use Rattle.serde_json.specs.Data.{string}
 use Rattle.serde_json.specs.Written.{compact_text}
-use Rattle.mh_text.specs.declared.fault.Fault.{Fault}
-use Rattle.mh_text.specs.declared.fault.InputFault.{InputFault}
-use Rattle.mh_text.specs.declared.fault.InputFault.TheVariants.{BadShape, UnknownPoint}
-use Rattle.mh_text.specs.declared.fault.TextFault.{TextFault}
-use Rattle.mh_text.specs.declared.fault.TextFault.TheVariants.{Input, ReadFailed, WriteFailed, NoReader}
-use Rattle.mh_text.specs.declared.streams.refused.RefusedEvent.{RefusedEvent}
+use Rattle.mh_json.specs.declared.fault.Fault.{Fault}
+use Rattle.mh_json.specs.declared.fault.InputFault.{InputFault}
+use Rattle.mh_json.specs.declared.fault.InputFault.TheVariants.{BadShape, UnknownPoint}
+use Rattle.mh_json.specs.declared.fault.TextFault.{TextFault}
+use Rattle.mh_json.specs.declared.fault.TextFault.TheVariants.{Input, ReadFailed, WriteFailed, NoReader}
+use Rattle.mh_json.specs.declared.refused.RefusedEvent.{RefusedEvent}
 use Rattle.mh_explain.specs.Explanations.{Explains}
 use Rattle.mh_explain.specs.Refused.{NamesRefused}
 use Rattle.mh_explain.specs.Unread.{first_unread}
-use Rattle.mh_text.specs.declared.json.form.InputForm.{InputForm}
-use Rattle.mh_text.specs.declared.json.form.InputForm.TheVariants.{Script, Problem, Claim}
+use Rattle.mh_json.specs.declared.json.form.InputForm.{InputForm}
+use Rattle.mh_json.specs.declared.json.form.InputForm.TheVariants.{Script, Problem, Claim}
 use Rattle.mh_profile.specs.Claims.{IsParted}
 use Rattle.mh_profile.specs.Faulty.{IsFaulty, IsUnknown}
 use Rattle.mh_profile.specs.declared.faulty.FaultyLine.{FaultyLine}

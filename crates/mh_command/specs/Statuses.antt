@@ -4,9 +4,9 @@ use Rattle.clap.specs.declared.error.kind.ErrorKind.{ErrorKind}
 use Rattle.clap.specs.declared.error.kind.ErrorKind.TheVariants.{DisplayHelp, DisplayVersion, OutOfMemory}
 use Rattle.mh_text.specs.declared.lines.verdict.Verdict.{Verdict}
 use Rattle.mh_text.specs.declared.lines.verdict.Verdict.TheVariants.{Accepted, Refused}
-use Rattle.mh_text.specs.declared.fault.InputFault.TheVariants.{NoMemory}
-use Rattle.mh_text.specs.declared.fault.TextFault.{TextFault}
-use Rattle.mh_text.specs.declared.fault.TextFault.TheVariants.{Input, NoReader, ReadFailed, WriteFailed}
+use Rattle.mh_json.specs.declared.fault.InputFault.TheVariants.{NoMemory}
+use Rattle.mh_json.specs.declared.fault.TextFault.{TextFault}
+use Rattle.mh_json.specs.declared.fault.TextFault.TheVariants.{Input, NoReader, ReadFailed, WriteFailed}
 
 -- of a fault: 4 where memory ran out or no reader could be made, 3 where a read or a write failed, 1 where the input is refused
 abbrev pub status_told : TextFault → ℕ

@@ -2,8 +2,8 @@
 use Rattle.std.specs.Prelude.{◌≡◌, ◌≢◌, ◌⊎◌, ℕ, List, [], ◌++◌, Option}
 use Rattle.std.specs.Io.KnownBytes.{Appends, Keeps}
 use Rattle.mh_text.specs.Bytes.{HasFailed}
-use Rattle.mh_text.specs.Faults.{fault_line}
-use Rattle.mh_text.specs.declared.fault.Fault.{Fault}
+use Rattle.mh_json.specs.Faults.{fault_line}
+use Rattle.mh_json.specs.declared.fault.Fault.{Fault}
 use Rattle.mh_command.specs.Statuses.{status_told}
 
 -- known bytes grow by a beginning of a text, which may be all of it

@@ -65,8 +65,8 @@ fn perform<T: Threads + Wait + Sync, P: ShowRounds + Sync, R: Read, W: Write, E:
 /// runs its calls in threads, and writes the sums of their hits to `out`; it takes `--workers N`, N
 /// from 1 to 64, `--rounds N`, N from 1 to 1,000,000, and `--report`; the stage shows the rounds
 /// that are done. `mhlink profile` reads a profile, line by line, and writes to `out` what becomes
-/// of each of its names in a best plan; it takes `--workers N`, N from 1 to 64, and
-/// `--certificate`, and starts threads too. A fault is one line on `err`.
+/// of each of its names in a best plan; it takes `--workers N`, N from 1 to 64, `--certificate` and
+/// `--sweep`, and starts threads too. A fault is one line on `err`.
 ///
 /// Each takes `--explain`, and each but `profile` takes `--strict`. With `--explain` the input is
 /// read whole first, and the line of a fault is followed on `err` by lines that explain it. They

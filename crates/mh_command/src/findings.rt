@@ -2,11 +2,10 @@
 //! keys that nothing reads.
 ghost use Rattle.std.specs.Prelude.{◌≡◌, ◌⊎◌, [], List, ℕ, Ok, Some, false, if◌then◌else◌, nat_lt, None, option_map, string_bytes, IfOk};
 ghost use Rattle.serde_json.specs.View.{view};
-ghost use Rattle.mh_text.specs.Gives.{no_memory};
-ghost use Rattle.mh_text.specs.Inputs.{json_of_input};
-ghost use Rattle.mh_text.specs.Output.{outside};
-ghost use Rattle.mh_text.specs.declared.fault.InputFault.TheVariants.{NoMemory as out_of_memory};
-ghost use Rattle.mh_text.specs.declared.fault.TextFault.TheVariants.{Input};
+ghost use Rattle.mh_json.specs.Gives.{no_memory, outside};
+ghost use Rattle.mh_json.specs.Inputs.{json_of_input};
+ghost use Rattle.mh_json.specs.declared.fault.InputFault.TheVariants.{NoMemory as out_of_memory};
+ghost use Rattle.mh_json.specs.declared.fault.TextFault.TheVariants.{Input};
 ghost use Rattle.mh_explain.specs.Explanations.{misread_of};
 ghost use Rattle.mh_explain.specs.Unread.{first_unread_in};
 ghost use Rattle.mh_command.specs.inner.Findings.{event_bound, event_of as number_of_event, fault_in, first_refused, AreFindings, IsExplainedIn, IsFaultBefore};
@@ -18,7 +17,7 @@ use mh_explain::{
     FaultyPart, InputForm, UnreadKeys, explanation_of_part, explanation_of_text, faulty_part,
     unread_keys,
 };
-use mh_text::{Fault, Field, InputFault, Key, Misread, TextFault};
+use mh_json::{Fault, Field, InputFault, Key, Misread, TextFault};
 use serde_json::Value;
 use std::alloc::Global;
 

@@ -5,8 +5,8 @@ ghost use Rattle.mh_command.specs.Readings.{ExplainsProfile, IsProfileIn, NamesN
 use crate::request::Request;
 use mh_core::NoMemory;
 use mh_explain::nearest;
+use mh_json::InputFault;
 use mh_profile::{FaultyLine, PointNames, claimed_lines, faulty_line, quoted};
-use mh_text::InputFault;
 use serde_json::Value;
 use std::alloc::Global;
 use std::str;

@@ -51,12 +51,8 @@ pub(crate) fn with_reading<'a>(
     ensures local { IfOk result (λ c. (out-Command c).has_globals
         ≡ (out-Command command.entry).has_globals) }
 {
-    let help = "Tells of a fault where it is and why, and of keys that nothing reads";
-    let strict = flag(
-        alloc,
-        "strict",
-        "Refuses an input that has a key that nothing reads",
-    );
+    let help = "Explain errors (where and why), and report unknown keys";
+    let strict = flag(alloc, "strict", "Reject input that contains unknown keys");
     let command = with_explain(alloc, command, help)?;
     with_option(command, strict)
 }

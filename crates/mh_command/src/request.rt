@@ -74,9 +74,9 @@ impl Asked {
 
 /// What `mhlink --help` ends with.
 const AFTER_HELP: &str = "\
-With --explain a command says where a fault of its input is and why it is one. All but
-`profile` and `check --profile` then name the keys that nothing reads too, and refuse an
-input that has such a key with --strict.
+With --explain, a command says where an error in its input is, and why it is one. All but
+`profile` and `check --profile` also report unknown keys, and reject such input with
+--strict.
 
 Examples:
   mhlink run --explain < examples/first-calls.json
@@ -86,26 +86,26 @@ Examples:
   mhlink profile < examples/profiles/shop.jsonl
 
 Statuses: 0 done, 1 the input or its plan is refused, 2 the command line is wrong,
-3 a read or a write failed, 4 memory ran out, or readers of the published world.
+3 a read or a write failed, 4 out of memory, or too many readers of the published state.
 Formats are described in docs/FORMATS.md, faults and refusals in docs/FAULTS.md.";
 
 /// What `mhlink run --help` ends with.
 const AFTER_RUN: &str = "\
 Reads a script from standard input: a JSON object with a definition (points, shared
 trees, sites), a number of workers, and events. Each event gets one line on standard
-output. A fault in the script runs nothing, and is one line on standard error, behind
-which --explain says where it is and why, as it does of each event that is refused.
+output. If the script has a fault, nothing is run: the fault is one line on standard
+error, after which --explain says where it is and why. It also explains refused events.
 
 Example:
   mhlink run --explain --report < examples/first-calls.json";
 
 /// What `mhlink check --help` ends with.
 const AFTER_CHECK: &str = "\
-Reads a JSON object with a problem and a plan from standard input, and writes
+Reads a JSON object with a problem and a plan from standard input, and prints
 `accepted`, or `refused` with the number and the name of the first part that is wrong.
-With --profile it reads a profile, as `mhlink profile` does, and behind it, as its last
-line, a plan, as `mhlink profile --certificate` writes it. No key of these is looked at,
-so --strict then says nothing, and --explain speaks of faults of the profile alone.
+With --profile, it reads a profile, as `mhlink profile` does, followed by a plan on the
+last line, as `mhlink profile --certificate` prints it. Unknown keys of these are ignored:
+--strict has no effect then, and --explain explains faults of the profile alone.
 
 Examples:
   mhlink check < examples/check-shared-point.json
@@ -113,45 +113,49 @@ Examples:
 
 /// What `mhlink plan --help` ends with.
 const AFTER_PLAN: &str = "\
-Reads a problem from standard input, a JSON object with costs and links, and writes the
-line of its plan: links, points, value, and the sum of the flow that shows it to be best.
+Reads a problem from standard input, a JSON object with costs and links, and prints its
+plan on one line: links, points, value, and the sum of the flow that proves it optimal.
 
 Example:
   mhlink plan --workers 4 --certificate < examples/plan-shared-point.json";
 
 /// What `mhlink stress --help` ends with.
 const AFTER_STRESS: &str = "\
-Reads a script from standard input, as `mhlink run` does. Each worker makes its calls, in a
-thread of its own, and flushes, as many times as there are rounds. Meanwhile the other
-events but flushes are made once. Then the hits of all links are added up, and with
---report a line follows for each point, site and link.
+Reads a script from standard input, as `mhlink run` does. Each worker makes its calls in a
+thread of its own and flushes, once per round. Meanwhile, each of the other events except
+flushes is made once. In the end the hits of all links are added up; --report adds a line
+for each point, site and link.
 
 Example:
   mhlink stress --workers 2 --rounds 1000 < examples/stress-calls.json";
 
 /// What `mhlink profile --help` ends with.
 const AFTER_PROFILE: &str = "\
-Reads a profile from standard input, a line of JSON for each point and each link by name, a
-point before the links that need it, and writes what its best plan takes, what it leaves and
-why, and what each point gets. It takes 1048576 points and links, and 64 MiB in all. A
-fault is one line on standard error with the number of its line, behind which --explain
-says what that line has there and why it is one. With it the input is held in memory.
+Reads a profile from standard input: one line of JSON for each named point and link, each
+point before the links that need it. Prints the links that the optimal plan selects, those
+that it leaves and why, and what each point is paid. A profile has at most 1048576 points,
+1048576 links and 64 MiB. A fault is one line on standard error with its line number, after
+which --explain shows that line and the reason. With --explain the input is kept in memory.
 
-Example:
-  mhlink profile --explain --certificate < examples/profiles/shop.jsonl";
+With --sweep, the line of each eligible link ends with the scale of the costs up to which it
+is selected. A link with `until 8.315` is while all costs are below 8.315 times these.
+
+Examples:
+  mhlink profile --explain --certificate < examples/profiles/shop.jsonl
+  mhlink profile --sweep < examples/profiles/shop.jsonl";
 
 fn check_command<'a>(alloc: Global) -> Result<Command<'a>, AllocError>
     ensures app { IfOk result (λ c. app_of c ≡ check_app) }
     ensures local { IfOk result (λ c. (out-Command c).has_globals ≡ false) }
 {
     let command = Command::new(alloc, "check")
-        .about("Checks the plan on standard input beside its problem")
+        .about("Check a plan against its problem")
         .override_usage("mhlink check [OPTIONS] < FILE")
         .after_help(AFTER_CHECK);
     let profile = flag(
         alloc,
         "profile",
-        "Checks the plan on the last line beside the profile before it",
+        "Check the plan on the last line against the profile before it",
     );
     let command = with_reading(alloc, command)?;
     with_option(command, profile)
@@ -167,7 +171,7 @@ fn workers_option<'a>(alloc: Global) -> Arg<'a>
         .value_name("N")
         .default_value("1")
         .value_parser(value_parser!(u8).range(1..=64))
-        .help("How many workers plan, from 1 to 64")
+        .help("Number of planning threads, 1 to 64")
 }
 
 fn run_command<'a>(alloc: Global) -> Result<Command<'a>, AllocError>
@@ -175,14 +179,14 @@ fn run_command<'a>(alloc: Global) -> Result<Command<'a>, AllocError>
     ensures local { IfOk result (λ c. (out-Command c).has_globals ≡ false) }
 {
     let command = Command::new(alloc, "run")
-        .about("Runs the script on standard input, and writes a line for each event")
+        .about("Run a script, and print one line per event")
         .override_usage("mhlink run [OPTIONS] < FILE")
         .after_help(AFTER_RUN);
     let command = with_reading(alloc, command)?;
     let report = flag(
         alloc,
         "report",
-        "Writes what stands at each point, site and link in the end",
+        "Print the final state of every point, site and link",
     );
     with_option(command, report)
 }
@@ -192,18 +196,18 @@ fn plan_command<'a>(alloc: Global) -> Result<Command<'a>, AllocError>
     ensures local { IfOk result (λ c. (out-Command c).has_globals ≡ false) }
 {
     let command = Command::new(alloc, "plan")
-        .about("Plans the problem on standard input, and writes the line of its plan")
+        .about("Plan a problem, and print the plan on one line")
         .override_usage("mhlink plan [OPTIONS] < FILE")
         .after_help(AFTER_PLAN);
     let certificate = flag(
         alloc,
         "certificate",
-        "Writes the plan as JSON too, with its flow",
+        "Also print the plan as JSON, with its flow",
     );
     let phases = flag(
         alloc,
         "phases",
-        "Writes how many phases the flow took, and their bound",
+        "Also print the number of phases of the flow, and its bound",
     );
     let command = with_reading(alloc, command)?;
     let command = with_option(command, workers_option(alloc))?;
@@ -221,7 +225,7 @@ fn callers_option<'a>(alloc: Global) -> Arg<'a>
         .long("workers")
         .value_name("N")
         .value_parser(value_parser!(u8).range(1..=64))
-        .help("How many workers call, from 1 to 64; as many as the script has, if not given")
+        .help("Number of calling threads, 1 to 64; as many as the script's workers by default")
 }
 
 /// How often they call.
@@ -234,7 +238,7 @@ fn rounds_option<'a>(alloc: Global) -> Arg<'a>
         .value_name("N")
         .default_value("1")
         .value_parser(value_parser!(u32).range(1..=1_000_000))
-        .help("How often each worker makes its calls, from 1 to 1000000")
+        .help("Number of times each worker makes its calls, 1 to 1000000")
 }
 
 fn stress_command<'a>(alloc: Global) -> Result<Command<'a>, AllocError>
@@ -242,13 +246,13 @@ fn stress_command<'a>(alloc: Global) -> Result<Command<'a>, AllocError>
     ensures local { IfOk result (λ c. (out-Command c).has_globals ≡ false) }
 {
     let command = Command::new(alloc, "stress")
-        .about("Runs the calls of the script on standard input in threads, and adds them up")
+        .about("Run a script's calls in threads, and add up their results")
         .override_usage("mhlink stress [OPTIONS] < FILE")
         .after_help(AFTER_STRESS);
     let report = flag(
         alloc,
         "report",
-        "Writes what stands then at each point, site and link",
+        "Print the final state of every point, site and link",
     );
     let command = with_reading(alloc, command)?;
     let command = with_option(command, callers_option(alloc))?;
@@ -262,18 +266,24 @@ fn profile_command<'a>(alloc: Global) -> Result<Command<'a>, AllocError>
     ensures local { IfOk result (λ c. (out-Command c).has_globals ≡ false) }
 {
     let command = Command::new(alloc, "profile")
-        .about("Plans the profile on standard input, and writes what becomes of each name")
+        .about("Plan a profile, and report the decision for every link and point")
         .override_usage("mhlink profile [OPTIONS] < FILE")
         .after_help(AFTER_PROFILE);
     let certificate = flag(
         alloc,
         "certificate",
-        "Writes the plan as JSON too, by number, with its flow",
+        "Also print the plan as JSON, by number, with its flow",
     );
-    let help = "Tells of a fault what its line has there and why it is one";
+    let sweep = flag(
+        alloc,
+        "sweep",
+        "Also print up to which scale of the costs each link is selected",
+    );
+    let help = "Explain errors: show the line and the reason";
     let command = with_explain(alloc, command, help)?;
     let command = with_option(command, workers_option(alloc))?;
     let command = with_option(command, certificate)?;
+    let command = with_option(command, sweep)?;
     Ok(command)
 }
 
@@ -282,7 +292,7 @@ fn root_command<'a>(alloc: Global) -> Command<'a>
     ensures app { app_of result ≡ root_app }
 {
     Command::new(alloc, "mhlink")
-        .about("Dynamic calls after java.lang.invoke, and plans with their proof beside them")
+        .about("Dynamic calls in the style of java.lang.invoke, and optimal plans with their proof")
         .version("0.1.0")
         .after_help(AFTER_HELP)
         .subcommand_required(true)
@@ -362,6 +372,7 @@ fn profile_options_of(matches: &ArgMatches) -> Option<ProfileOptions>
     Some(ProfileOptions {
         workers: workers_of(matches)?,
         certificate: matches.get_flag("certificate"),
+        sweep: matches.get_flag("sweep"),
     })
 }
 

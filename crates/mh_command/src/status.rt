@@ -2,7 +2,8 @@
 ghost use Rattle.std.specs.Prelude.{◌≡◌};
 ghost use Rattle.mh_command.specs.Statuses.{status_told, status_found};
 
-use mh_text::{InputFault, TextFault, Verdict};
+use mh_json::{InputFault, TextFault};
+use mh_text::Verdict;
 
 /// The exit status of what was done, and of help and the version.
 pub const DONE: u8 = 0;

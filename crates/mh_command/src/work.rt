@@ -3,11 +3,12 @@
 ghost use Rattle.std.specs.Prelude.{◌≡◌, ◌≢◌, ◌<◌, ◌≤◌, ◌⊎◌, ◌++◌, ℕ, List, [], None, Some, Ok, false, length, string_bytes, true, IfOk, IfErr, IfSome, OnErr, OnOk};
 ghost use Rattle.std.specs.Io.KnownBytes.{IsAtEnd};
 ghost use Rattle.serde_json.specs.View.{view};
-ghost use Rattle.mh_text.specs.Bytes.{most_bytes, HasFailed};
-ghost use Rattle.mh_text.specs.Gives.{no_memory, IsHonest, IsHonestReading, NoOtherFailed};
-ghost use Rattle.mh_text.specs.Inputs.{json_of_input};
-ghost use Rattle.mh_text.specs.Output.{outside, IsUnread};
-ghost use Rattle.mh_text.specs.declared.fault.TextFault.TheVariants.{ReadFailed, WriteFailed};
+ghost use Rattle.mh_json.specs.Inputs.{most_bytes, json_of_input};
+ghost use Rattle.mh_text.specs.Bytes.{HasFailed};
+ghost use Rattle.mh_json.specs.Gives.{no_memory, outside};
+ghost use Rattle.mh_text.specs.Honest.{IsHonest, IsHonestReading, NoOtherFailed};
+ghost use Rattle.mh_text.specs.Output.{IsUnread};
+ghost use Rattle.mh_json.specs.declared.fault.TextFault.TheVariants.{ReadFailed, WriteFailed};
 ghost use Rattle.mh_explain.specs.Refused.{NamesRefused};
 ghost use Rattle.mh_command.specs.Answers.{fault_at, Works, WorksOn, FailsIn, FailsOn, IsFaultOf, IsHelp};
 ghost use Rattle.mh_command.specs.CommandLine.{HasWorkers};
@@ -18,12 +19,12 @@ use crate::line_reasons::line_reasons;
 use crate::request::{Asked, Request};
 use crate::status::{DONE, status_of_verdict};
 use mh_explain::{InputForm, explanation_of_refused};
+use mh_json::readers::parse_json;
+use mh_json::{Fault, InputFault, RefusedEvent, TextFault};
 use mh_profile::{check_profile, keep_claim, keep_profile, plan_profile};
 use mh_stress::{ShowRounds, Stage, stress_bytes, stress_value};
-use mh_text::readers::parse_json;
 use mh_text::{
-    Fault, InputFault, RefusedEvent, TextFault, Watched, check_bytes, check_value, plan_bytes,
-    plan_value, read_input, run_bytes, run_value,
+    Watched, check_bytes, check_value, plan_bytes, plan_value, read_input, run_bytes, run_value,
 };
 use serde_json::Value;
 use std::alloc::Global;

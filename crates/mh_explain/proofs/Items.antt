@@ -3,7 +3,7 @@ use Rattle.std.proofs.Common.{◌≡◌, List, [], ◌∷◌, map, Vec, Global, 
 use Rattle.serde_json.specs.View.{view, items_view}
 use Rattle.serde_json.specs.declared.value.Value.{Value, Array}
 use Rattle.serde_json.proofs.Views.{view-Array}
-use Rattle.mh_text.specs.Shape.{to_list}
+use Rattle.mh_json.specs.Shape.{to_list}
 use Rattle.mh_explain.specs.Unread.{items_in}
 
 pub to_list-items_view : (vs : List Value) → to_list (items_view vs) ≡ map view vs

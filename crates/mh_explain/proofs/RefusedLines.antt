@@ -3,7 +3,7 @@ use Rattle.std.proofs.Common.{◌≡◌, ◌<◌, ◌+◌, ℕ, List, [], ◌∷
 use Rattle.std.proofs.lemmas.List.{append-nil, take_more}
 use Rattle.std.specs.Prelude.{codes, decimal}
 use Rattle.mh_core.specs.Refusals.{refusal_text}
-use Rattle.mh_text.specs.declared.streams.refused.RefusedEvent.{RefusedEvent}
+use Rattle.mh_json.specs.declared.refused.RefusedEvent.{RefusedEvent}
 use Rattle.mh_explain.specs.Refused.{NamesRefused, refused_line}
 
 -- the lines so far, and those of one more event

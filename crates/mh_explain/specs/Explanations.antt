@@ -1,16 +1,16 @@
 -- What an explanation of a fault says of its place.
 use Rattle.std.specs.Prelude.{ℕ, ◌≡◌, Bool, true, false, List, [], ◌∷◌, ◌++◌, Option, Some, None, Result, Ok, Err, codes, ⊤}
 use Rattle.serde_json.specs.Data.{Data, array, member, no_items, no_members, number, object, unsigned}
-use Rattle.mh_text.specs.Forms.{misread_by}
-use Rattle.mh_text.specs.Inputs.{json_of_input}
-use Rattle.mh_text.specs.Keys.{path_text}
-use Rattle.mh_text.specs.Misreads.{MisreadData}
-use Rattle.mh_text.specs.declared.fault.Fault.{Fault}
-use Rattle.mh_text.specs.declared.fault.InputFault.{InputFault}
-use Rattle.mh_text.specs.declared.fault.InputFault.TheVariants.{NoMemory, TooLong}
-use Rattle.mh_text.specs.declared.key.Key.{Key}
-use Rattle.mh_text.specs.declared.json.form.InputForm.{InputForm}
-use Rattle.mh_text.specs.declared.json.form.InputForm.TheVariants as form
+use Rattle.mh_json.specs.Forms.{misread_by}
+use Rattle.mh_json.specs.Inputs.{json_of_input}
+use Rattle.mh_json.specs.Keys.{path_text}
+use Rattle.mh_json.specs.Misreads.{MisreadData}
+use Rattle.mh_json.specs.declared.fault.Fault.{Fault}
+use Rattle.mh_json.specs.declared.fault.InputFault.{InputFault}
+use Rattle.mh_json.specs.declared.fault.InputFault.TheVariants.{NoMemory, TooLong}
+use Rattle.mh_json.specs.declared.key.Key.{Key}
+use Rattle.mh_json.specs.declared.json.form.InputForm.{InputForm}
+use Rattle.mh_json.specs.declared.json.form.InputForm.TheVariants as form
 use Rattle.mh_explain.specs.declared.faulty.FaultyPart.{FaultyPart}
 
 -- whether some part of an input, or its text, has a fault

@@ -1,7 +1,7 @@
 -- What lines say of the refused events of a run.
 use Rattle.std.specs.Prelude.{◌≡◌, ℕ, List, [], ◌∷◌, ◌++◌, codes, decimal}
 use Rattle.mh_core.specs.Refusals.{refusal_text}
-use Rattle.mh_text.specs.declared.streams.refused.RefusedEvent.{RefusedEvent}
+use Rattle.mh_json.specs.declared.refused.RefusedEvent.{RefusedEvent}
 
 -- the line of a refused event
 abbrev pub refused_line : RefusedEvent → List ℕ

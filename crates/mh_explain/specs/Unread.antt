@@ -4,16 +4,16 @@ use Rattle.serde_json.specs.Data.{Data, null, boolean, number, string, array, ob
 use Rattle.serde_json.specs.Find.{get, at, as_str}
 use Rattle.mh_site.specs.declared.version.Version.{Version}
 use Rattle.mh_site.specs.declared.version.Version.TheVariants.{One, Two}
-use Rattle.mh_text.specs.declared.fault.Fault.{Fault}
-use Rattle.mh_text.specs.Inputs.{json_of_input}
-use Rattle.mh_text.specs.Keys.{field_name}
-use Rattle.mh_text.specs.Misreads.{MisreadData}
-use Rattle.mh_text.specs.Shape.{to_list}
-use Rattle.mh_text.specs.Versions.{version_of}
-use Rattle.mh_text.specs.declared.json.form.InputForm.{InputForm}
-use Rattle.mh_text.specs.declared.json.form.InputForm.TheVariants as input
-use Rattle.mh_text.specs.declared.key.Field.{Field}
-use Rattle.mh_text.specs.declared.key.Field.TheVariants as field
+use Rattle.mh_json.specs.declared.fault.Fault.{Fault}
+use Rattle.mh_json.specs.Inputs.{json_of_input}
+use Rattle.mh_json.specs.Keys.{field_name}
+use Rattle.mh_json.specs.Misreads.{MisreadData}
+use Rattle.mh_json.specs.Shape.{to_list}
+use Rattle.mh_json.specs.Versions.{version_of}
+use Rattle.mh_json.specs.declared.json.form.InputForm.{InputForm}
+use Rattle.mh_json.specs.declared.json.form.InputForm.TheVariants as input
+use Rattle.mh_json.specs.declared.key.Field.{Field}
+use Rattle.mh_json.specs.declared.key.Field.TheVariants as field
 use Rattle.mh_explain.specs.declared.unread.Reach.{Reach}
 use Rattle.mh_explain.specs.declared.unread.Reach.TheVariants.{At, Each, Offered}
 

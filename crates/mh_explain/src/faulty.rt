@@ -1,11 +1,11 @@
 //! The part of an input that has its first fault.
 ghost use Rattle.std.specs.Prelude.{◌≡◌, option_map, IfOk};
 ghost use Rattle.serde_json.specs.View.{view};
-ghost use Rattle.mh_text.specs.Forms.{misread_by};
+ghost use Rattle.mh_json.specs.Forms.{misread_by};
 ghost use Rattle.mh_explain.specs.Explanations.{misread_of};
 
 use mh_base::NoMemory;
-use mh_text::{InputFault, InputForm, Key, Misread, Wanted, first_misread};
+use mh_json::{InputFault, InputForm, Key, Misread, Wanted, first_misread};
 use serde_json::Value;
 use std::alloc::Global;
 

@@ -2,7 +2,7 @@
 use crate::spot::Spot;
 use crate::words::quoted;
 use mh_base::NoMemory;
-use mh_text::Wanted;
+use mh_json::Wanted;
 use serde_json::{Map, Value};
 use std::alloc::Global;
 

@@ -1,6 +1,6 @@
 //! The place of a fault: which part of an input has it, and why; and the keys that nothing reads.
 //!
-//! An input is read once, by the readers of mh_text, whose first fault knows the keys that lead to
+//! An input is read once, by the readers of mh_json, whose first fault knows the keys that lead to
 //! the part that has it, and what was wanted there. `explanation` shows these keys and the part, and
 //! says in a sentence why it has the fault; `unread_keys` notes each key that no reader looks at.
 //!
@@ -20,6 +20,7 @@ mod no_json;
 mod objects;
 mod path;
 mod refused;
+mod said;
 mod scope;
 mod spot;
 mod unread;
@@ -29,7 +30,7 @@ mod words;
 
 pub use faulty::{FaultyPart, faulty_part};
 pub use lines::{definition_explanation, explanation, explanation_of_part, explanation_of_text};
-pub use mh_text::{InputFault, InputForm};
+pub use mh_json::{InputFault, InputForm};
 pub use near::nearest;
 pub use refused::explanation_of_refused;
 pub use unread::{UnreadKeys, unread_keys};

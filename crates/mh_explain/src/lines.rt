@@ -1,8 +1,8 @@
 //! Where a fault of an input is, what stands there, and why it is one.
 ghost use Rattle.std.specs.Prelude.{◌≡◌, ◌≢◌, ◌⊎◌, [], option_map, string_bytes, IfOk};
 ghost use Rattle.serde_json.specs.View.{view};
-ghost use Rattle.mh_text.specs.declared.fault.InputFault.TheVariants.{NoMemory as out_of_memory};
-ghost use Rattle.mh_text.specs.Forms.{misread_by};
+ghost use Rattle.mh_json.specs.declared.fault.InputFault.TheVariants.{NoMemory as out_of_memory};
+ghost use Rattle.mh_json.specs.Forms.{misread_by};
 ghost use Rattle.mh_explain.specs.Explanations.{misread_of, place_text, script_around as script_with, Explains, ExplainsDefinition, ExplainsMisread, NamesPlace};
 
 use crate::faulty::{FaultyPart, faulty_part};
@@ -13,8 +13,8 @@ use crate::spot::Spot;
 use crate::values::value_at;
 use crate::why::why;
 use mh_base::NoMemory;
-use mh_text::readers::parse_json;
-use mh_text::{InputFault, InputForm, Key, Misread, Wanted};
+use mh_json::readers::parse_json;
+use mh_json::{InputFault, InputForm, Key, Misread, Wanted};
 use serde_json::{Value, json};
 use std::alloc::{AllocError, Global};
 

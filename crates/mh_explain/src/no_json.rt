@@ -7,7 +7,7 @@ use crate::no_json::stop::{COMMENTS, Stop, is_white};
 use crate::objects::is_profile_line;
 use crate::words::printable;
 use mh_base::NoMemory;
-use mh_text::readers::parse_json;
+use mh_json::readers::parse_json;
 use serde_json::Value;
 use std::alloc::Global;
 use std::str;

@@ -2,8 +2,8 @@
 ghost use Rattle.std.specs.Prelude.{◌≡◌};
 ghost use Rattle.mh_explain.specs.Unread.{link_keys as keys_of_link, row_keys as keys_of_row};
 
+use mh_json::{Field, InputForm, Key};
 use mh_site::Version;
-use mh_text::{Field, InputForm, Key};
 use serde_json::Value;
 
 /// The keys that are known of a script.

@@ -2,10 +2,10 @@
 ghost use Rattle.std.specs.Prelude.{Some};
 ghost use Rattle.std.specs.Fmt.{WritesOnOk};
 ghost use Rattle.std.specs.List.{flat_map};
-ghost use Rattle.mh_text.specs.Keys.{first_text, path_text, step_text};
+ghost use Rattle.mh_json.specs.Keys.{first_text, path_text, step_text};
 
 use mh_base::NoMemory;
-use mh_text::Key;
+use mh_json::Key;
 use std::alloc::Global;
 use std::fmt;
 

@@ -5,7 +5,7 @@ ghost use Rattle.mh_explain.specs.Refused.{NamesRefused, refused_line};
 use crate::why::reasons_of_event;
 use mh_base::NoMemory;
 use mh_core::Refusal;
-use mh_text::RefusedEvent;
+use mh_json::RefusedEvent;
 use serde_json::Value;
 use std::alloc::Global;
 

@@ -1,8 +1,8 @@
 //! The names that a tree may use where it stands.
 use crate::values::{items_at, known, named_behind, version_of};
 use mh_base::NoMemory;
-use mh_text::readers::{Scope, Sited, point_names, read_points, read_shared, read_site};
-use mh_text::{Field, Key};
+use mh_json::readers::{Scope, Sited, point_names, read_points, read_shared, read_site};
+use mh_json::{Field, Key};
 use serde_json::Value;
 use std::alloc::Global;
 

@@ -1,6 +1,6 @@
 //! A part of an input that could not be read.
 use crate::objects::{Object, object_at};
-use mh_text::{Field, InputForm, Key, Wanted};
+use mh_json::{Field, InputForm, Key, Wanted};
 use serde_json::Value;
 
 /// A part of an input that could not be read, and what was wanted there.

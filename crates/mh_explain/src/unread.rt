@@ -12,8 +12,8 @@ use crate::objects::{
 use crate::path::{ShownPath, longer};
 use crate::values::{items, version_of};
 use mh_base::NoMemory;
+use mh_json::{Field, InputForm, Key};
 use mh_site::Version;
-use mh_text::{Field, InputForm, Key};
 use serde_json::{Map, Value};
 use std::alloc::Global;
 

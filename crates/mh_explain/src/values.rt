@@ -4,9 +4,9 @@ ghost use Rattle.serde_json.specs.View.{view};
 ghost use Rattle.mh_explain.specs.Unread.{items_in, version_at};
 
 use mh_base::NoMemory;
+use mh_json::readers::read_version;
+use mh_json::{Field, InputFault, Key, Misread};
 use mh_site::Version;
-use mh_text::readers::read_version;
-use mh_text::{Field, InputFault, Key, Misread};
 use serde_json::Value;
 use std::alloc::Global;
 

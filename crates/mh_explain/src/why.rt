@@ -13,7 +13,7 @@ mod types;
 use crate::spot::Spot;
 pub(crate) use events::reasons_of_event;
 use mh_base::NoMemory;
-use mh_text::InputFault;
+use mh_json::InputFault;
 use std::alloc::Global;
 
 /// The sentence for a fault that this part of an input has.

@@ -1,8 +1,7 @@
 -- A tree's JSON nests less than twice as deep as the tree.
 use Rattle.std.proofs.Common.{◌≡◌, refl, ℕ, ◌+◌, ◌*◌, ◌≤◌, List, [], ◌∷◌, map, arith}
 use Rattle.std.specs.Prelude.{max}
-use Rattle.serde_json.specs.Data.{items_depth}
-use Rattle.serde_json.specs.Data.{depth as nesting}
+use Rattle.serde_json.specs.Data.{items_depth, depth as nesting}
 use Rattle.serde_json.specs.View.{items_of}
 use Rattle.mh_type.specs.declared.kind.Kind.{Kind}
 use Rattle.mh_type.specs.declared.value.Value.{Value}
@@ -10,8 +9,8 @@ use Rattle.mh_type.specs.declared.value.Value.TheVariants.{Int, Long, Boolean, T
 use Rattle.mh_tree.specs.Limits.{depth, deepest}
 use Rattle.mh_tree.specs.Tree.{Tree, Filters, constant, identity, operation, insert, discard, permute, filter, filter_return, fold, guard, point, invoke, no_more, absent, present}
 use Rattle.mh_site.specs.Defined.{DefinitionData}
-use Rattle.mh_json.specs.Values.{value_data, kind_data, place_data}
-use Rattle.mh_json.specs.Trees.{tree_data, filters_data}
+use Rattle.mh_json.specs.ValueData.{value_data, kind_data, place_data}
+use Rattle.mh_json.specs.TreeData.{tree_data, filters_data}
 
 value_is_flat : (x : Value) → nesting (value_data x) ≡ 0
 value_is_flat (Int z) = refl

@@ -14,7 +14,7 @@ use Rattle.mh_tree.specs.Tree.{filters_of}
 use Rattle.mh_tree.specs.TreeOf.{tree_of, filter_trees}
 use Rattle.mh_tree.specs.declared.node.Node.{Node}
 use Rattle.mh_site.specs.Defined.{DefinitionData}
-use Rattle.mh_json.specs.Trees.{filter_data, filters_data}
+use Rattle.mh_json.specs.TreeData.{filter_data, filters_data}
 
 -- a node's filter, and null where there is none
 abbrev pub owner_data : DefinitionData → Option (Arc Node Global) → Data

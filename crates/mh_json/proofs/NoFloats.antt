@@ -9,8 +9,8 @@ use Rattle.mh_type.specs.declared.value.Value.{Value}
 use Rattle.mh_type.specs.declared.value.Value.TheVariants.{Int, Long, Boolean, Text}
 use Rattle.mh_tree.specs.Tree.{Tree, Filters, constant, identity, operation, insert, discard, permute, filter, filter_return, fold, guard, point, invoke, no_more, absent, present}
 use Rattle.mh_site.specs.Defined.{DefinitionData}
-use Rattle.mh_json.specs.Values.{value_data, kind_data, place_data}
-use Rattle.mh_json.specs.Trees.{tree_data, filters_data}
+use Rattle.mh_json.specs.ValueData.{value_data, kind_data, place_data}
+use Rattle.mh_json.specs.TreeData.{tree_data, filters_data}
 
 number_has_none : (z : ℤ) → has_float (number (of_integer z)) ≡ false
 number_has_none (pos n) = refl

@@ -1,73 +1,231 @@
--- A tree as JSON: a list of a word and its parts, with one form for each combinator.
-use Rattle.std.specs.Prelude.{ℕ, List, [], ◌∷◌, Option, Some, None, codes}
-use Rattle.serde_json.specs.Data.{Data, Items, null, string, array, no_items, item}
-use Rattle.serde_json.specs.View.{items_of}
-use Rattle.serde_json.specs.Written.{compact_text}
-use Rattle.mh_type.specs.declared.kind.Kind.{Kind}
-use Rattle.mh_type.specs.declared.operation.Op.{Op}
-use Rattle.mh_type.specs.declared.value.Value.{Value}
-use Rattle.mh_type.specs.Display.{op_name}
-use Rattle.mh_type.specs.Kinds.{kind_of}
-use Rattle.mh_type.specs.Written.{written}
-use Rattle.mh_tree.specs.Tree.{Tree, Filters, constant, identity, operation, insert, discard, permute, filter, filter_return, fold, guard, point, invoke, no_more, absent, present}
-use Rattle.mh_site.specs.Defined.{DefinitionData, point_at, site_at}
-use Rattle.mh_json.specs.Values.{value_data, kind_data, place_data, values_data, kinds_data, places_data}
+-- The tree that a JSON value is.
+use Rattle.std.specs.Prelude.{ℕ, ◌+◌, ◌^◌, ◌-◌, min, List, [], ◌∷◌, drop, Option, Some, None, Result, Ok, Err, codes, is_some, if◌then◌else◌}
+use Rattle.std.specs.List.{slice_get}
+use Rattle.serde_json.specs.Data.{Data, null, boolean, number, string, array, object, Items, no_items, item}
+use Rattle.serde_json.specs.Find.{as_null}
+use Rattle.serde_json.specs.View.{view}
+use Rattle.serde_json.specs.declared.value.Value.{Value}
+use Rattle.mh_base.specs.Words.{at_word}
+use Rattle.mh_tree.specs.Handle.{TypedTree}
+use Rattle.mh_tree.specs.Constructors.{constant_made, identity_made, op_made, insert_made, drop_made, permute_made, filter_made, filter_return_made, fold_made, guard_made, point_made, declared_made, invoke_made}
+use Rattle.mh_json.specs.declared.fault.InputFault.TheVariants.{BadShape, UnknownShared, UnknownSite}
+use Rattle.mh_json.specs.declared.json.scope.Scope.{Scope}
+use Rattle.mh_json.specs.Gives.{◌>>=◌, or_fault, caused, of_tree}
+use Rattle.mh_json.specs.Misreads.{MisreadData, here, under}
+use Rattle.mh_json.specs.declared.key.Key.TheVariants.{Item}
+use Rattle.mh_site.specs.NamesInOrder.{place_of}
+use Rattle.mh_json.specs.Shape.{text_of, count_of, counts_of}
+use Rattle.mh_json.specs.Values.{kind_of, kinds_of, type_of, op_of, value_of_kind, values_for}
 
--- a word, and the parts that it heads
-abbrev pub form : List ℕ → List Data → Data
-form word parts = array (items_of (string word ∷ parts))
-
--- the name of a point, empty past the last
-abbrev pub point_name_data : DefinitionData → ℕ → Data
-point_name_data d p = string (point_at d p).name
-
--- the name of a site, empty past the last
-abbrev pub site_name_data : DefinitionData → ℕ → Data
-site_name_data d s = string (site_at d s).name
+-- a value, what it is as a tree, and what it is as a list of filters
+pub record Part : Type 0 where
+  pub value : Data
+  pub tree : Result TypedTree MisreadData
+  pub filters : Result (List (Option TypedTree)) MisreadData
 
 -- KIND, VALUE
-abbrev pub constant_data : Value → Data
-constant_data x = form (codes "const") (kind_data (kind_of x) ∷ value_data x ∷ [])
+abbrev pub constant_from : List Part → Result TypedTree MisreadData
+constant_from (kind ∷ value ∷ []) = do
+  kind ← under (Item 1) (kind_of kind.value)
+  value ← under (Item 2) (value_of_kind kind value.value)
+  Ok (constant_made value)
+constant_from _ = Err (here BadShape)
 
 -- KIND
-abbrev pub identity_data : Kind → Data
-identity_data k = form (codes "id") (kind_data k ∷ [])
+abbrev pub identity_from : List Part → Result TypedTree MisreadData
+identity_from (kind ∷ []) = do
+  kind ← under (Item 1) (kind_of kind.value)
+  Ok (identity_made kind)
+identity_from _ = Err (here BadShape)
 
 -- NAME
-abbrev pub operation_data : Op → Data
-operation_data o = form (codes "op") (string (op_name o) ∷ [])
+abbrev pub op_from : List Part → Result TypedTree MisreadData
+op_from (name ∷ []) = do
+  op ← under (Item 1) (op_of name.value)
+  Ok (op_made op)
+op_from _ = Err (here BadShape)
+
+-- TREE, pos, [VALUE..]
+abbrev pub insert_from : List Part → Result TypedTree MisreadData
+insert_from (target ∷ position ∷ values ∷ []) = do
+  target ← under (Item 1) target.tree
+  position ← under (Item 2) (count_of (2 ^ 63 - 1) position.value)
+  values ← under (Item 3) (values_for (drop position target.signature.parameters) values.value)
+  caused of_tree (insert_made target position values)
+insert_from _ = Err (here BadShape)
+
+-- TREE, pos, [KIND..]
+abbrev pub drop_from : List Part → Result TypedTree MisreadData
+drop_from (target ∷ position ∷ kinds ∷ []) = do
+  target ← under (Item 1) target.tree
+  position ← under (Item 2) (count_of (2 ^ 63 - 1) position.value)
+  kinds ← under (Item 3) (kinds_of kinds.value)
+  caused of_tree (drop_made target position kinds)
+drop_from _ = Err (here BadShape)
+
+-- TREE, TYPE, [number..]
+abbrev pub permute_from : List Part → Result TypedTree MisreadData
+permute_from (target ∷ new_type ∷ reorder ∷ []) = do
+  target ← under (Item 1) target.tree
+  new_type ← under (Item 2) (type_of new_type.value)
+  reorder ← under (Item 3) (counts_of (2 ^ 63 - 1) reorder.value)
+  caused of_tree (permute_made target new_type reorder)
+permute_from _ = Err (here BadShape)
+
+-- TREE, pos, [TREE or null..]
+abbrev pub filter_from : List Part → Result TypedTree MisreadData
+filter_from (target ∷ position ∷ filters ∷ []) = do
+  target ← under (Item 1) target.tree
+  position ← under (Item 2) (count_of (2 ^ 63 - 1) position.value)
+  filters ← under (Item 3) filters.filters
+  caused of_tree (filter_made target position filters)
+filter_from _ = Err (here BadShape)
+
+-- TARGET, FILTER
+abbrev pub return_from : List Part → Result TypedTree MisreadData
+return_from (target ∷ last ∷ []) = do
+  target ← under (Item 1) target.tree
+  last ← under (Item 2) last.tree
+  caused of_tree (filter_return_made target last)
+return_from _ = Err (here BadShape)
+
+-- TARGET, COMBINER
+abbrev pub fold_from : List Part → Result TypedTree MisreadData
+fold_from (target ∷ combiner ∷ []) = do
+  target ← under (Item 1) target.tree
+  combiner ← under (Item 2) combiner.tree
+  caused of_tree (fold_made target combiner)
+fold_from _ = Err (here BadShape)
+
+-- TEST, TARGET, FALLBACK
+abbrev pub guard_from : List Part → Result TypedTree MisreadData
+guard_from (test ∷ target ∷ fallback ∷ []) = do
+  test ← under (Item 1) test.tree
+  target ← under (Item 2) target.tree
+  fallback ← under (Item 3) fallback.tree
+  caused of_tree (guard_made test target fallback)
+guard_from _ = Err (here BadShape)
+
+-- the number of a point, or of a site: that of the first of its name, or one past the last, at most 2^32 - 1
+abbrev pub point_place : List (List ℕ) → List ℕ → ℕ
+point_place points name = min (place_of points name) (2 ^ 32 - 1)
+
+-- the name of a point, as its number
+abbrev pub named_point_of : List (List ℕ) → Data → Result ℕ MisreadData
+named_point_of points d = do
+  name ← text_of d
+  Ok (point_place points name)
+
+-- NAME, TARGET, FALLBACK
+abbrev pub point_from : Scope → List Part → Result TypedTree MisreadData
+point_from scope (name ∷ target ∷ fallback ∷ []) = do
+  point ← under (Item 1) (named_point_of scope.points name.value)
+  target ← under (Item 2) target.tree
+  fallback ← under (Item 3) fallback.tree
+  caused of_tree (point_made point target fallback)
+point_from scope _ = Err (here BadShape)
+
+-- the shared tree of a name, among those that stand earlier
+abbrev pub shared_named : Scope → List ℕ → Result TypedTree MisreadData
+shared_named scope name = or_fault UnknownShared (slice_get scope.trees (place_of scope.names name))
+
+abbrev pub shared_name_of : Scope → Data → Result TypedTree MisreadData
+shared_name_of scope d = do
+  name ← text_of d
+  shared_named scope name
 
 -- NAME
-abbrev pub invocation_data : DefinitionData → ℕ → Data
-invocation_data d s = form (codes "invoke") (site_name_data d s ∷ [])
+abbrev pub ref_from : Scope → List Part → Result TypedTree MisreadData
+ref_from scope (name ∷ []) = under (Item 1) (shared_name_of scope name.value)
+ref_from scope _ = Err (here BadShape)
+
+-- the invocation of the site of a name, among those that stand earlier, with the site's type
+abbrev pub invocation_named : Scope → List ℕ → Result TypedTree MisreadData
+invocation_named scope name = do
+  method_type ← or_fault UnknownSite (slice_get scope.types (point_place scope.sites name))
+  Ok (invoke_made (point_place scope.sites name) method_type)
+
+abbrev pub site_name_of : Scope → Data → Result TypedTree MisreadData
+site_name_of scope d = do
+  name ← text_of d
+  invocation_named scope name
+
+-- NAME
+abbrev pub invoke_from : Scope → List Part → Result TypedTree MisreadData
+invoke_from scope (name ∷ []) = under (Item 1) (site_name_of scope name.value)
+invoke_from scope _ = Err (here BadShape)
+
+-- what each word heads
+abbrev pub forms : Scope → List Part → List (List ℕ × Result TypedTree MisreadData)
+forms scope args =
+    (codes "const", constant_from args)
+    ∷ (codes "id", identity_from args)
+    ∷ (codes "op", op_from args)
+    ∷ (codes "ref", ref_from scope args)
+    ∷ (codes "insert", insert_from args)
+    ∷ (codes "drop", drop_from args)
+    ∷ (codes "permute", permute_from args)
+    ∷ (codes "filter", filter_from args)
+    ∷ (codes "return", return_from args)
+    ∷ (codes "fold", fold_from args)
+    ∷ (codes "guard", guard_from args)
+    ∷ (codes "point", point_from scope args)
+    ∷ (codes "invoke", invoke_from scope args)
+    ∷ []
+
+-- what a word heads
+abbrev pub form_named : Scope → List ℕ → List Part → Result TypedTree MisreadData
+form_named scope word args = at_word (forms scope args) word (Err (here BadShape))
+
+-- a word, and what it heads
+abbrev pub form_from : Scope → List Part → Result TypedTree MisreadData
+form_from scope [] = Err (here BadShape)
+form_from scope (head ∷ args) = do
+  word ← under (Item 0) (text_of head.value)
+  form_named scope word args
+
+-- an item of a list of filters: none where it is null, and else the tree that it is
+abbrev pub filter_or_none : Data → Result TypedTree MisreadData → Result (Option TypedTree) MisreadData
+filter_or_none d tree = if is_some (as_null d) then Ok None else (tree >>= λ filter. Ok (Some filter))
 
 abbrev mutual
-  -- the form of a tree, over the names of a definition
-  pub tree_data : DefinitionData → Tree → Data
-  tree_data d (constant x) = constant_data x
-  tree_data d (identity k) = identity_data k
-  tree_data d (operation o) = operation_data o
-  tree_data d (insert t p xs) = form (codes "insert") (tree_data d t ∷ place_data p ∷ values_data xs ∷ [])
-  tree_data d (discard t p ks) = form (codes "drop") (tree_data d t ∷ place_data p ∷ kinds_data ks ∷ [])
-  tree_data d (permute t m r) = form (codes "permute") (tree_data d t ∷ string (written m) ∷ places_data r ∷ [])
-  tree_data d (filter t p fs) = form (codes "filter") (tree_data d t ∷ place_data p ∷ array (filters_data d fs) ∷ [])
-  tree_data d (filter_return t f) = form (codes "return") (tree_data d t ∷ tree_data d f ∷ [])
-  tree_data d (fold t c) = form (codes "fold") (tree_data d t ∷ tree_data d c ∷ [])
-  tree_data d (guard c x y) = form (codes "guard") (tree_data d c ∷ tree_data d x ∷ tree_data d y ∷ [])
-  tree_data d (point p x y) = form (codes "point") (point_name_data d p ∷ tree_data d x ∷ tree_data d y ∷ [])
-  tree_data d (invoke s m) = invocation_data d s
+  pub tree_of : Scope → Data → Result TypedTree MisreadData
+  tree_of scope (array ds) = form_from scope (parts_of scope ds)
+  tree_of scope null = Err (here BadShape)
+  tree_of scope (boolean b) = Err (here BadShape)
+  tree_of scope (number n) = Err (here BadShape)
+  tree_of scope (string s) = Err (here BadShape)
+  tree_of scope (object ms) = Err (here BadShape)
 
-  -- a filter, or null, at each place
-  pub filters_data : DefinitionData → Filters → Items
-  filters_data d no_more = no_items
-  filters_data d (absent fs) = item null (filters_data d fs)
-  filters_data d (present f fs) = item (tree_data d f) (filters_data d fs)
+  pub parts_of : Scope → Items → List Part
+  parts_of scope no_items = []
+  parts_of scope (item d ds) = record { value = d; tree = tree_of scope d; filters = filters_of scope d } ∷ parts_of scope ds
 
--- a filter, and null where there is none
-abbrev pub filter_data : DefinitionData → Option Tree → Data
-filter_data d None = null
-filter_data d (Some f) = tree_data d f
+  pub filters_of : Scope → Data → Result (List (Option TypedTree)) MisreadData
+  filters_of scope (array ds) = filters_in scope 0 ds
+  filters_of scope null = Err (here BadShape)
+  filters_of scope (boolean b) = Err (here BadShape)
+  filters_of scope (number n) = Err (here BadShape)
+  filters_of scope (string s) = Err (here BadShape)
+  filters_of scope (object ms) = Err (here BadShape)
 
--- the text of a tree without spaces
-abbrev pub tree_text : DefinitionData → Tree → List ℕ
-tree_text d t = compact_text (tree_data d t)
+  pub filters_in : Scope → ℕ → Items → Result (List (Option TypedTree)) MisreadData
+  filters_in scope n no_items = Ok []
+  filters_in scope n (item d ds) = do
+    filter ← under (Item n) (filter_or_none d (tree_of scope d))
+    filters ← filters_in scope (n + 1) ds
+    Ok (filter ∷ filters)
+
+-- a tree within the limits of declared trees
+abbrev pub declared_of : Scope → Data → Result TypedTree MisreadData
+declared_of scope d = do
+  tree ← tree_of scope d
+  caused of_tree (declared_made tree)
+
+-- a value of the code as a part
+abbrev pub part : Scope → Value → Part
+part scope v = record { value = view v; tree = tree_of scope (view v); filters = filters_of scope (view v) }
+
+-- a value of the code as an item of a list of filters
+abbrev pub filter_of : Scope → Data → Result (Option TypedTree) MisreadData
+filter_of scope d = filter_or_none d (tree_of scope d)

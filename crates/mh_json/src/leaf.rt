@@ -2,7 +2,7 @@
 
 ghost use Rattle.std.specs.Prelude.{◌≡◌, IfOk};
 ghost use Rattle.serde_json.specs.View.{view};
-ghost use Rattle.mh_json.specs.Trees.{constant_data, identity_data, operation_data, invocation_data};
+ghost use Rattle.mh_json.specs.TreeData.{constant_data, identity_data, operation_data, invocation_data};
 
 use crate::values::value_json;
 use crate::writer::Writer;

@@ -8,7 +8,7 @@ ghost use Rattle.serde_json.specs.View.{view};
 ghost use Rattle.mh_tree.specs.Limits.{depth, greatest_declared_depth};
 ghost use Rattle.mh_tree.specs.Tree.{filters_of, insert, discard, permute, filter, filter_return, fold, guard, point as point_tree};
 ghost use Rattle.mh_tree.specs.TreeOf.{tree_of, filter_trees};
-ghost use Rattle.mh_json.specs.Trees.{tree_data, filters_data, filter_data, tree_text};
+ghost use Rattle.mh_json.specs.TreeData.{tree_data, filters_data, filter_data, tree_text};
 
 use crate::leaf::{constant_json, identity_json, operation_json};
 use crate::values::{kinds_json, places_json, values_json};

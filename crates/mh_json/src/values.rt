@@ -2,7 +2,7 @@
 
 ghost use Rattle.std.specs.Prelude.{◌≡◌, IfOk};
 ghost use Rattle.serde_json.specs.View.{view};
-ghost use Rattle.mh_json.specs.Values.{value_data, values_data, kinds_data, places_data};
+ghost use Rattle.mh_json.specs.ValueData.{value_data, values_data, kinds_data, places_data};
 
 use mh_type::{Kind, Value as Constant};
 use serde_json::Value;

@@ -5,9 +5,8 @@ use Rattle.std.proofs.lemmas.List.{append-nil}
 use Rattle.mh_network.specs.Problems.{ProblemData}
 use Rattle.mh_cert.specs.declared.plan.Plan.{Plan}
 use Rattle.mh_text.specs.Checks.{IsCutOff, IsFound}
-use Rattle.mh_text.specs.Gives.{no_memory}
-use Rattle.mh_text.specs.Output.{outside}
-use Rattle.mh_text.specs.declared.fault.Fault.{Fault}
+use Rattle.mh_json.specs.Gives.{no_memory, outside}
+use Rattle.mh_json.specs.declared.fault.Fault.{Fault}
 use Rattle.mh_text.specs.declared.lines.verdict.Verdict.{Verdict}
 use Rattle.mh_profile.specs.Claims.{FailsCheck, IsReadClaim, IsVerdict}
 use Rattle.mh_profile.specs.Profiles.{profile_of}

@@ -9,3 +9,4 @@ mod Needs
 mod Reading
 mod Slack
 mod Streaming
+mod Sweepings

@@ -1,11 +1,11 @@
 -- The fault of a line, at its number.
 use Rattle.std.proofs.Common.{◌≡◌, ◌≢◌, ◌⊎◌, inl, inr, ℕ, Result, Err, ap, sym, ◌∙◌}
-use Rattle.mh_text.specs.Gives.{at_place}
-use Rattle.mh_text.specs.Misreads.{MisreadData}
-use Rattle.mh_text.specs.declared.fault.Fault.{Fault}
-use Rattle.mh_text.specs.declared.fault.InputFault.{InputFault}
-use Rattle.mh_text.specs.declared.fault.InputFault.TheVariants.{NoMemory}
-use Rattle.mh_text.specs.declared.fault.TextFault.TheVariants.{Input}
+use Rattle.mh_json.specs.Gives.{at_place}
+use Rattle.mh_json.specs.Misreads.{MisreadData}
+use Rattle.mh_json.specs.declared.fault.Fault.{Fault}
+use Rattle.mh_json.specs.declared.fault.InputFault.{InputFault}
+use Rattle.mh_json.specs.declared.fault.InputFault.TheVariants.{NoMemory}
+use Rattle.mh_json.specs.declared.fault.TextFault.TheVariants.{Input}
 use Rattle.mh_profile.specs.declared.profile.Profile.{Profile}
 
 abbrev fault_at : ℕ → InputFault → Result Profile Fault

@@ -14,8 +14,8 @@ use Rattle.std.proofs.lemmas.Map.Keys.{IsStrictlyIncreasing-dedup}
 use Rattle.std.proofs.lemmas.Map.Views.{any-filter_same}
 use Rattle.mh_network.specs.Laws.{member_is}
 use Rattle.mh_network.specs.Selection.{member}
-use Rattle.mh_text.specs.Misreads.{here}
-use Rattle.mh_text.specs.declared.fault.InputFault.TheVariants.{NeedTwice}
+use Rattle.mh_json.specs.Misreads.{here}
+use Rattle.mh_json.specs.declared.fault.InputFault.TheVariants.{NeedTwice}
 use Rattle.mh_profile.specs.Profiles.{named_below, needs_among}
 
 -- ---- lists of numbers that rise and have the same members are the same

@@ -4,12 +4,10 @@ use Rattle.std.specs.Prelude.{◌==◌, ◌&&◌}
 use Rattle.std.proofs.lemmas.Bool.Decides.{nat_tests}
 use Rattle.std.proofs.lemmas.List.{append_assoc, length-append}
 use Rattle.std.proofs.lemmas.List.Elements.{All-append}
-use Rattle.mh_text.specs.Gives.{◌>>=◌}
-use Rattle.mh_text.specs.declared.fault.Fault.{Fault}
+use Rattle.mh_json.specs.Gives.{◌>>=◌, no_memory, too_long, at_place, GivesAt, outside}
+use Rattle.mh_json.specs.declared.fault.Fault.{Fault}
 use Rattle.mh_profile.specs.declared.profile.Profile.{Profile}
 use Rattle.mh_profile.specs.declared.reader.LineReader.{LineReader}
-use Rattle.mh_text.specs.Gives.{no_memory, too_long, at_place, GivesAt}
-use Rattle.mh_text.specs.Output.{outside}
 use Rattle.mh_profile.specs.Lines.{IsInLine, lines_of}
 use Rattle.mh_profile.specs.Limits.{most_in_all}
 use Rattle.mh_profile.specs.Profiles.{is_within, read_lines, text_of_line}

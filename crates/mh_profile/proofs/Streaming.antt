@@ -4,10 +4,10 @@ use Rattle.std.specs.Io.KnownBytes.{Consumes, IsAtEnd}
 use Rattle.std.proofs.KnownBytes.{Consumes-trans}
 use Rattle.std.proofs.lemmas.List.{append_assoc, length-append}
 use Rattle.std.proofs.lemmas.Grind.{common_steps}
-use Rattle.mh_text.specs.declared.fault.Fault.{Fault}
+use Rattle.mh_json.specs.declared.fault.Fault.{Fault}
 use Rattle.mh_profile.specs.declared.profile.Profile.{Profile}
 use Rattle.mh_profile.specs.declared.reader.LineReader.{LineReader}
-use Rattle.mh_text.specs.Gives.{no_memory, GivesAt}
+use Rattle.mh_json.specs.Gives.{no_memory, GivesAt, outside}
 use Rattle.mh_profile.specs.declared.named.NamedProblem.{NamedProblem}
 use Rattle.mh_profile.specs.declared.planning.ProfileOptions.{ProfileOptions}
 use Rattle.mh_profile.specs.Inputs.{IsFaultOfLines, IsProfileFault, IsProfileInput}
@@ -16,7 +16,7 @@ use Rattle.mh_profile.specs.Profiles.{profile_of}
 use Rattle.mh_profile.specs.Limits.{most_at_once, most_in_all}
 use Rattle.mh_profile.specs.Readers.{resumed, taken_by, IsReading, Takes}
 use Rattle.mh_text.specs.Bytes.{LosesAtMost}
-use Rattle.mh_text.specs.Output.{outside, IsUnread}
+use Rattle.mh_text.specs.Output.{IsUnread}
 
 -- a reader that has taken these bytes, the first of an input
 abbrev pub HasTaken : List ℕ → LineReader → Type 0

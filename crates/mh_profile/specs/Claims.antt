@@ -7,12 +7,12 @@ use Rattle.serde_json.specs.Find.{get}
 use Rattle.mh_network.specs.Problems.{ProblemData}
 use Rattle.mh_cert.specs.declared.plan.Plan.{Plan}
 use Rattle.mh_text.specs.Checks.{IsCutOff, IsFound}
-use Rattle.mh_text.specs.Gives.{◌>>=◌, at_place, too_long}
-use Rattle.mh_text.specs.Inputs.{json_in}
-use Rattle.mh_text.specs.Misreads.{MisreadData}
-use Rattle.mh_text.specs.Output.{IsUnread, outside}
-use Rattle.mh_text.specs.Plans.{plan_of}
-use Rattle.mh_text.specs.declared.fault.Fault.{Fault}
+use Rattle.mh_json.specs.Gives.{◌>>=◌, at_place, too_long, outside}
+use Rattle.mh_json.specs.Inputs.{json_in}
+use Rattle.mh_json.specs.Misreads.{MisreadData}
+use Rattle.mh_text.specs.Output.{IsUnread}
+use Rattle.mh_json.specs.Plans.{plan_of}
+use Rattle.mh_json.specs.declared.fault.Fault.{Fault}
 use Rattle.mh_text.specs.declared.lines.verdict.Verdict.{Verdict}
 use Rattle.mh_profile.specs.Inputs.{IsProfileFault, IsProfileInput}
 use Rattle.mh_profile.specs.Limits.{most_in_claim}

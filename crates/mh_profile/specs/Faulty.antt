@@ -6,11 +6,11 @@ use Rattle.serde_json.specs.Data.{Data}
 use Rattle.serde_json.specs.Find.{as_str, get}
 use Rattle.serde_json.specs.View.{view}
 use Rattle.serde_json.specs.declared.value.Value.{Value}
-use Rattle.mh_text.specs.Gives.{at_place}
-use Rattle.mh_text.specs.Inputs.{json_in}
-use Rattle.mh_text.specs.Shape.{list_of}
-use Rattle.mh_text.specs.declared.fault.InputFault.{InputFault}
-use Rattle.mh_text.specs.declared.fault.TextFault.TheVariants.{Input}
+use Rattle.mh_json.specs.Gives.{at_place}
+use Rattle.mh_json.specs.Inputs.{json_in}
+use Rattle.mh_json.specs.Shape.{list_of}
+use Rattle.mh_json.specs.declared.fault.InputFault.{InputFault}
+use Rattle.mh_json.specs.declared.fault.TextFault.TheVariants.{Input}
 use Rattle.mh_profile.specs.declared.faulty.FaultyLine.{FaultyLine}
 use Rattle.mh_profile.specs.declared.profile.Profile.{Profile}
 use Rattle.mh_profile.specs.Lines.{lines_of}

@@ -9,3 +9,4 @@ pub mod Planning
 pub mod Profiles
 pub mod Readers
 pub mod Slack
+pub mod Sweeps

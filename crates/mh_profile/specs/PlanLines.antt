@@ -1,5 +1,5 @@
 -- The lines of a profile's plan, in which links and points have their names.
-use Rattle.std.specs.Prelude.{ℕ, ◌==◌, List, [], ◌∷◌, ◌++◌, codes, cond, flat_map, length, slice_index_or}
+use Rattle.std.specs.Prelude.{ℕ, ◌==◌, List, [], ◌∷◌, ◌++◌, Option, codes, cond, flat_map, length, slice_index_or}
 use Rattle.std.specs.Fmt.{decimal, signed_decimal}
 use Rattle.std.specs.List.{sum_by}
 use Rattle.serde_json.specs.Data.{string}
@@ -8,8 +8,10 @@ use Rattle.mh_network.specs.Problems.{ProblemData, link_at, gain_of, charge_of, 
 use Rattle.mh_network.specs.Selection.{Row, member, into_charge, into_point}
 use Rattle.mh_cert.specs.declared.plan.Plan.{Plan}
 use Rattle.mh_plan.specs.Joined.{joined}
+use Rattle.mh_sweep.specs.declared.sweep.Sweep.{Sweep}
 use Rattle.mh_profile.specs.declared.named.NamedProblem.{NamedProblem}
 use Rattle.mh_profile.specs.Accounts.{rows_of, slack_of}
+use Rattle.mh_profile.specs.Sweeps.{swept_text, until_text}
 
 -- the name by a number, as a string of JSON
 abbrev pub name_text : List (List ℕ) → ℕ → List ℕ
@@ -78,14 +80,20 @@ point_text n plan p =
 abbrev pub line : List ℕ → List ℕ
 line text = text ++ 10 ∷ []
 
--- the lines of the first n links
-abbrev pub link_lines : NamedProblem → Plan → ℕ → List ℕ
-link_lines n plan count = joined (λ j. line (link_text n plan j)) count
+-- what became of a link, and up to which scale it is chosen, if the costs are swept
+abbrev pub swept_link_text : NamedProblem → Plan → Option Sweep → ℕ → List ℕ
+swept_link_text n plan sweep j = link_text n plan j ++ until_text n.problem sweep j
+
+-- the lines of the first links
+abbrev pub link_lines : NamedProblem → Plan → Option Sweep → ℕ → List ℕ
+link_lines n plan sweep count = joined (λ j. line (swept_link_text n plan sweep j)) count
 
 -- the lines of the first points
 abbrev pub point_lines : NamedProblem → Plan → ℕ → List ℕ
 point_lines n plan count = joined (λ p. line (point_text n plan p)) count
 
 -- the head, and a line for each link and then for each point
-abbrev pub profile_text : NamedProblem → Plan → List ℕ
-profile_text n plan = line (head_text n.problem plan) ++ (link_lines n plan (length n.problem.links) ++ point_lines n plan (length n.problem.costs))
+abbrev pub profile_text : NamedProblem → Plan → Option Sweep → List ℕ
+profile_text n plan sweep =
+    line (head_text n.problem plan ++ swept_text sweep)
+    ++ (link_lines n plan sweep (length n.problem.links) ++ point_lines n plan (length n.problem.costs))

@@ -8,16 +8,15 @@ use Rattle.mh_network.specs.declared.link_row.LinkRow.{LinkRow}
 use Rattle.mh_network.specs.declared.fault.ProblemFault.TheVariants.{TooManyLinks, TooManyPoints}
 use Rattle.mh_network.specs.Limits.{greatest_count}
 use Rattle.mh_network.specs.Selection.{member}
-use Rattle.mh_text.specs.declared.fault.InputFault.TheVariants.{TooLong, BadShape, Problem, UnknownPoint, PointTwice, NeedTwice}
-use Rattle.mh_text.specs.Bytes.{most_bytes}
-use Rattle.mh_text.specs.Gives.{◌>>=◌, at_place}
-use Rattle.mh_text.specs.Inputs.{json_in}
-use Rattle.mh_text.specs.Problems.{truth_of}
-use Rattle.mh_text.specs.Misreads.{MisreadData, here}
-use Rattle.mh_text.specs.Shape.{count_of, each_of, part_of, text_of}
-use Rattle.mh_text.specs.declared.key.Field.{Field}
-use Rattle.mh_text.specs.declared.key.Field.TheVariants as field
-use Rattle.mh_text.specs.declared.fault.Fault.{Fault}
+use Rattle.mh_json.specs.declared.fault.InputFault.TheVariants.{TooLong, BadShape, Problem, UnknownPoint, PointTwice, NeedTwice}
+use Rattle.mh_json.specs.Inputs.{most_bytes, json_in}
+use Rattle.mh_json.specs.Gives.{◌>>=◌, at_place}
+use Rattle.mh_json.specs.Problems.{truth_of}
+use Rattle.mh_json.specs.Misreads.{MisreadData, here}
+use Rattle.mh_json.specs.Shape.{count_of, each_of, part_of, text_of}
+use Rattle.mh_json.specs.declared.key.Field.{Field}
+use Rattle.mh_json.specs.declared.key.Field.TheVariants as field
+use Rattle.mh_json.specs.declared.fault.Fault.{Fault}
 use Rattle.mh_profile.specs.declared.profile.Profile.{Profile}
 use Rattle.mh_profile.specs.Limits.{most_in_all}
 use Rattle.mh_profile.specs.Lines.{is_blank, lines_of}

@@ -1,10 +1,9 @@
 -- What a reader of lines has read, and what it will.
 use Rattle.std.specs.Prelude.{ℕ, ◌≡◌, ◌+◌, ◌≤◌, ◌⊎◌, true, List, ◌++◌, length, Result, Ok, Err}
-use Rattle.mh_text.specs.declared.fault.Fault.{Fault}
+use Rattle.mh_json.specs.declared.fault.Fault.{Fault}
 use Rattle.mh_profile.specs.declared.profile.Profile.{Profile}
 use Rattle.mh_profile.specs.declared.reader.LineReader.{LineReader}
-use Rattle.mh_text.specs.Gives.{no_memory}
-use Rattle.mh_text.specs.Output.{outside}
+use Rattle.mh_json.specs.Gives.{no_memory, outside}
 use Rattle.mh_profile.specs.Limits.{most_in_all}
 use Rattle.mh_profile.specs.Lines.{IsInLine, lines_of}
 use Rattle.mh_profile.specs.Profiles.{is_within, read_lines}

@@ -3,12 +3,13 @@ ghost use Rattle.std.specs.Prelude.{◌+◌, IfOk, IfErr, IfSome, OnOk};
 ghost use Rattle.std.specs.Io.KnownBytes.{Appends, IsAtEnd};
 ghost use Rattle.mh_text.specs.Bytes.{HasFailed, LosesAtMost};
 ghost use Rattle.mh_text.specs.Checks.{verdict_line};
-ghost use Rattle.mh_text.specs.Gives.{IsHonest, NoOtherFailed};
+ghost use Rattle.mh_text.specs.Honest.{IsHonest, NoOtherFailed};
 ghost use Rattle.mh_profile.specs.Claims.{FailsCheck, IsVerdict};
 ghost use Rattle.mh_profile.specs.Limits.{most_in_claim};
 
 use crate::claim::read_claim;
-use mh_text::{Fault, Verdict, Watched, judge, write_verdict};
+use mh_json::Fault;
+use mh_text::{Verdict, Watched, judge, write_verdict};
 use std::alloc::Global;
 use std::io::{Read, Write};
 

@@ -3,8 +3,8 @@ ghost use Rattle.std.specs.Prelude.{◌≡◌, ◌≢◌, ◌<◌, ◌≤◌, �
 ghost use Rattle.std.specs.List.{HoldsAt, IsFirstMatchOrLen};
 ghost use Rattle.serde_json.specs.Find.{as_str};
 ghost use Rattle.serde_json.specs.View.{view};
-ghost use Rattle.mh_text.specs.Gives.{at_place};
-ghost use Rattle.mh_text.specs.declared.fault.TextFault.TheVariants.{Input};
+ghost use Rattle.mh_json.specs.Gives.{at_place};
+ghost use Rattle.mh_json.specs.declared.fault.TextFault.TheVariants.{Input};
 ghost use Rattle.mh_profile.specs.Faulty.{is_new, IsFaulty, IsUnknown};
 ghost use Rattle.mh_profile.specs.Profiles.{text_of_line};
 
@@ -12,9 +12,9 @@ use crate::claim::{last_line_start, line_count, read_lines};
 use crate::line::read_line;
 use crate::names::PointNames;
 use crate::profile::Profile;
+use mh_json::readers::{list, parse_json};
+use mh_json::{InputFault, Wanted};
 use mh_network::Listing;
-use mh_text::readers::{list, parse_json};
-use mh_text::{InputFault, Wanted};
 use serde_json::Value;
 use std::alloc::Global;
 

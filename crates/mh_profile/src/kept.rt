@@ -2,15 +2,17 @@
 ghost use Rattle.std.specs.Prelude.{◌≡◌, ◌≢◌, ◌<◌, ◌≤◌, ◌+◌, ◌⊎◌, ◌++◌, ℕ, List, length, Err, IfErr, IfOk, IfSome, IsErrOf, OnOk};
 ghost use Rattle.std.specs.Io.KnownBytes.{Consumes, IsAtEnd};
 ghost use Rattle.mh_text.specs.Bytes.{HasFailed, LosesAtMost};
-ghost use Rattle.mh_text.specs.Gives.{no_memory, IsHonestReading, IsOfInput};
-ghost use Rattle.mh_text.specs.Output.{outside, IsUnread};
-ghost use Rattle.mh_text.specs.declared.fault.TextFault.TheVariants.{ReadFailed};
+ghost use Rattle.mh_json.specs.Gives.{no_memory, IsOfInput, outside};
+ghost use Rattle.mh_text.specs.Honest.{IsHonestReading};
+ghost use Rattle.mh_text.specs.Output.{IsUnread};
+ghost use Rattle.mh_json.specs.declared.fault.TextFault.TheVariants.{ReadFailed};
 ghost use Rattle.mh_profile.specs.Inputs.{IsProfileFault};
 ghost use Rattle.mh_profile.specs.Limits.{most_in_all};
 ghost use Rattle.mh_profile.specs.Profiles.{profile_of};
 
 use crate::reader::{LIMIT, LineReader};
-use mh_text::{Fault, InputFault, TextFault, Watched};
+use mh_json::{Fault, InputFault, TextFault};
+use mh_text::Watched;
 use std::alloc::Global;
 use std::io::Read;
 

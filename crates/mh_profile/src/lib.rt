@@ -34,13 +34,15 @@ mod planning;
 mod profile;
 mod reader;
 mod streams;
+mod sweep_lines;
+mod sweeping;
 
 pub use check::check_profile;
 pub use claim::{claimed_lines, keep_claim};
 pub use faulty::{FaultyLine, faulty_line};
 pub use kept::keep_profile;
 pub use laws::links_stay_best_within_slack;
-pub use mh_text::{Fault, InputFault, TextFault};
+pub use mh_json::{Fault, InputFault, TextFault};
 pub use named::NamedProblem;
 pub use names::{LinkNames, PointNames};
 pub use plan_lines::{profile_lines, quoted};

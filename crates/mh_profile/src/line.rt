@@ -2,16 +2,16 @@
 ghost use Rattle.std.specs.Prelude.{◌≡◌, codes};
 ghost use Rattle.serde_json.specs.Find.{get};
 ghost use Rattle.serde_json.specs.View.{view};
-ghost use Rattle.mh_text.specs.Gives.{Gives};
+ghost use Rattle.mh_json.specs.Gives.{Gives};
 ghost use Rattle.mh_profile.specs.Lines.{is_blank};
 ghost use Rattle.mh_profile.specs.Profiles.{amount_of, amount_where, eligible_where, entry_of, link_of, needs_among, needs_where, place_named, places_named, point_of, row_of, text_of_line};
 
 use crate::names::PointNames;
 use crate::profile::Profile;
 use mh_base::are_below;
+use mh_json::readers::{count, each, parse_json, part, text};
+use mh_json::{Field, InputFault, Misread, Wanted};
 use mh_network::{LinkRow, Listing};
-use mh_text::readers::{count, each, parse_json, part, text};
-use mh_text::{Field, InputFault, Misread, Wanted};
 use serde_json::Value;
 use std::alloc::Global;
 

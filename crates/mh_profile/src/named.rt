@@ -4,8 +4,8 @@ ghost use Rattle.mh_profile.specs.Inputs.{IsNamed, IsNotMade};
 
 use crate::names::{LinkNames, PointNames};
 use crate::profile::Profile;
+use mh_json::{Fault, InputFault, TextFault};
 use mh_network::Problem;
-use mh_text::{Fault, InputFault, TextFault};
 
 /// A problem, and the names of its links and points.
 #[derive(Drop)]
@@ -16,6 +16,8 @@ pub struct NamedProblem {
     pub links: LinkNames,
     /// The problem, by number.
     pub problem: Problem,
+    /// The number of the last line that is a point or a link, from 1; 0 if there is none.
+    pub last: u64,
 }
 
 impl Profile {
@@ -40,6 +42,7 @@ impl Profile {
                 points,
                 links: names,
                 problem,
+                last,
             }),
             Err(cause) => Err(Fault {
                 kind: TextFault::Input(InputFault::Problem(cause)),

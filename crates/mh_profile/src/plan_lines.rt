@@ -1,18 +1,21 @@
 //! The lines of a profile's plan, in which links and points have their names.
-ghost use Rattle.std.specs.Prelude.{◌≡◌, ◌<◌, ◌++◌, All, flat_map, length, string_bytes, IfOk, OnOk};
+ghost use Rattle.std.specs.Prelude.{◌≡◌, ◌<◌, ◌++◌, All, flat_map, length, string_bytes, IfOk, IfSome, OnOk};
 ghost use Rattle.std.specs.List.{sum_by};
 ghost use Rattle.serde_json.specs.Data.{string};
 ghost use Rattle.serde_json.specs.Written.{compact_text};
 ghost use Rattle.mh_cert.specs.Plans.{Matches};
 ghost use Rattle.mh_network.specs.Problems.{charge_of, cost_of, gain_of, IsProblem};
 ghost use Rattle.mh_profile.specs.Accounts.{IsAccount};
-ghost use Rattle.mh_profile.specs.PlanLines.{charge_text, chosen_text, counts_text, gives_text, head_text, left_text, line as line_of, link_lines, link_text, paid_text, point_lines, point_text, profile_text, spent_text, sums_text};
+ghost use Rattle.mh_profile.specs.PlanLines.{charge_text, chosen_text, counts_text, gives_text, head_text, left_text, line as line_of, link_lines, link_text, paid_text, point_lines, point_text, profile_text, spent_text, sums_text, swept_link_text};
+ghost use Rattle.mh_profile.specs.Sweeps.{swept_text};
 
 use crate::accounts::{Account, is_among, paid, rows_of};
 use crate::named::NamedProblem;
+use crate::sweep_lines::{swept_part, until_part};
 use mh_base::NoMemory;
 use mh_cert::Plan;
 use mh_network::Problem;
+use mh_sweep::Sweep;
 use serde_json::Value;
 use std::alloc::Global;
 
@@ -73,15 +76,25 @@ fn sums(alloc: Global, problem: &Problem, plan: &Plan) -> Result<String, NoMemor
     Ok(format!(in alloc; "gain {gain} costs {cost} charges {charge} value {value}")?)
 }
 
-/// How many links and points are chosen, and what they are worth.
-fn head(alloc: Global, problem: &Problem, plan: &Plan) -> Result<String, NoMemory>
+/// How many links and points are chosen, what they are worth, and up to which scale the costs are
+/// swept, if they are.
+fn head(
+    alloc: Global,
+    problem: &Problem,
+    plan: &Plan,
+    sweep: &Option<Sweep>,
+) -> Result<String, NoMemory>
     requires matching { Matches problem.now plan.now }
-    ensures value { IfOk result (λ s. string_bytes s ≡ head_text problem.now plan.now) }
+    ensures value { IfOk result (λ s. string_bytes s
+        ≡ head_text problem.now plan.now ++ swept_text sweep.now) }
 {
     let _links = problem.links();
     let counts = counts(alloc, problem, plan)?;
     let sums = sums(alloc, problem, plan)?;
-    Ok(format!(in alloc; "profile {counts} {sums}")?)
+    let mut head = format!(in alloc; "profile {counts} {sums}")?;
+    let swept = swept_part(alloc, sweep)?;
+    head.push_str(swept.as_str())?;
+    Ok(head)
 }
 
 /// The charge of a chosen link, where there is one.
@@ -189,6 +202,26 @@ fn link_line(
     }
 }
 
+/// What became of a link, and up to which scale it is chosen, if the costs are swept.
+fn swept_link_line(
+    alloc: Global,
+    named: &NamedProblem,
+    plan: &Plan,
+    sweep: &Option<Sweep>,
+    link: u32,
+) -> Result<String, NoMemory>
+    requires inside { link < length named.now.problem.links }
+    requires matching { Matches named.now.problem plan.now }
+    requires counted { IfSome sweep.now (λ s. length s.until ≡ length named.now.problem.links) }
+    ensures value { IfOk result (λ s. string_bytes s
+        ≡ swept_link_text named.now plan.now sweep.now link) }
+{
+    let mut line = link_line(alloc, named, plan, link)?;
+    let until = until_part(alloc, &named.problem, sweep, link as usize)?;
+    line.push_str(until.as_str())?;
+    Ok(line)
+}
+
 /// A point that a chosen link needs, or one that is not paid for.
 fn point_line(
     alloc: Global,
@@ -229,13 +262,15 @@ fn push_links(
     alloc: Global,
     named: &NamedProblem,
     plan: &Plan,
+    sweep: &Option<Sweep>,
 ) -> Result<(), NoMemory>
     requires matching { Matches named.now.problem plan.now }
+    requires counted { IfSome sweep.now (λ s. length s.until ≡ length named.now.problem.links) }
     ensures value { OnOk result (string_bytes out.new ≡ string_bytes out.old
-        ++ link_lines named.now plan.now (length named.now.problem.links)) }
+        ++ link_lines named.now plan.now sweep.now (length named.now.problem.links)) }
 {
     for link in 0..named.problem.links() {
-        let line = link_line(alloc, named, plan, link as u32)?;
+        let line = swept_link_line(alloc, named, plan, sweep, link as u32)?;
         push_line(out, line.as_str())?;
     }
     Ok(())
@@ -279,15 +314,30 @@ fn push_points(
 /// is given is that of one flow; another could share it otherwise. `slack` is by how much the
 /// cost of a chosen point may rise, or that of an unpaid one fall, and the chosen links are still
 /// worth most.
-pub fn profile_lines(alloc: Global, named: &NamedProblem, plan: &Plan) -> Result<String, NoMemory>
+///
+/// With a sweep, the first line and those of eligible links end with scales of the costs: up to
+/// which scale the sweep goes, and up to which scale the link is chosen.
+///
+/// ```
+/// profile links 1 of 3 points 1 of 2 gain 9 costs 5 charges 2 value 2 sweep 1000.000
+/// link "x" gain 9 charge 2 until 1.400
+/// left "y" gain 3 gives 3 to "b" until 0.429
+/// ```
+pub fn profile_lines(
+    alloc: Global,
+    named: &NamedProblem,
+    plan: &Plan,
+    sweep: &Option<Sweep>,
+) -> Result<String, NoMemory>
     requires matching { Matches named.now.problem plan.now }
-    ensures value { IfOk result (λ s. string_bytes s ≡ profile_text named.now plan.now) }
+    requires counted { IfSome sweep.now (λ s. length s.until ≡ length named.now.problem.links) }
+    ensures value { IfOk result (λ s. string_bytes s ≡ profile_text named.now plan.now sweep.now) }
 {
     let account = Account::new(alloc, &named.problem, plan)?;
     let mut lines = String::new(alloc);
-    let head = head(alloc, &named.problem, plan)?;
+    let head = head(alloc, &named.problem, plan, sweep)?;
     push_line(&mut lines, head.as_str())?;
-    push_links(&mut lines, alloc, named, plan)?;
+    push_links(&mut lines, alloc, named, plan, sweep)?;
     push_points(&mut lines, alloc, named, plan, &account)?;
     Ok(lines)
 }

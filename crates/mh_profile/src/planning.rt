@@ -4,20 +4,24 @@ ghost use Rattle.std.specs.Io.KnownBytes.{Appends, IsAtEnd};
 ghost use Rattle.mh_cert.specs.Plans.{Matches};
 ghost use Rattle.mh_base.specs.Limits.{most_workers};
 ghost use Rattle.mh_text.specs.Bytes.{HasFailed, LosesAtMost};
-ghost use Rattle.mh_text.specs.Gives.{IsHonest, IsHonestReading, NoOtherFailed};
+ghost use Rattle.mh_text.specs.Honest.{IsHonest, IsHonestReading, NoOtherFailed};
 ghost use Rattle.mh_text.specs.Output.{IsUnread};
-ghost use Rattle.mh_text.specs.declared.fault.TextFault.TheVariants.{ReadFailed};
+ghost use Rattle.mh_json.specs.declared.fault.TextFault.TheVariants.{ReadFailed};
 ghost use Rattle.mh_profile.specs.Inputs.{IsProfileFault, IsProfileInput};
 ghost use Rattle.mh_profile.specs.Limits.{most_at_once, most_in_all};
-ghost use Rattle.mh_profile.specs.Planning.{FailsPlan, IsPlanOf, IsPlanned, lines_for};
+ghost use Rattle.mh_profile.specs.Planning.{FailsPlan, IsPlanFault, IsPlanOf, IsPlanned, lines_for};
+ghost use Rattle.mh_profile.specs.Sweeps.{IsSweepWhere};
 
 use crate::named::NamedProblem;
 use crate::plan_lines::{profile_lines, push_line};
 use crate::streams::read_profile;
+use crate::sweeping::sweep_where;
 use mh_base::NoMemory;
 use mh_cert::Plan;
+use mh_json::{Fault, plan_json};
 use mh_plan::{OpenGate, plan};
-use mh_text::{Fault, Watched, plan_json, write_lines};
+use mh_sweep::Sweep;
+use mh_text::{Watched, write_lines};
 use std::alloc::Global;
 use std::io::{Read, Write};
 use std::thread::Threads;
@@ -29,6 +33,8 @@ pub struct ProfileOptions {
     pub workers: usize,
     /// Whether the plan is also written as JSON, by number, with the flow that shows it to be best.
     pub certificate: bool,
+    /// Whether it is also written up to which scale of the costs each link is chosen.
+    pub sweep: bool,
 }
 
 /// The problem with names that the reader gives.
@@ -47,17 +53,50 @@ fn read_named<R: Read>(alloc: Global, reader: &mut Watched<R>) -> Result<NamedPr
     read_profile(alloc, reader)?.into_problem()
 }
 
+/// A problem with names, and the sweep of its costs, if one is asked for.
+#[derive(Drop)]
+struct SweptProblem {
+    named: NamedProblem,
+    sweep: Option<Sweep>,
+}
+
+/// Reads the problem with names that the reader gives, and sweeps its costs, if that is asked for.
+fn read_swept<R: Read>(
+    alloc: Global,
+    options: ProfileOptions,
+    reader: &mut Watched<R>,
+) -> Result<SweptProblem, Fault>
+    ensures ok { IfOk result (λ swept. IfSome (R.remaining reader.old.inner)
+        (λ input. IsProfileInput input swept.named)) }
+    ensures swept { IfOk result (λ swept.
+        IsSweepWhere options.sweep swept.named.problem swept.sweep) }
+    ensures failed { IfErr result (IsUnread (IsPlanFault options) (R.remaining reader.old.inner)
+        (HasFailed reader.old.failures reader.new.failures)) }
+    ensures honest { IsHonestReading result reader.old.failures reader.new.failures }
+    ensures others { IfErr result (λ e. e.kind ≢ ReadFailed
+        → reader.new.failures ≡ reader.old.failures) }
+    ensures end { OnOk result (IsAtEnd (R.remaining reader.new.inner)) }
+    ensures most { LosesAtMost (most_in_all + most_at_once) (R.remaining reader.old.inner)
+        (R.remaining reader.new.inner) }
+{
+    let named = read_named(alloc, reader)?;
+    let sweep = sweep_where(alloc, options.sweep, &named)?;
+    Ok(SweptProblem { named, sweep })
+}
+
 /// The lines of a plan.
 fn render(
     alloc: Global,
     options: ProfileOptions,
-    named: &NamedProblem,
+    swept: &SweptProblem,
     plan: &Plan,
 ) -> Result<String, NoMemory>
-    requires matching { Matches named.now.problem plan.now }
-    ensures value { IfOk result (λ s. string_bytes s ≡ lines_for options named.now plan.now) }
+    requires matching { Matches swept.now.named.problem plan.now }
+    requires swept { IsSweepWhere options.sweep swept.now.named.problem swept.now.sweep }
+    ensures value { IfOk result (λ s. string_bytes s
+        ≡ lines_for options swept.now.named plan.now swept.now.sweep) }
 {
-    let mut lines = profile_lines(alloc, named, plan)?;
+    let mut lines = profile_lines(alloc, &swept.named, plan, &swept.sweep)?;
     if options.certificate {
         let certificate = plan_json(alloc, plan)?;
         push_line(&mut lines, certificate.as_str())?;
@@ -70,19 +109,24 @@ fn plan_named<T: Threads + Sync>(
     rt: &T,
     alloc: Global,
     options: ProfileOptions,
-    named: &NamedProblem,
+    swept: &SweptProblem,
 ) -> Result<String, NoMemory>
     requires some { 0 < options.workers }
     requires few { options.workers ≤ most_workers }
-    ensures planned { IfOk result (λ s. IsPlanOf options named.now (string_bytes s)) }
+    requires swept { IsSweepWhere options.sweep swept.now.named.problem swept.now.sweep }
+    ensures planned { IfOk result (λ s. IsPlanOf options swept.now.named (string_bytes s)) }
 {
-    let plan = plan(rt, alloc, &named.problem, options.workers, &OpenGate)?;
-    render(alloc, options, named, &plan)
+    let plan = plan(rt, alloc, &swept.named.problem, options.workers, &OpenGate)?;
+    render(alloc, options, swept, &plan)
 }
 
 /// Plans the profile that the reader gives, and writes the lines of its plan (`profile_lines`), and
-/// its certificate (`mh_text::plan_json`) where it is asked for: the best links, the fewest where
+/// its certificate (`mh_json::plan_json`) where it is asked for: the best links, the fewest where
 /// several sets are best.
+///
+/// With `sweep`, the lines also say up to which scale of the costs each link is chosen: at each
+/// scale below that number it is one of the least best links, and at each other scale of the sweep
+/// it is not. The input is then refused if a thousand times its gains exceed 2^62.
 ///
 /// The input is read as by `read_profile`. A fault of the input, or of memory, writes nothing. A
 /// failing write leaves a beginning of the lines, and is a fault of no line.
@@ -110,8 +154,8 @@ pub fn plan_profile<T: Threads + Sync, R: Read, W: Write>(
     ensures most { LosesAtMost (most_in_all + most_at_once) (R.remaining reader.old.inner)
         (R.remaining reader.new.inner) }
 {
-    let named = read_named(alloc, reader)?;
-    let lines = plan_named(rt, alloc, options, &named)?;
+    let swept = read_swept(alloc, options, reader)?;
+    let lines = plan_named(rt, alloc, options, &swept)?;
     write_lines(lines, writer)?;
     Ok(())
 }

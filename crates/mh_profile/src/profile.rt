@@ -1,11 +1,11 @@
 //! What the lines of a profile say.
 ghost use Rattle.std.specs.Prelude.{◌≡◌};
-ghost use Rattle.mh_text.specs.Gives.{Gives};
+ghost use Rattle.mh_json.specs.Gives.{Gives};
 ghost use Rattle.mh_profile.specs.Profiles.{nothing, with_link, with_point};
 
 use crate::names::{LinkNames, PointNames};
+use mh_json::{InputFault, Misread};
 use mh_network::{GREATEST_COUNT, LinkRow, Listing, ProblemFault};
-use mh_text::{InputFault, Misread};
 use std::alloc::Global;
 
 /// The points and the links of the lines that were read, each by number in the order of the lines.

@@ -1,10 +1,9 @@
 //! Lines from bytes, as they come.
 ghost use Rattle.std.specs.Prelude.{◌≡◌, ◌∷◌, ◌++◌, ◌≤◌, ◌+◌, ◌⊎◌, ◌==◌, ◌&&◌, [], List, ℕ, length, nat_le, IfOk, IfErr, IfSome, IfNone};
-ghost use Rattle.mh_text.specs.Bytes.{most_bytes};
+ghost use Rattle.mh_json.specs.Inputs.{most_bytes};
 ghost use Rattle.std.specs.List.{position};
-ghost use Rattle.mh_text.specs.Gives.{no_memory, at_place, GivesAt, IsOfInput};
-ghost use Rattle.mh_text.specs.Output.{outside};
-ghost use Rattle.mh_text.specs.declared.fault.TextFault.TheVariants as text;
+ghost use Rattle.mh_json.specs.Gives.{no_memory, at_place, GivesAt, IsOfInput, outside};
+ghost use Rattle.mh_json.specs.declared.fault.TextFault.TheVariants as text;
 ghost use Rattle.mh_profile.specs.Limits.{most_in_all};
 ghost use Rattle.mh_profile.specs.Lines.{IsInLine};
 ghost use Rattle.mh_profile.specs.Profiles.{profile_of, text_of_line};
@@ -13,7 +12,7 @@ ghost use Rattle.mh_profile.specs.Readers.{resumed, taken_by, IsBegun, IsReading
 use crate::line::read_line;
 use crate::profile::Profile;
 use mh_base::Listing;
-use mh_text::{Fault, InputFault, TextFault};
+use mh_json::{Fault, InputFault, TextFault};
 use std::alloc::Global;
 
 /// The most bytes of a line, its end not counted.

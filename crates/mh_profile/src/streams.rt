@@ -2,16 +2,17 @@
 ghost use Rattle.std.specs.Prelude.{◌≡◌, ◌≢◌, ◌+◌, Ok, List, ℕ, IfErr, IfOk, IfSome, OnOk};
 ghost use Rattle.std.specs.Io.KnownBytes.{IsAtEnd};
 ghost use Rattle.mh_text.specs.Bytes.{HasFailed, LosesAtMost};
-ghost use Rattle.mh_text.specs.Gives.{IsHonestReading};
+ghost use Rattle.mh_text.specs.Honest.{IsHonestReading};
 ghost use Rattle.mh_text.specs.Output.{IsUnread};
-ghost use Rattle.mh_text.specs.declared.fault.TextFault.TheVariants.{ReadFailed};
+ghost use Rattle.mh_json.specs.declared.fault.TextFault.TheVariants.{ReadFailed};
 ghost use Rattle.mh_profile.specs.Inputs.{IsFaultOfLines};
 ghost use Rattle.mh_profile.specs.Limits.{most_at_once, most_in_all};
 ghost use Rattle.mh_profile.specs.Profiles.{profile_of};
 
 use crate::profile::Profile;
 use crate::reader::LineReader;
-use mh_text::{Fault, Watched};
+use mh_json::Fault;
+use mh_text::Watched;
 use std::alloc::Global;
 use std::io::Read;
 

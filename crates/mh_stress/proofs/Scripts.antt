@@ -2,20 +2,19 @@
 use Rattle.std.proofs.Common.{◌≡◌, inl, inr, ℕ, ◌+◌, Bool, true, false, List, [], ◌∷◌, Option, Some, None, Result, Ok, Err, IfErr, IfSome, ap, subst, sym, ◌∙◌}
 use Rattle.std.specs.Prelude.{⊤, MatchResult, if◌then◌else◌, nat_le, length}
 use Rattle.serde_json.specs.Data.{Data}
-use Rattle.mh_text.specs.Bytes.{most_bytes}
-use Rattle.mh_text.specs.Gives.{◌>>=◌, at_place, no_memory}
-use Rattle.mh_text.specs.Inputs.{json_in, json_of_input}
-use Rattle.mh_text.specs.Output.{EndsReadingBy, IsUnread, outside, script_by, script_of_input}
-use Rattle.mh_text.specs.Misreads.{MisreadData, here}
-use Rattle.mh_text.specs.Script.{preamble_of, script_of, step_list_of, step_of, steps_of}
-use Rattle.mh_text.specs.Shape.{each_from, list_of, part_of}
-use Rattle.mh_text.specs.declared.fault.Fault.{Fault}
-use Rattle.mh_text.specs.declared.fault.InputFault.TheVariants.{TooLong}
-use Rattle.mh_text.specs.declared.fault.TextFault.TheVariants.{NoReader, ReadFailed}
-use Rattle.mh_text.specs.declared.key.Field.TheVariants as field
-use Rattle.mh_text.specs.declared.json.declarations.Declarations.{Declarations}
+use Rattle.mh_json.specs.Inputs.{most_bytes, json_in, json_of_input}
+use Rattle.mh_json.specs.Gives.{◌>>=◌, at_place, no_memory, outside}
+use Rattle.mh_text.specs.Output.{EndsReadingBy, IsUnread}
+use Rattle.mh_json.specs.Script.{script_by, script_of_input, preamble_of, script_of, step_list_of, step_of, steps_of}
+use Rattle.mh_json.specs.Misreads.{MisreadData, here}
+use Rattle.mh_json.specs.Shape.{each_from, list_of, part_of}
+use Rattle.mh_json.specs.declared.fault.Fault.{Fault}
+use Rattle.mh_json.specs.declared.fault.InputFault.TheVariants.{TooLong}
+use Rattle.mh_json.specs.declared.fault.TextFault.TheVariants.{NoReader, ReadFailed}
+use Rattle.mh_json.specs.declared.key.Field.TheVariants as field
+use Rattle.mh_json.specs.declared.json.declarations.Declarations.{Declarations}
 use Rattle.mh_text.specs.Planning.{IsCutShort}
-use Rattle.mh_text.specs.declared.json.script.Script.{Script}
+use Rattle.mh_json.specs.declared.json.script.Script.{Script}
 use Rattle.mh_stress.specs.Stress.{FailsStressBy, IsScriptBy, IsSettledTextOf}
 use Rattle.mh_stress.specs.declared.stress.StressOptions.{StressOptions}
 

@@ -2,8 +2,8 @@
 use Rattle.std.specs.Prelude.{List, [], ◌∷◌}
 use Rattle.std.specs.List.{flat_map}
 use Rattle.mh_core.specs.declared.event.Event.TheVariants as event
-use Rattle.mh_text.specs.declared.json.step.Step.{Step}
-use Rattle.mh_text.specs.declared.json.step.Step.TheVariants.{Ask}
+use Rattle.mh_json.specs.declared.json.step.Step.{Step}
+use Rattle.mh_json.specs.declared.json.step.Step.TheVariants.{Ask}
 use Rattle.mh_stress.specs.declared.division.Call.{Call}
 
 -- a call

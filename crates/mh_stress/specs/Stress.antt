@@ -14,15 +14,16 @@ use Rattle.mh_ledger.specs.Ledgers.{at}
 use Rattle.mh_base.specs.Limits.{most_workers}
 use Rattle.mh_live.specs.declared.open_fault.OpenFault.{OpenFault}
 use Rattle.mh_live.specs.declared.open_fault.OpenFault.TheVariants as opening
-use Rattle.mh_text.specs.Inputs.{json_of_input}
-use Rattle.mh_text.specs.Output.{EndsReadingBy, IsUnread, outside, script_by}
+use Rattle.mh_json.specs.Inputs.{json_of_input}
+use Rattle.mh_text.specs.Output.{EndsReadingBy, IsUnread}
+use Rattle.mh_json.specs.Gives.{outside, no_memory}
+use Rattle.mh_json.specs.Script.{script_by}
 use Rattle.mh_text.specs.Planning.{IsCutShort}
 use Rattle.mh_text.specs.Report.{tables_text}
-use Rattle.mh_text.specs.declared.fault.Fault.{Fault}
-use Rattle.mh_text.specs.declared.fault.TextFault.{TextFault}
-use Rattle.mh_text.specs.declared.fault.TextFault.TheVariants.{NoReader}
-use Rattle.mh_text.specs.Gives.{no_memory}
-use Rattle.mh_text.specs.declared.json.script.Script.{Script}
+use Rattle.mh_json.specs.declared.fault.Fault.{Fault}
+use Rattle.mh_json.specs.declared.fault.TextFault.{TextFault}
+use Rattle.mh_json.specs.declared.fault.TextFault.TheVariants.{NoReader}
+use Rattle.mh_json.specs.declared.json.script.Script.{Script}
 use Rattle.mh_stress.specs.Divisions.{calls_in}
 use Rattle.mh_stress.specs.Rounds.{times_hit}
 use Rattle.mh_stress.specs.declared.division.Call.{Call}

@@ -3,8 +3,9 @@ ghost use Rattle.std.specs.Prelude.{◌<◌, ◌≤◌};
 ghost use Rattle.mh_base.specs.Limits.{most_workers};
 
 use mh_core::{Event, Refusal};
+use mh_json::Step;
 use mh_live::{ListName, Live, Receipt};
-use mh_text::{Step, best_plan};
+use mh_text::best_plan;
 use std::alloc::Global;
 use std::sync::Wait;
 use std::thread::Threads;

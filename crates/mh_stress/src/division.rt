@@ -3,7 +3,7 @@ ghost use Rattle.std.specs.Prelude.{◌≡◌, ◌++◌, IfOk, OnOk};
 ghost use Rattle.mh_stress.specs.Divisions.{calls_in, calls_of, changes_in, changes_of};
 
 use mh_core::{Arguments, Event};
-use mh_text::Step;
+use mh_json::Step;
 use std::alloc::{AllocError, Global};
 
 /// A call that a script has, and the worker that makes it.

@@ -16,6 +16,7 @@ mod stress;
 mod sums;
 mod threads;
 
-pub use mh_text::{Fault, InputFault, TextFault, Watched};
+pub use mh_json::{Fault, InputFault, TextFault};
+pub use mh_text::Watched;
 pub use stage::{ShowRounds, Silent, Stage};
 pub use stress::{MOST_ROUNDS, StressOptions, stress_bytes, stress_value};

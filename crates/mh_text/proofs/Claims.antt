@@ -4,13 +4,12 @@ use Rattle.std.specs.Io.KnownBytes.{Keeps}
 use Rattle.serde_json.specs.Data.{Data}
 use Rattle.mh_network.specs.Problems.{ProblemData}
 use Rattle.mh_cert.specs.declared.plan.Plan.{Plan}
-use Rattle.mh_text.specs.declared.fault.Fault.{Fault}
-use Rattle.mh_text.specs.declared.json.problem.ProblemRows.{ProblemRows}
+use Rattle.mh_json.specs.declared.fault.Fault.{Fault}
+use Rattle.mh_json.specs.declared.json.problem.ProblemRows.{ProblemRows}
 use Rattle.mh_text.specs.declared.lines.verdict.Verdict.{Verdict}
 use Rattle.mh_text.specs.Checks.{IsFirstOf, IsClaim, IsFound, IsVerdict, IsVerdictBy, IsCutOff, FailsCheckBy}
-use Rattle.mh_text.specs.Gives.{no_memory}
-use Rattle.mh_text.specs.Output.{outside}
-use Rattle.mh_text.specs.Problems.{MakesProblem}
+use Rattle.mh_json.specs.Gives.{no_memory, outside}
+use Rattle.mh_json.specs.Problems.{MakesProblem}
 
 -- the first fault of a problem comes first
 pub problem_fails : (problem : Result ProblemRows Fault) (read : Result Plan Fault) (e : Fault) → MakesProblem problem (Err e) → (e ≡ outside no_memory) ⊎ IsFirstOf problem read e

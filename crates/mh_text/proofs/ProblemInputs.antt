@@ -3,13 +3,12 @@ use Rattle.std.proofs.Common.{◌≡◌, ◌⊎◌, inl, inr, refl, sym, ap, ℕ
 use Rattle.std.specs.Io.KnownBytes.{Appends}
 use Rattle.serde_json.specs.Data.{Data}
 use Rattle.mh_network.specs.Problems.{ProblemData}
-use Rattle.mh_text.specs.declared.fault.Fault.{Fault}
-use Rattle.mh_text.specs.declared.json.problem.ProblemRows.{ProblemRows}
-use Rattle.mh_text.specs.Gives.{no_memory}
-use Rattle.mh_text.specs.Output.{outside}
+use Rattle.mh_json.specs.declared.fault.Fault.{Fault}
+use Rattle.mh_json.specs.declared.json.problem.ProblemRows.{ProblemRows}
+use Rattle.mh_json.specs.Gives.{no_memory, outside}
 use Rattle.mh_text.specs.declared.streams.planning.PlanOptions.{PlanOptions}
 use Rattle.mh_text.specs.Planning.{IsProblemBy, IsProblemFaultBy, IsProblemInput, IsPlanOf, IsPlanned}
-use Rattle.mh_text.specs.Problems.{rows_by, IsMade, IsNotMade, MakesProblem}
+use Rattle.mh_json.specs.Problems.{rows_by, IsMade, IsNotMade, MakesProblem}
 
 made_of : (rows : Result ProblemRows Fault) (p : ProblemData) → MakesProblem rows (Ok p) → (r : ProblemRows) × (rows ≡ Ok r) × IsMade r p
 made_of (Ok rows) p made = (rows, refl, made)

@@ -1,5 +1,5 @@
 -- Runs, and the bytes that they write.
-use Rattle.std.proofs.Common.{◌≡◌, ℕ, ◌+◌, ◌<◌, List, [], ◌∷◌, ◌++◌, length, take, get_or, Option, Some, None, Result, Ok, Err, Bool, true, false, refl, sym, ap, ◌∙◌, subst, inl, inr, IfErr, OnOk, MatchResult, arith, rules}
+use Rattle.std.proofs.Common.{◌≡◌, ℕ, ◌+◌, ◌<◌, List, [], ◌∷◌, ◌++◌, length, take, get_or, Option, Some, None, Result, Ok, Err, Bool, true, false, refl, sym, ap, ◌∙◌, subst, inl, inr, MatchResult, arith}
 use Rattle.std.proofs.lemmas.List.{append-nil, append_assoc, take_more, flat_map_more}
 use Rattle.std.proofs.Math.Seq.{take-length}
 use Rattle.std.proofs.lemmas.Str.{is_utf8-from_IsUtf8, IsUtf8-from_is_utf8}
@@ -8,19 +8,19 @@ use Rattle.std.specs.Io.KnownBytes.{Appends}
 use Rattle.std.specs.Str.{IsUtf8, is_utf8}
 use Rattle.serde_json.specs.Data.{Data}
 use Rattle.serde_json.specs.Read.{read}
-use Rattle.mh_text.specs.declared.fault.InputFault.TheVariants as fault
+use Rattle.mh_json.specs.declared.fault.InputFault.TheVariants as fault
 use Rattle.mh_core.specs.declared.event.Event.{Event}
 use Rattle.mh_text.specs.Lines.{line_of, lines_of}
 use Rattle.mh_core.specs.Legal.{Setting, MachineState}
 use Rattle.mh_site.specs.Defined.{DefinitionData}
-use Rattle.mh_text.specs.declared.fault.Fault.{Fault}
-use Rattle.mh_text.specs.declared.json.script.Script.{Script}
-use Rattle.mh_text.specs.declared.json.step.Step.{Step}
+use Rattle.mh_json.specs.declared.fault.Fault.{Fault}
+use Rattle.mh_json.specs.declared.json.script.Script.{Script}
+use Rattle.mh_json.specs.declared.json.step.Step.{Step}
 use Rattle.mh_text.specs.Bytes.{AppendsFront, HasFailed}
-use Rattle.mh_text.specs.Inputs.{json_in}
-use Rattle.mh_text.specs.Misreads.{here}
+use Rattle.mh_json.specs.Inputs.{json_in}
+use Rattle.mh_json.specs.Misreads.{here}
 use Rattle.mh_text.specs.Refused.{AreRefused, refusal_in, refused_at, refused_behind}
-use Rattle.mh_text.specs.declared.streams.refused.RefusedEvent.{RefusedEvent}
+use Rattle.mh_json.specs.declared.refused.RefusedEvent.{RefusedEvent}
 use Rattle.mh_text.specs.Steps.{Told, Takes, Run}
 use Rattle.mh_text.specs.declared.streams.run.RunOptions.{RunOptions}
 use Rattle.mh_text.specs.Output.{first, report_where, with_report, AppendsRun, EndsIn, EndsEarly, FailsReport, IsEnd, RunsTo}
@@ -87,18 +87,6 @@ pub line_by : {X : Type 0} (r : Result X Fault) (old new : Option (List ℕ)) (a
     → MatchResult r (λ _. Appends old new (line_of d told)) (λ f. (f.at ≡ at) × AppendsFront old new (line_of d told))
     → MatchResult r (λ _. Appends old new (line_of e told)) (λ f. (f.at ≡ at) × AppendsFront old new (line_of e told))
 line_by r old new at d e told same = line_with r old new at (line_of d told) e told (ap (λ (b : DefinitionData). line_of b told) same)
-
-pub json_found : (bytes : List ℕ) (d : Data) → IsUtf8 bytes → read bytes ≡ Some d → json_in bytes ≡ Ok d
-unfolding json_in
-json_found bytes d text is = rw (is_utf8-from_IsUtf8 bytes text, is) refl
-
-json_absent_at : (bytes : List ℕ) (b : Bool) → is_utf8 bytes ≡ b → (IsUtf8 bytes → read bytes ≡ None) → json_in bytes ≡ Err (here fault.NotJson)
-unfolding json_in
-json_absent_at bytes true e none = rw (e, none (IsUtf8-from_is_utf8 bytes e)) refl
-json_absent_at bytes false e none = rw e refl
-
-pub json_absent : (bytes : List ℕ) → (IsUtf8 bytes → read bytes ≡ None) → json_in bytes ≡ Err (here fault.NotJson)
-json_absent bytes none = json_absent_at bytes (is_utf8 bytes) refl none
 
 -- lines, and the report behind them, where it is asked for
 report_behind : (b : Bool) (x : Setting) (last : MachineState) (lines : List ℕ) (o p q : Option (List ℕ)) → last.setting ≡ x → Appends o p lines → Appends p q (report_where b last)

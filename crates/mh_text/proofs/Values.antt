@@ -1,11 +1,11 @@
 -- A script that was not read of its JSON value, and where a run of it ends early.
-use Rattle.std.proofs.Common.{◌≡◌, ◌⊎◌, inl, inr, refl, ℕ, List, Option, Some, Result, Ok, Err, IfErr}
+use Rattle.std.proofs.Common.{◌≡◌, inl, inr, refl, ℕ, List, Option, Some, Result, Ok, Err, IfErr}
 use Rattle.serde_json.specs.Data.{Data}
-use Rattle.mh_text.specs.Gives.{GivesUpTo}
+use Rattle.mh_json.specs.Gives.{GivesUpTo}
 use Rattle.mh_text.specs.Output.{EndsEarly, EndsReadingBy, FailedBy, IsUnread}
-use Rattle.mh_text.specs.Script.{script_of, IsReached}
-use Rattle.mh_text.specs.declared.fault.Fault.{Fault}
-use Rattle.mh_text.specs.declared.json.script.Script.{Script}
+use Rattle.mh_json.specs.Script.{script_of, IsReached}
+use Rattle.mh_json.specs.declared.fault.Fault.{Fault}
+use Rattle.mh_json.specs.declared.json.script.Script.{Script}
 use Rattle.mh_text.specs.declared.streams.run.RunOptions.{RunOptions}
 
 -- its first fault, or memory ran out

@@ -6,23 +6,20 @@ use Rattle.mh_network.specs.Selection.{IsBest, member}
 use Rattle.mh_base.specs.Tests.{Passes, Refuses}
 use Rattle.mh_cert.specs.declared.plan.Plan.{Plan}
 use Rattle.mh_cert.specs.Plans.{Matches, plan_tests, check_fault_text}
-use Rattle.mh_text.specs.declared.fault.Fault.{Fault}
-use Rattle.mh_text.specs.declared.fault.TextFault.TheVariants.{WriteFailed}
-use Rattle.mh_text.specs.declared.json.problem.ProblemRows.{ProblemRows}
+use Rattle.mh_json.specs.declared.fault.Fault.{Fault}
+use Rattle.mh_json.specs.declared.fault.TextFault.TheVariants.{WriteFailed}
+use Rattle.mh_json.specs.declared.json.problem.ProblemRows.{ProblemRows}
 use Rattle.mh_text.specs.declared.lines.verdict.Verdict.{Verdict}
 use Rattle.mh_text.specs.declared.lines.verdict.Verdict.TheVariants.{Accepted, Refused}
 use Rattle.mh_text.specs.Bytes.{AppendsFront}
-use Rattle.mh_text.specs.Output.{IsUnread, outside}
-use Rattle.mh_text.specs.Gives.{◌>>=◌}
-use Rattle.mh_text.specs.Misreads.{MisreadData}
-use Rattle.mh_text.specs.Inputs.{json_of_input}
-use Rattle.mh_text.specs.Plans.{plan_of, plan_by}
-use Rattle.mh_text.specs.Problems.{problem_read, rows_by, IsMade, IsNotMade}
-use Rattle.mh_text.specs.Shape.{member_of}
-use Rattle.mh_text.specs.declared.key.Field.TheVariants as field
-use Rattle.mh_text.specs.declared.streams.claim.Claim.{Claim}
+use Rattle.mh_text.specs.Output.{IsUnread}
+use Rattle.mh_json.specs.Gives.{outside}
+use Rattle.mh_json.specs.Inputs.{json_of_input}
+use Rattle.mh_json.specs.Plans.{plan_by}
+use Rattle.mh_json.specs.Problems.{rows_by, IsMade, IsNotMade}
+use Rattle.mh_json.specs.declared.key.Field.TheVariants as field
 use Rattle.serde_json.specs.Data.{Data}
-use Rattle.mh_text.specs.Versions.{version_tests}
+use Rattle.mh_json.specs.Versions.{version_tests}
 
 -- what is read as a problem's rows makes the problem, and what is read as a plan is the plan
 abbrev pub Holds : Result ProblemRows Fault → Result Plan Fault → ProblemData → Plan → Type 0
@@ -49,13 +46,6 @@ IsClaimFaultBy json source e = IsFirstOf (rows_by json (Some (codes "problem")) 
 -- the first fault of an input of a check
 abbrev pub IsClaimFault : List ℕ → Fault → Type 0
 IsClaimFault = IsClaimFaultBy json_of_input
-
--- a problem at one key, which is read and made, and then a plan at another: their fault knows its place
-abbrev pub claim_read : Data → Result Claim MisreadData
-claim_read d = do
-  problem ← member_of field.Problem problem_read d
-  plan ← member_of field.Plan plan_of d
-  Ok (record { problem = problem; plan = plan })
 
 -- A plan is accepted where it matches its problem, and its links are then best; else the verdict names its first part that is wrong.
 abbrev pub IsFound : ProblemData → Plan → Verdict → Type 0

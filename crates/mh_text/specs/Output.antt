@@ -2,36 +2,26 @@
 use Rattle.std.specs.Prelude.{◌≡◌, ◌⊎◌, ℕ, ◌+◌, ◌<◌, Bool, true, false, List, [], ◌∷◌, ◌++◌, length, take, Option, Result, Ok, Err, IfSome}
 use Rattle.std.specs.Io.KnownBytes.{Appends, Keeps}
 use Rattle.serde_json.specs.Data.{Data}
-use Rattle.mh_text.specs.declared.fault.Fault.{Fault}
-use Rattle.mh_text.specs.declared.fault.TextFault.{TextFault}
-use Rattle.mh_text.specs.declared.fault.TextFault.TheVariants as fault
+use Rattle.mh_json.specs.declared.fault.Fault.{Fault}
+use Rattle.mh_json.specs.declared.fault.TextFault.{TextFault}
+use Rattle.mh_json.specs.declared.fault.TextFault.TheVariants as fault
 use Rattle.mh_core.specs.declared.event.Event.{Event}
 use Rattle.mh_core.specs.declared.refusal.Refusal.TheVariants.{NoMemory}
 use Rattle.mh_core.specs.declared.reply.Reply.{Reply}
 use Rattle.mh_core.specs.declared.reply.Reply.TheVariants.{Refused}
-use Rattle.mh_text.specs.declared.json.script.Script.{Script}
-use Rattle.mh_text.specs.declared.json.step.Step.{Step}
+use Rattle.mh_json.specs.declared.json.script.Script.{Script}
+use Rattle.mh_json.specs.declared.json.step.Step.{Step}
 use Rattle.mh_text.specs.declared.streams.run.RunOptions.{RunOptions}
 use Rattle.mh_text.specs.Bytes.{AppendsFront}
 use Rattle.mh_text.specs.Refused.{AreRefused}
-use Rattle.mh_text.specs.declared.streams.refused.RefusedEvent.{RefusedEvent}
+use Rattle.mh_json.specs.declared.refused.RefusedEvent.{RefusedEvent}
 use Rattle.mh_text.specs.Steps.{Told, Run}
-use Rattle.mh_text.specs.Gives.{◌>>=◌, no_memory}
-use Rattle.mh_text.specs.Inputs.{json_of_input}
+use Rattle.mh_json.specs.Gives.{no_memory, outside}
+use Rattle.mh_json.specs.Inputs.{json_of_input}
 use Rattle.mh_text.specs.Lines.{line_of, lines_of}
 use Rattle.mh_core.specs.Legal.{MachineState, Setting, opened_machine}
 use Rattle.mh_text.specs.Report.{report_text}
-use Rattle.mh_text.specs.Script.{script_of, IsReached}
-
--- the script of a source that has a JSON value or a fault: an input has it by `json_of_input`, and a value by `Ok`
-abbrev pub script_by : {A : Type 0} → (A → Result Data Fault) → A → Result Script Fault
-script_by json source = do
-  value ← json source
-  script_of value
-
--- the script of an input
-abbrev pub script_of_input : List ℕ → Result Script Fault
-script_of_input = script_by json_of_input
+use Rattle.mh_json.specs.Script.{script_by, script_of_input, IsReachedBy}
 
 -- the report of a machine, where it is asked for
 abbrev pub report_where : Bool → MachineState → List ℕ
@@ -81,21 +71,9 @@ first script = opened_machine script.definition script.workers script.limits
 abbrev pub IsEnd : Type 0 → TextFault → Type 0
 IsEnd WriteHasFailed kind = (kind ≡ no_memory) ⊎ ((kind ≡ fault.WriteFailed) × WriteHasFailed)
 
--- a fault outside the events
-abbrev pub outside : TextFault → Fault
-outside kind = record { kind = kind; at = 0 }
-
 -- the first fault of a script
 abbrev pub IsScriptFault : List ℕ → Fault → Type 0
 IsScriptFault input e = script_of_input input ≡ Err e
-
--- event n of a source is reached: it stands there, and nothing before it has a fault
-abbrev pub IsReachedBy : {A : Type 0} → (A → Result Data Fault) → A → ℕ → Type 0
-IsReachedBy json source n = (d : Data) × (json source ≡ Ok d) × IsReached d n
-
--- event n of an input is reached
-abbrev pub IsReachedIn : List ℕ → ℕ → Type 0
-IsReachedIn = IsReachedBy json_of_input
 
 -- what ends the reading of a script: its first fault, or memory that runs out at an event that is reached
 abbrev pub EndsReadingBy : {A : Type 0} → (A → Result Data Fault) → A → Fault → Type 0

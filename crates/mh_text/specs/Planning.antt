@@ -7,16 +7,18 @@ use Rattle.mh_network.specs.Selection.{IsLeast, member}
 use Rattle.mh_cert.specs.declared.plan.Plan.{Plan}
 use Rattle.mh_cert.specs.Plans.{Matches}
 use Rattle.mh_plan.specs.Phases.{ArePhases}
-use Rattle.mh_text.specs.declared.fault.Fault.{Fault}
-use Rattle.mh_text.specs.declared.fault.TextFault.TheVariants.{WriteFailed}
+use Rattle.mh_json.specs.declared.fault.Fault.{Fault}
+use Rattle.mh_json.specs.declared.fault.TextFault.TheVariants.{WriteFailed}
 use Rattle.mh_text.specs.declared.streams.planning.PlanOptions.{PlanOptions}
-use Rattle.mh_text.specs.declared.json.problem.ProblemRows.{ProblemRows}
+use Rattle.mh_json.specs.declared.json.problem.ProblemRows.{ProblemRows}
 use Rattle.mh_text.specs.Bytes.{AppendsFront}
-use Rattle.mh_text.specs.Output.{IsUnread, outside}
+use Rattle.mh_text.specs.Output.{IsUnread}
+use Rattle.mh_json.specs.Gives.{outside}
 use Rattle.mh_cert.specs.Display.{plan_text}
-use Rattle.mh_text.specs.PlanLines.{plan_json, phases_text}
-use Rattle.mh_text.specs.Inputs.{json_of_input}
-use Rattle.mh_text.specs.Problems.{rows_by, IsMade, IsNotMade}
+use Rattle.mh_json.specs.PlanData.{plan_json}
+use Rattle.mh_text.specs.PlanLines.{phases_text}
+use Rattle.mh_json.specs.Inputs.{json_of_input}
+use Rattle.mh_json.specs.Problems.{rows_by, IsMade, IsNotMade}
 
 -- a source is this problem
 abbrev pub IsProblemBy : {A : Type 0} → (A → Result Data Fault) → A → ProblemData → Type 0

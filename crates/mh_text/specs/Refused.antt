@@ -4,7 +4,7 @@ use Rattle.mh_core.specs.declared.refusal.Refusal.{Refusal}
 use Rattle.mh_core.specs.declared.reply.Reply.{Reply}
 use Rattle.mh_core.specs.declared.reply.Reply.TheVariants as reply
 use Rattle.mh_text.specs.Steps.{Told}
-use Rattle.mh_text.specs.declared.streams.refused.RefusedEvent.{RefusedEvent}
+use Rattle.mh_json.specs.declared.refused.RefusedEvent.{RefusedEvent}
 
 -- why an event was refused, where it was
 abbrev pub refusal_in : Reply → Option Refusal

@@ -4,7 +4,7 @@ use Rattle.mh_network.specs.Selection.{IsLeast, member}
 use Rattle.mh_cert.specs.Plans.{Matches}
 use Rattle.mh_cert.specs.declared.plan.Plan.{Plan}
 use Rattle.mh_core.specs.declared.event.Event.{Event}
-use Rattle.mh_core.specs.declared.event.Event.TheVariants.{Call, Flush, Target, Invalidate, Snapshot, Publish, Install}
+use Rattle.mh_core.specs.declared.event.Event.TheVariants.{Publish}
 use Rattle.mh_core.specs.declared.refusal.Refusal.TheVariants.{NoMemory, NoSnapshot}
 use Rattle.mh_core.specs.declared.reply.Reply.{Reply}
 use Rattle.mh_core.specs.declared.reply.Reply.TheVariants.{Refused}
@@ -12,23 +12,9 @@ use Rattle.mh_core.specs.Histories.{records}
 use Rattle.mh_core.specs.Legal as legal
 use Rattle.mh_core.specs.Legal.{Setting}
 use Rattle.mh_core.specs.Problems.{IsTaken, problem_at}
-use Rattle.mh_text.specs.declared.json.step.Step.{Step}
-use Rattle.mh_text.specs.declared.json.step.Step.TheVariants.{Ask, Plan as ask_plan}
-
--- the number that an event names, of the snapshot that a plan is for or of the plan that is installed; 0 where it names none
-abbrev pub number_in : Event → ℕ
-number_in (Call w s a) = 0
-number_in (Flush w) = 0
-number_in (Target s tree) = 0
-number_in (Invalidate points) = 0
-number_in Snapshot = 0
-number_in (Publish n plan) = n
-number_in (Install m) = m
-
--- the same of a step
-abbrev pub number_named : Step → ℕ
-number_named (Ask event) = number_in event
-number_named (ask_plan n) = n
+use Rattle.mh_json.specs.declared.json.step.Step.{Step}
+use Rattle.mh_json.specs.declared.json.step.Step.TheVariants.{Ask, Plan as ask_plan}
+use Rattle.mh_json.specs.StepNumbers.{number_named}
 
 -- a reply, behind the number that its step names
 abbrev pub Told : Type 0

@@ -1,8 +1,8 @@
-//! Scripts, problems and plans from JSON, and the lines of what they give.
+//! The lines of scripts, problems and plans.
 //!
-//! `json` reads and writes values of JSON, `lines` the lines of replies and plans, and `streams`
-//! takes an input to its end and writes what it gives. `readers` has the readers of each part of an
-//! input. What the calls name of the crates below stands here too:
+//! `lines` makes the lines of replies and plans, and `streams` reads an input to its end and writes
+//! its lines. All that reads JSON is in mh_json. This crate also exports what its calls name of the
+//! crates below:
 //!
 //! ```
 //! let script = read_script(alloc, input)?;
@@ -15,35 +15,25 @@
 //! ```
 #![tactic(auto)]
 
-mod fault;
-mod json;
-mod key;
+mod laws;
 mod lines;
-mod misfit;
-mod misread;
-pub mod readers;
 mod streams;
 
-pub use fault::{Fault, InputFault, TextFault};
-pub use json::certificate::plan_json;
-pub use json::form::{InputForm, first_misread};
-pub use json::plan::read_plan;
-pub use json::problem::read_problem;
-pub use json::script::{Script, read_script};
-pub use json::step::Step;
-pub use json::wanted::{Named, Numbered, Wanted, Word};
-pub use key::{Field, Key};
+pub use laws::every_script_is_right;
 pub use lines::plans::plan_line;
 pub use lines::render;
 pub use lines::report::{push_tables, report_lines};
 pub use lines::verdict::{Verdict, judge};
 pub use mh_core::{Definition, Event, Limits, Machine, Plan, Problem, Refusal, Reply, SharedPlan};
-pub use misread::Misread;
+pub use mh_json::{
+    Fault, Field, InputFault, InputForm, Key, Misread, Named, Numbered, RefusedEvent, Script, Step,
+    TextFault, Wanted, Word, first_misread, plan_json, read_plan, read_problem, read_script,
+    readers,
+};
 pub use streams::check::{check_bytes, check_value, write_verdict};
 pub use streams::failing::{Sink, Source};
 pub use streams::input::{read_input, read_up_to};
 pub use streams::planning::{PlanOptions, plan_bytes, plan_value, write_lines};
-pub use streams::refused::RefusedEvent;
 pub use streams::run::{RunOptions, read_script_from, run_bytes, run_value};
 pub use streams::stepping::best_plan;
 pub use streams::watched::Watched;

@@ -2,18 +2,18 @@
 ghost use Rattle.std.specs.Prelude.{◌≡◌, ◌++◌, string_bytes, codes, IfOk, OnOk, ◌<◌, length};
 ghost use Rattle.std.specs.List.{flat_map, slice_index_or};
 ghost use Rattle.mh_site.specs.Defined.{point_at};
-ghost use Rattle.mh_text.specs.declared.json.step.Step.TheVariants.{Plan as no_step};
-ghost use Rattle.mh_text.specs.Steps.{number_named};
+ghost use Rattle.mh_json.specs.declared.json.step.Step.TheVariants.{Plan as no_step};
+ghost use Rattle.mh_json.specs.StepNumbers.{number_named};
 ghost use Rattle.mh_text.specs.Lines.{names_text, published_text, installed_text, reply_text, line_of};
 
 pub(crate) mod plans;
 pub(crate) mod report;
 pub(crate) mod verdict;
 
-use crate::json::script::Script;
 use mh_base::Numbers;
 use mh_cert::Plan;
 use mh_core::{InstallReport, Reply};
+use mh_json::Script;
 use mh_network::carried;
 use mh_site::Definition;
 use std::alloc::{AllocError, Global};

@@ -1,14 +1,13 @@
 -- What is found of an input before the work over it.
 use Rattle.std.specs.Prelude.{◌≡◌, ◌⊎◌, ◌+◌, ◌^◌, ℕ, List, [], ◌∷◌, ◌++◌, Option, Some, None, Result, Err, if◌then◌else◌}
-use Rattle.mh_text.specs.Gives.{no_memory}
-use Rattle.mh_text.specs.Misreads.{MisreadData}
-use Rattle.mh_text.specs.Output.{outside}
-use Rattle.mh_text.specs.declared.fault.Fault.{Fault}
-use Rattle.mh_text.specs.declared.fault.InputFault.{InputFault}
-use Rattle.mh_text.specs.declared.fault.TextFault.TheVariants.{Input}
-use Rattle.mh_text.specs.declared.key.Field.TheVariants as field
-use Rattle.mh_text.specs.declared.key.Key.{Key}
-use Rattle.mh_text.specs.declared.key.Key.TheVariants.{Member, Item}
+use Rattle.mh_json.specs.Gives.{no_memory, outside}
+use Rattle.mh_json.specs.Misreads.{MisreadData}
+use Rattle.mh_json.specs.declared.fault.Fault.{Fault}
+use Rattle.mh_json.specs.declared.fault.InputFault.{InputFault}
+use Rattle.mh_json.specs.declared.fault.TextFault.TheVariants.{Input}
+use Rattle.mh_json.specs.declared.key.Field.TheVariants as field
+use Rattle.mh_json.specs.declared.key.Key.{Key}
+use Rattle.mh_json.specs.declared.key.Key.TheVariants.{Member, Item}
 use Rattle.mh_explain.specs.Explanations.{ExplainsMisread}
 use Rattle.mh_command.specs.Answers.{IsFaultOf, IsHelp}
 use Rattle.mh_command.specs.Readings.{refused_at, unread_fault, IsRefusal}

@@ -5,12 +5,12 @@ use crate::values::{items, items_at, known, named_behind, version_of};
 use crate::why::names::{is_among, names_in, why_unlawful};
 use crate::words::{meant, quoted, why_too_many};
 use mh_base::NoMemory;
+use mh_json::readers::{place, read_declared, read_type, read_value};
+use mh_json::{Field, Key, Wanted};
 use mh_site::{
     DefinitionFault, GREATEST_CHARGE, GREATEST_COST, GREATEST_LEVEL, GREATEST_WEIGHT, MOST_LINKS,
     MOST_NEEDS, Version,
 };
-use mh_text::readers::{place, read_declared, read_type, read_value};
-use mh_text::{Field, Key, Wanted};
 use mh_type::{Kind, MethodType, same_value};
 use serde_json::Value;
 use std::alloc::Global;

@@ -10,9 +10,9 @@ use mh_base::NoMemory;
 use mh_core::{
     LARGEST_LEDGER, LARGEST_TOTAL, LONGEST_HISTORY, MOST_PLANS, MOST_SNAPSHOTS, Refusal,
 };
+use mh_json::readers::{read_declared, read_value};
+use mh_json::{Field, Key};
 use mh_network::GREATEST_SUM;
-use mh_text::readers::{read_declared, read_value};
-use mh_text::{Field, Key};
 use mh_tree::Declared;
 use mh_type::{Kind, MethodType};
 use serde_json::Value;

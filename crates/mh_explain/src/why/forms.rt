@@ -1,5 +1,5 @@
 //! The words that head trees and events, and how the list of each is written.
-use mh_text::Word;
+use mh_json::Word;
 
 /// The words that head trees.
 pub(crate) const TREE_WORDS: &str =

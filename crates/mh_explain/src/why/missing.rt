@@ -5,7 +5,7 @@ use crate::spot::Spot;
 use crate::unread::{is_read, version_of_input};
 use crate::words::{quoted, wanted};
 use mh_base::NoMemory;
-use mh_text::{Field, InputForm};
+use mh_json::{Field, InputForm};
 use serde_json::{Map, Value};
 use std::alloc::Global;
 

@@ -2,7 +2,7 @@
 use crate::values::items_at;
 use crate::words::{meant, quoted, wanted};
 use mh_base::NoMemory;
-use mh_text::{Field, Named};
+use mh_json::{Field, Named};
 use serde_json::Value;
 use std::alloc::Global;
 

@@ -3,7 +3,7 @@ use crate::spot::Spot;
 use crate::values::items_at;
 use crate::words::{numbered, wanted};
 use mh_base::NoMemory;
-use mh_text::{Field, Numbered};
+use mh_json::{Field, Numbered};
 use serde_json::Value;
 use std::alloc::Global;
 
@@ -56,6 +56,17 @@ pub(crate) fn why_not_numbered(
             let known = numbered(alloc, count, one, many)?;
             Ok(format!(in alloc; "{why}; {known}")?)
         }
-        None => Ok(format!(in alloc; "{why}; {many} are numbered from 1")?),
+        None => {
+            let first = first_number(kind);
+            Ok(format!(in alloc; "{why}; {many} are numbered from {first}")?)
+        }
+    }
+}
+
+/// Returns the least number of such a thing.
+fn first_number(kind: Numbered) -> usize {
+    match kind {
+        Numbered::Worker | Numbered::Link | Numbered::Point => 0,
+        Numbered::Snapshot | Numbered::Plan => 1,
     }
 }

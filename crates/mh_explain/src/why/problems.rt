@@ -3,10 +3,10 @@ use crate::spot::Spot;
 use crate::values::known;
 use crate::words::{numbered, why_too_many};
 use mh_base::NoMemory;
+use mh_json::readers::{most_links, read_rows};
+use mh_json::{Field, Key};
 use mh_network::{GREATEST_SUM, LinkRow, MOST_NEEDS, ProblemFault};
 use mh_site::Version;
-use mh_text::readers::{most_links, read_rows};
-use mh_text::{Field, Key};
 use std::alloc::Global;
 
 /// Why links and costs make no problem.

@@ -9,7 +9,7 @@ use crate::why::numbers::{why_no_number, why_not_numbered};
 use crate::words::{counted, meant_of, quoted, wanted, why_no_kind, words_of};
 use mh_base::NoMemory;
 use mh_core::{LARGEST_LEDGER, LARGEST_TOTAL, LONGEST_HISTORY};
-use mh_text::{Field, Key, Wanted, Word};
+use mh_json::{Field, Key, Wanted, Word};
 use mh_type::{Kind, Op};
 use serde_json::Value;
 use std::alloc::Global;

@@ -1,11 +1,12 @@
 //! Trees that their constructors refuse.
+use crate::said::{Part, parameters_of, say};
 use crate::scope::scope_at;
 use crate::spot::Spot;
 use crate::values::{items, known};
-use crate::words::{counted, numbered};
+use crate::words::numbered;
 use mh_base::NoMemory;
-use mh_text::Wanted;
-use mh_text::readers::{Scope, place, read_filter_or_none, read_tree, read_type, read_value};
+use mh_json::Wanted;
+use mh_json::readers::{Scope, place, read_filter_or_none, read_tree, read_type, read_value};
 use mh_tree::{DEEPEST, DEEPEST_DECLARED, Handle, LARGEST, LARGEST_DECLARED, TreeFault};
 use mh_type::{Kind, MOST_PARAMETERS, MethodType};
 use serde_json::Value;
@@ -21,9 +22,13 @@ pub(crate) fn why_refused(
         return Ok(String::new(alloc));
     };
     match cause {
-        TreeFault::TooManyParameters => Ok(format!(in alloc;
-            "a tree has at most {MOST_PARAMETERS} parameters"
-        )?),
+        TreeFault::TooManyParameters => {
+            say!(
+                alloc,
+                "a tree has at most _ parameters",
+                Part::Number(MOST_PARAMETERS)
+            )
+        }
         TreeFault::TooDeep => why_too_deep(alloc, &scope, spot.value),
         TreeFault::TooLarge => why_too_large(alloc, &scope, spot.value),
         _ => why_misfit(alloc, cause, &scope, items(spot.value)),
@@ -37,21 +42,25 @@ fn tree(alloc: Global, scope: &Scope, value: &Value) -> Result<Option<Handle>, N
 
 fn why_too_deep(alloc: Global, scope: &Scope, value: &Value) -> Result<String, NoMemory> {
     match tree(alloc, scope, value)? {
-        Some(tree) => {
-            let depth = tree.depth();
-            Ok(format!(in alloc; "the tree is {depth} deep, and here at most {DEEPEST_DECLARED}")?)
-        }
-        None => Ok(format!(in alloc; "a tree is at most {DEEPEST} deep")?),
+        Some(tree) => say!(
+            alloc,
+            "the tree is _ deep, and here at most _",
+            Part::Number(tree.depth()),
+            Part::Number(DEEPEST_DECLARED)
+        ),
+        None => say!(alloc, "a tree is at most _ deep", Part::Number(DEEPEST)),
     }
 }
 
 fn why_too_large(alloc: Global, scope: &Scope, value: &Value) -> Result<String, NoMemory> {
     match tree(alloc, scope, value)? {
-        Some(tree) => {
-            let size = tree.size();
-            Ok(format!(in alloc; "the tree has {size} nodes, and here at most {LARGEST_DECLARED}")?)
-        }
-        None => Ok(format!(in alloc; "a tree has at most {LARGEST} nodes")?),
+        Some(tree) => say!(
+            alloc,
+            "the tree has _ nodes, and here at most _",
+            Part::Number(tree.size()),
+            Part::Number(LARGEST_DECLARED)
+        ),
+        None => say!(alloc, "a tree has at most _ nodes", Part::Number(LARGEST)),
     }
 }
 
@@ -96,26 +105,40 @@ fn why_two(
     let (target, second) = (target.method_type(), second.method_type());
     match word {
         "return" => why_no_return(alloc, target, second),
-        _ => Ok(format!(in alloc;
-            "the parameters of the target {target} do not begin with the result and the parameters of the combiner {second}"
-        )?),
+        _ => say!(
+            alloc,
+            "the parameters of the target _ do not begin with the result and the parameters of the combiner _",
+            Part::Type(target),
+            Part::Type(second)
+        ),
     }
 }
 
-fn why_no_return(
+fn why_no_return<'a>(
     alloc: Global,
-    target: &MethodType,
-    filter: &MethodType,
+    target: &'a MethodType,
+    filter: &'a MethodType,
 ) -> Result<String, NoMemory> {
     if filter.count() != 1 {
         return why_not_unary(alloc, "the filter", filter);
     }
-    Ok(format!(in alloc; "the target is {target}, and the filter {filter}")?)
+    let (target, filter) = (Part::Type(target), Part::Type(filter));
+    say!(alloc, "the target is _, and the filter _", target, filter)
 }
 
-fn why_not_unary(alloc: Global, what: &str, filter: &MethodType) -> Result<String, NoMemory> {
-    let parameters = counted(alloc, filter.count(), "parameter", "parameters")?;
-    Ok(format!(in alloc; "{what} is {filter} and has {parameters}, not 1")?)
+fn why_not_unary<'a>(
+    alloc: Global,
+    what: &'a str,
+    filter: &'a MethodType,
+) -> Result<String, NoMemory> {
+    let (what, of) = (Part::Text(what), parameters_of(filter));
+    say!(
+        alloc,
+        "_ is _ and has _, not 1",
+        what,
+        Part::Type(filter),
+        of
+    )
 }
 
 /// Why a tree and two more parts do not fit.
@@ -154,8 +177,16 @@ fn why_branches(
     let Some(fallback) = tree(alloc, scope, fallback)? else {
         return Ok(String::new(alloc));
     };
-    let (target, fallback) = (target.method_type(), fallback.method_type());
-    Ok(format!(in alloc; "the target is {target}, and the fallback {fallback}")?)
+    let (target, fallback) = (
+        Part::Type(target.method_type()),
+        Part::Type(fallback.method_type()),
+    );
+    say!(
+        alloc,
+        "the target is _, and the fallback _",
+        target,
+        fallback
+    )
 }
 
 fn why_no_guard(
@@ -167,30 +198,45 @@ fn why_no_guard(
     fallback: &Value,
 ) -> Result<String, NoMemory> {
     if cause == TreeFault::NotBoolean {
-        let result = test.ret();
-        return Ok(format!(in alloc; "the test is {test}, and returns {result}, not boolean")?);
+        let result = Part::Kind(test.ret());
+        return say!(
+            alloc,
+            "the test is _, and returns _, not boolean",
+            Part::Type(test),
+            result
+        );
     }
     let Some(branch) = tree(alloc, scope, target)? else {
         return Ok(String::new(alloc));
     };
     let branch = branch.method_type();
     if !branch.begins_with(test.parameters()) {
-        return Ok(format!(in alloc;
-            "the test is {test}, and the target {branch} does not begin with its parameters"
-        )?);
+        return say!(
+            alloc,
+            "the test is _, and the target _ does not begin with its parameters",
+            Part::Type(test),
+            Part::Type(branch)
+        );
     }
     why_branches(alloc, scope, target, fallback)
 }
 
-/// That a position, with parts of some number there, is past the parameters.
-fn why_past(
+/// That a position, with so many parts there, is past the parameters.
+fn why_past<'a>(
     alloc: Global,
-    target: &MethodType,
+    target: &'a MethodType,
     position: usize,
-    parts: &str,
+    parts: Part<'a>,
 ) -> Result<String, NoMemory> {
-    let parameters = counted(alloc, target.count(), "parameter", "parameters")?;
-    Ok(format!(in alloc; "position {position}{parts} is past the {parameters} of {target}")?)
+    let (position, of) = (Part::Number(position), parameters_of(target));
+    say!(
+        alloc,
+        "position _ with _ is past the _ of _",
+        position,
+        parts,
+        of,
+        Part::Type(target)
+    )
 }
 
 /// The place that a position is.
@@ -207,25 +253,33 @@ fn kinds_at(target: &MethodType, position: usize, count: usize) -> Option<&[Kind
     Some(&kinds[position..position + count])
 }
 
-fn why_no_insertion(
+fn why_no_insertion<'a>(
     alloc: Global,
-    target: &MethodType,
+    target: &'a MethodType,
     position: &Value,
-    values: &[Value],
+    values: &'a [Value],
 ) -> Result<String, NoMemory> {
     let position = place_or_last(position)?;
     let Some(kinds) = kinds_at(target, position, values.len()) else {
-        let values = counted(alloc, values.len(), "value", "values")?;
-        let parts = format!(in alloc; " with {values}")?;
-        return why_past(alloc, target, position, parts.as_str());
+        return why_past(
+            alloc,
+            target,
+            position,
+            Part::Counted(values.len(), "value", "values"),
+        );
     };
     for (kind, value) in kinds.iter().zip(values) {
         if let Some(read) = known(read_value(alloc, Some(*kind), value))? {
             let own = read.kind();
             if own != *kind {
-                return Ok(format!(in alloc;
-                    "{value} is of kind {own}, and stands for a parameter of {target} of kind {kind}"
-                )?);
+                return say!(
+                    alloc,
+                    "_ is of kind _, and stands for a parameter of _ of kind _",
+                    Part::Value(value),
+                    Part::Kind(own),
+                    Part::Type(target),
+                    Part::Kind(*kind)
+                );
             }
         }
     }
@@ -233,7 +287,9 @@ fn why_no_insertion(
 }
 
 fn why_no_drop(alloc: Global, target: &MethodType, position: &Value) -> Result<String, NoMemory> {
-    why_past(alloc, target, place_or_last(position)?, "")
+    let position = Part::Number(place_or_last(position)?);
+    let (of, target) = (parameters_of(target), Part::Type(target));
+    say!(alloc, "position _ is past the _ of _", position, of, target)
 }
 
 fn why_no_permutation(
@@ -247,15 +303,28 @@ fn why_no_permutation(
         return Ok(String::new(alloc));
     };
     if cause == TreeFault::TypeMismatch {
-        return Ok(format!(in alloc; "{target} in this order is not {new_type}")?);
+        let (target, new_type) = (Part::Type(target), Part::Type(&new_type));
+        return say!(alloc, "_ in this order is not _", target, new_type);
     }
-    let numbers = counted(alloc, reorder.len(), "number", "numbers")?;
-    let parameters = counted(alloc, target.count(), "parameter", "parameters")?;
     if reorder.len() != target.count() {
-        return Ok(format!(in alloc; "the list has {numbers}, and {target} {parameters}")?);
+        let numbers = Part::Counted(reorder.len(), "number", "numbers");
+        let of = parameters_of(target);
+        return say!(
+            alloc,
+            "the list has _, and _ _",
+            numbers,
+            Part::Type(target),
+            of
+        );
     }
     let last = numbered(alloc, new_type.count(), "parameter", "parameters")?;
-    Ok(format!(in alloc; "the list has a number past the end of {new_type}, where {last}")?)
+    let (new_type, last) = (Part::Type(&new_type), Part::Text(last.as_str()));
+    say!(
+        alloc,
+        "the list has a number past the end of _, where _",
+        new_type,
+        last
+    )
 }
 
 fn why_no_filters(
@@ -267,9 +336,8 @@ fn why_no_filters(
 ) -> Result<String, NoMemory> {
     let position = place_or_last(position)?;
     let Some(kinds) = kinds_at(target, position, filters.len()) else {
-        let filters = counted(alloc, filters.len(), "filter", "filters")?;
-        let parts = format!(in alloc; " with {filters}")?;
-        return why_past(alloc, target, position, parts.as_str());
+        let filters = Part::Counted(filters.len(), "filter", "filters");
+        return why_past(alloc, target, position, filters);
     };
     if let Some(why) = why_some_not_unary(alloc, scope, filters)? {
         return Ok(why);
@@ -278,13 +346,27 @@ fn why_no_filters(
         if let Some(Some(filter)) = known(read_filter_or_none(alloc, scope, filter))? {
             let filter = filter.method_type();
             if filter.ret() != *kind {
-                return Ok(format!(in alloc;
-                    "the filter {filter} stands for a parameter of {target} of kind {kind}"
-                )?);
+                return why_other_result(alloc, filter, target, *kind);
             }
         }
     }
     Ok(String::new(alloc))
+}
+
+/// Why a filter does not fit a parameter of a target, of another kind than it returns.
+fn why_other_result<'a>(
+    alloc: Global,
+    filter: &'a MethodType,
+    target: &'a MethodType,
+    kind: Kind,
+) -> Result<String, NoMemory> {
+    say!(
+        alloc,
+        "the filter _ stands for a parameter of _ of kind _",
+        Part::Type(filter),
+        Part::Type(target),
+        Part::Kind(kind)
+    )
 }
 
 /// Why the first filter that has not one parameter does not fit.

@@ -1,10 +1,10 @@
 //! What a check finds of a plan.
 ghost use Rattle.std.specs.Prelude.{◌≡◌, string_bytes, IfOk, IfErr};
-ghost use Rattle.mh_text.specs.Gives.{no_memory};
+ghost use Rattle.mh_json.specs.Gives.{no_memory};
 ghost use Rattle.mh_text.specs.Checks.{IsFound, verdict_line};
 
-use crate::fault::{Fault, InputFault};
 use mh_cert::{CheckFault, Plan, check};
+use mh_json::{Fault, InputFault};
 use mh_network::Problem;
 use std::alloc::{AllocError, Global};
 

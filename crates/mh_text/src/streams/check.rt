@@ -2,16 +2,17 @@
 ghost use Rattle.std.specs.Prelude.{◌≡◌, ◌≢◌, ◌+◌, ◌⊎◌, ℕ, List, Ok, Some, IfOk, IfErr, OnOk, IfSome, MatchResult};
 ghost use Rattle.serde_json.specs.View.{view};
 ghost use Rattle.std.specs.Io.KnownBytes.{Appends, IsAtEnd, Keeps};
-ghost use Rattle.mh_text.specs.Bytes.{HasFailed, LosesAtMost, most_bytes};
-ghost use Rattle.mh_text.specs.Gives.{no_memory, IsHonest, NoOtherFailed};
-ghost use Rattle.mh_text.specs.Output.{outside};
-ghost use Rattle.mh_text.specs.declared.fault.TextFault.TheVariants.{WriteFailed};
+ghost use Rattle.mh_text.specs.Bytes.{HasFailed, LosesAtMost};
+ghost use Rattle.mh_json.specs.Inputs.{most_bytes};
+ghost use Rattle.mh_json.specs.Gives.{no_memory, outside};
+ghost use Rattle.mh_text.specs.Honest.{IsHonest, NoOtherFailed};
+ghost use Rattle.mh_json.specs.declared.fault.TextFault.TheVariants.{WriteFailed};
 ghost use Rattle.mh_text.specs.Checks.{IsVerdict, IsVerdictBy, IsCutOff, FailsCheck, FailsCheckBy, verdict_line};
 
-use crate::fault::Fault;
 use crate::lines::verdict::{Verdict, judge, line};
 use crate::streams::claim::{read_value, read_whole};
 use crate::streams::watched::Watched;
+use mh_json::Fault;
 use serde_json::Value;
 use std::alloc::Global;
 use std::io::{Read, Write};

@@ -2,33 +2,21 @@
 ghost use Rattle.std.specs.Prelude.{◌≡◌, ◌≢◌, ◌+◌, ◌⊎◌, Ok, IfOk, IfErr, IfSome, OnOk};
 ghost use Rattle.serde_json.specs.View.{view};
 ghost use Rattle.std.specs.Io.KnownBytes.{IsAtEnd};
-ghost use Rattle.mh_text.specs.Bytes.{HasFailed, LosesAtMost, most_bytes};
-ghost use Rattle.mh_text.specs.declared.fault.TextFault.TheVariants.{ReadFailed};
-ghost use Rattle.mh_text.specs.Checks.{IsClaim, IsClaimBy, IsClaimFault, IsClaimFaultBy, claim_read};
-ghost use Rattle.mh_text.specs.Gives.{Gives, no_memory, IsHonestReading, IsOfInput};
-ghost use Rattle.mh_text.specs.Output.{IsUnread, outside};
+ghost use Rattle.mh_text.specs.Bytes.{HasFailed, LosesAtMost};
+ghost use Rattle.mh_json.specs.Inputs.{most_bytes};
+ghost use Rattle.mh_json.specs.declared.fault.TextFault.TheVariants.{ReadFailed};
+ghost use Rattle.mh_text.specs.Checks.{IsClaim, IsClaimBy, IsClaimFault, IsClaimFaultBy};
+ghost use Rattle.mh_json.specs.Gives.{no_memory, IsOfInput, outside};
+ghost use Rattle.mh_text.specs.Honest.{IsHonestReading};
+ghost use Rattle.mh_text.specs.Output.{IsUnread};
 
-use crate::fault::Fault;
-use crate::json::plan::{read_plan_at, read_plan_value};
-use crate::json::problem::{read_problem_at, read_problem_value};
-use crate::json::read_json;
-use crate::json::shape::member;
-use crate::key::Field;
-use crate::misread::Misread;
 use crate::streams::input::read_input;
 use crate::streams::watched::Watched;
-use mh_cert::Plan;
-use mh_network::Problem;
+use mh_json::Fault;
+use mh_json::readers::{Claim, read_json, read_plan_at, read_problem_at};
 use serde_json::Value;
 use std::alloc::Global;
 use std::io::Read;
-
-/// A problem, and what is said to be a best plan of it.
-#[derive(Drop)]
-pub struct Claim {
-    pub problem: Problem,
-    pub plan: Plan,
-}
 
 /// The problem and then the plan of a value, each at its key.
 pub(crate) fn read_value(alloc: Global, value: &Value) -> Result<Claim, Fault>
@@ -39,25 +27,6 @@ pub(crate) fn read_value(alloc: Global, value: &Value) -> Result<Claim, Fault>
 {
     let problem = read_problem_at(alloc, value, Some("problem"))?;
     let plan = read_plan_at(alloc, value, Some("plan"))?;
-    Ok(Claim { problem, plan })
-}
-
-/// A problem, which is read and made, and then a plan.
-pub(crate) fn read_placed_claim(alloc: Global, value: &Value) -> Result<Claim, Misread>
-    ensures value { Gives (λ x. x) result (claim_read (view value.now)) }
-{
-    let problem = member(
-        alloc,
-        value,
-        Field::Problem,
-        |problem| read_problem_value(alloc, problem),
-    )?;
-    let plan = member(
-        alloc,
-        value,
-        Field::Plan,
-        |plan| read_plan_value(alloc, plan),
-    )?;
     Ok(Claim { problem, plan })
 }
 

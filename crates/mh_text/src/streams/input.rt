@@ -1,16 +1,14 @@
 //! The whole input.
 ghost use Rattle.std.specs.Prelude.{◌≡◌, ◌≢◌, ◌<◌, ◌≤◌, ◌⊎◌, ◌+◌, ◌^◌, length, IfOk, IfErr, OnOk, OnErr, IfSome, IsErrOf};
-ghost use Rattle.mh_text.specs.Bytes.{HasFailed, LosesAtMost, most_bytes};
-ghost use Rattle.mh_text.specs.Gives.{no_memory, too_long};
+ghost use Rattle.mh_text.specs.Bytes.{HasFailed, LosesAtMost};
+ghost use Rattle.mh_json.specs.Inputs.{most_bytes};
+ghost use Rattle.mh_json.specs.Gives.{no_memory, too_long};
 ghost use Rattle.std.specs.Io.KnownBytes.{Consumes, IsAtEnd};
 
-use crate::fault::{InputFault, TextFault};
 use crate::streams::watched::Watched;
+use mh_json::{InputFault, LONGEST_INPUT, TextFault};
 use std::alloc::Global;
 use std::io::Read;
-
-/// The most bytes that an input may have.
-pub(crate) const LIMIT: usize = 1_048_576;
 
 /// The input to its end, or up to the first byte past a limit.
 ///
@@ -71,5 +69,5 @@ pub fn read_input<R: Read>(alloc: Global, reader: &mut Watched<R>) -> Result<Vec
     ensures kinds { IfErr result (λ e. (e ≡ no_memory) ⊎ (e ≡ too_long)
         ⊎ (e ≡ TextFault.ReadFailed)) }
 {
-    read_up_to(alloc, reader, LIMIT)
+    read_up_to(alloc, reader, LONGEST_INPUT)
 }

@@ -2,20 +2,21 @@
 ghost use Rattle.std.specs.Prelude.{◌≡◌, ◌≢◌, ◌+◌, ◌<◌, ◌≤◌, ◌++◌, ◌⊎◌, ℕ, List, true, string_bytes, Ok, Some, IfOk, IfErr, OnOk, IfSome, MatchResult};
 ghost use Rattle.serde_json.specs.View.{view};
 ghost use Rattle.std.specs.Io.KnownBytes.{Appends, IsAtEnd};
-ghost use Rattle.mh_text.specs.Bytes.{HasFailed, LosesAtMost, most_bytes};
-ghost use Rattle.mh_text.specs.Gives.{no_memory, IsHonest, IsHonestReading, IsOfInput, NoOtherFailed};
-ghost use Rattle.mh_text.specs.Output.{IsUnread, outside};
+ghost use Rattle.mh_text.specs.Bytes.{HasFailed, LosesAtMost};
+ghost use Rattle.mh_json.specs.Inputs.{most_bytes};
+ghost use Rattle.mh_json.specs.Gives.{no_memory, IsOfInput, outside};
+ghost use Rattle.mh_text.specs.Honest.{IsHonest, IsHonestReading, NoOtherFailed};
+ghost use Rattle.mh_text.specs.Output.{IsUnread};
 ghost use Rattle.mh_text.specs.Planning.{IsProblemBy, IsProblemInput, IsProblemFault, IsProblemFaultBy, IsPlanOf, IsPlanned, IsPlannedBy, IsCutShort, FailsPlan, FailsPlanBy, line_where, lines_for};
 ghost use Rattle.mh_base.specs.Limits.{most_workers};
-ghost use Rattle.mh_text.specs.declared.fault.TextFault.TheVariants.{ReadFailed, WriteFailed};
+ghost use Rattle.mh_json.specs.declared.fault.TextFault.TheVariants.{ReadFailed, WriteFailed};
 
-use crate::fault::Fault;
-use crate::json::certificate::plan_json;
-use crate::json::problem::{read_problem, read_problem_at};
 use crate::lines::plans::{phases_line, plan_line};
 use crate::streams::input::read_input;
 use crate::streams::watched::Watched;
 use mh_cert::Plan;
+use mh_json::readers::read_problem_at;
+use mh_json::{Fault, plan_json, read_problem};
 use mh_network::Problem;
 use mh_plan::{OpenGate, plan_counted};
 use serde_json::Value;

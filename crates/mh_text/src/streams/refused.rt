@@ -1,19 +1,11 @@
 //! The events of a run that were refused.
 ghost use Rattle.std.specs.Prelude.{◌≡◌, ◌++◌, [], false, true, List};
 ghost use Rattle.mh_text.specs.Refused.{refusal_in, refused_at};
-ghost use Rattle.mh_text.specs.declared.streams.refused.RefusedEvent.{RefusedEvent as Refused};
+ghost use Rattle.mh_json.specs.declared.refused.RefusedEvent.{RefusedEvent as Refused};
 
 use mh_core::{Refusal, Reply};
+use mh_json::RefusedEvent;
 use std::alloc::Global;
-
-/// An event of a run that was refused.
-#[derive(Clone, Copy, Debug, PartialEq, Eq)]
-pub struct RefusedEvent {
-    /// The event's number, from 1.
-    pub event: u64,
-    /// Why it was refused.
-    pub refusal: Refusal,
-}
 
 /// The refused events of a run so far, or none of them, once memory ran out for one.
 #[derive(Drop)]

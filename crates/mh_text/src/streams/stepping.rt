@@ -8,11 +8,11 @@ ghost use Rattle.mh_core.specs.Problems.{IsTaken, problem_at};
 ghost use Rattle.mh_core.specs.declared.event.Event.TheVariants.{Publish};
 ghost use Rattle.mh_base.specs.Limits.{most_workers};
 ghost use Rattle.mh_text.specs.Steps.{Answers, IsUnplanned, IsBestFor};
-ghost use Rattle.mh_text.specs.declared.json.step.Step.TheVariants.{Plan as ask_plan};
+ghost use Rattle.mh_json.specs.declared.json.step.Step.TheVariants.{Plan as ask_plan};
 
-use crate::json::step::Step;
 use mh_base::MOST_WORKERS;
 use mh_core::{Machine, Refusal, Reply, SharedPlan};
+use mh_json::Step;
 use mh_network::Problem;
 use mh_plan::{OpenGate, plan};
 use std::alloc::Global;

@@ -3,8 +3,8 @@ ghost use Rattle.std.specs.Prelude.{◌≡◌, ◌<◌, ◌≤◌, length, true,
 ghost use Rattle.std.specs.Io.KnownBytes.{ReadConsumes, WriteAppends, Appends, Keeps};
 ghost use Rattle.mh_text.specs.Bytes.{AppendsFront, one_more};
 
-use crate::fault::TextFault;
 use crate::streams::failing::{Sink, Source};
+use mh_json::TextFault;
 use std::io;
 use std::io::ErrorKind;
 

@@ -1,8 +1,8 @@
 use Rattle.std.proofs.Common.{◌≡◌, inr, ◌∙◌, ap, subst, ℕ, List}
 use Rattle.std.specs.Prelude.{string_bytes}
-use Rattle.mh_text.specs.Output.{outside}
-use Rattle.mh_text.specs.declared.fault.Fault.{Fault}
-use Rattle.mh_text.specs.declared.fault.TextFault.TheVariants.{WriteFailed}
+use Rattle.mh_json.specs.Gives.{outside}
+use Rattle.mh_json.specs.declared.fault.Fault.{Fault}
+use Rattle.mh_json.specs.declared.fault.TextFault.TheVariants.{WriteFailed}
 use Rattle.mh_command.specs.Streams.{IsTold}
 use Rattle.mh_command.proofs.answer.end.Goals as goal
 

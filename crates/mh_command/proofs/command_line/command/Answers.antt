@@ -2,10 +2,9 @@ use Rattle.std.proofs.Common.{◌≡◌, ◌∙◌, ap, inl, inr, refl, subst, m
 use Rattle.std.proofs.KnownBytes.{Keeps-refl}
 use Rattle.clap.specs.declared.error.kind.ErrorKind.TheVariants.{DisplayHelp, DisplayVersion}
 use Rattle.mh_text.specs.Bytes.{HasFailed}
-use Rattle.mh_text.specs.Output.{outside}
+use Rattle.mh_json.specs.Gives.{outside, no_memory}
 use Rattle.mh_command.specs.Answers.{Answers, IsStopped}
 use Rattle.mh_command.specs.Statuses.{status_answered}
-use Rattle.mh_text.specs.Gives.{no_memory}
 use Rattle.mh_command.specs.CommandLine.{IsReply}
 use Rattle.mh_command.proofs.CommandLines.{asks_help, asks_version}
 use Rattle.mh_command.proofs.Ends.{four_is_no_two, four_is_no_zero, four_is_not_below_two, nothing_done, nothing_shown, nothing_told}

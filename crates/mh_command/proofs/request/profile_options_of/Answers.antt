@@ -15,4 +15,5 @@ returns-clause-value c = λ options are.
     let is = c.in_ok-workers_of.was in
     let workers : c.in_ok-workers_of.field-0 ≡ options.workers = cc in
     let certificate = word_is (found_of c.args.matches.now) (codes "certificate") options.certificate are.certificate c.get_flag.result c.get_flag.ensures.value c.get_flag.ensures.other in
-    rw (workers, certificate) refl
+    let sweep = word_is (found_of c.args.matches.now) (codes "sweep") options.sweep are.sweep c.get_flag-2.result c.get_flag-2.ensures.value c.get_flag-2.ensures.other in
+    rw (workers, certificate, sweep) refl

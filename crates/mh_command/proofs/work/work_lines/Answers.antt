@@ -1,7 +1,7 @@
 use Rattle.std.proofs.Common.{◌≡◌, ℕ, List, Some, Result, Err, IfErr, sym, subst}
 use Rattle.std.specs.Prelude.{string_bytes}
 use Rattle.mh_text.specs.Bytes.{HasFailed}
-use Rattle.mh_text.specs.declared.fault.Fault.{Fault}
+use Rattle.mh_json.specs.declared.fault.Fault.{Fault}
 use Rattle.mh_command.specs.Answers.{FailsIn, IsHelp}
 use Rattle.mh_command.proofs.Works.{fails_end, help_whole, lines_fail}
 use Rattle.mh_command.proofs.work.work_lines.Goals as goal

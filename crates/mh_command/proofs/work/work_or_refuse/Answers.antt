@@ -1,8 +1,8 @@
 use Rattle.std.proofs.Common.{◌≡◌, ◌⊎◌, List, ℕ, Some, Result, Ok, Err, IfErr, [], subst, sym}
 use Rattle.std.specs.Prelude.{string_bytes}
 use Rattle.mh_text.specs.Bytes.{HasFailed}
-use Rattle.mh_text.specs.declared.fault.Fault.{Fault}
-use Rattle.mh_text.specs.declared.streams.refused.RefusedEvent.{RefusedEvent}
+use Rattle.mh_json.specs.declared.fault.Fault.{Fault}
+use Rattle.mh_json.specs.declared.refused.RefusedEvent.{RefusedEvent}
 use Rattle.mh_explain.specs.Refused.{NamesRefused}
 use Rattle.mh_command.specs.Answers.{FailsIn}
 use Rattle.mh_command.proofs.Found.{found_fails, none_helps}

@@ -1,10 +1,10 @@
 use Rattle.std.proofs.Common.{◌≡◌, ◌∙◌, ℕ, Some, Result, Err, IfErr, refl, sym, ap, subst}
 use Rattle.std.specs.Prelude.{string_bytes}
 use Rattle.mh_text.specs.Bytes.{HasFailed}
-use Rattle.mh_text.specs.Output.{outside}
-use Rattle.mh_text.specs.declared.fault.Fault.{Fault}
-use Rattle.mh_text.specs.declared.fault.InputFault.{InputFault}
-use Rattle.mh_text.specs.declared.fault.TextFault.TheVariants.{Input}
+use Rattle.mh_json.specs.Gives.{outside}
+use Rattle.mh_json.specs.declared.fault.Fault.{Fault}
+use Rattle.mh_json.specs.declared.fault.InputFault.{InputFault}
+use Rattle.mh_json.specs.declared.fault.TextFault.TheVariants.{Input}
 use Rattle.mh_command.specs.Answers.{FailsIn}
 use Rattle.mh_command.proofs.Found.{found_fails, found_helps, misread_found}
 use Rattle.mh_command.proofs.work.work_read.Goals as goal

@@ -1,8 +1,8 @@
 use Rattle.std.proofs.Common.{◌≡◌, ◌≢◌, ◌∙◌, ℕ, List, None, Some, Result, Err, IfErr, sym, ap, subst}
 use Rattle.std.specs.Prelude.{string_bytes}
 use Rattle.mh_text.specs.Bytes.{HasFailed}
-use Rattle.mh_text.specs.Output.{outside}
-use Rattle.mh_text.specs.declared.fault.Fault.{Fault}
+use Rattle.mh_json.specs.Gives.{outside}
+use Rattle.mh_json.specs.declared.fault.Fault.{Fault}
 use Rattle.mh_command.specs.Answers.{FailsIn, IsHelp}
 use Rattle.mh_command.specs.Readings.{form_of}
 use Rattle.mh_command.proofs.Works.{fails_end, help_whole, unread_fails}

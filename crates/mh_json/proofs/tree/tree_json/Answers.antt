@@ -1,9 +1,8 @@
 use Rattle.std.proofs.Common.{◌∙◌, ap, arith, Some}
 use Rattle.std.proofs.lemmas.Result.{IfOk-weaker}
-use Rattle.serde_json.specs.Data.{Data}
-use Rattle.serde_json.specs.Data.{depth as nesting}
+use Rattle.serde_json.specs.Data.{Data, depth as nesting}
 use Rattle.serde_json.specs.Written.{compact_text, has_float}
-use Rattle.mh_json.specs.Trees.{tree_data}
+use Rattle.mh_json.specs.TreeData.{tree_data}
 use Rattle.mh_json.proofs.Depths.{nests}
 use Rattle.mh_json.proofs.NoFloats.{has_no_float}
 use Rattle.mh_json.proofs.tree.tree_json.Goals as goal

@@ -1,6 +1,6 @@
 use Rattle.std.proofs.Common.{◌≡◌, map, take}
 use Rattle.serde_json.specs.View.{view}
-use Rattle.mh_json.specs.Values.{place_data}
+use Rattle.mh_json.specs.ValueData.{place_data}
 use Rattle.mh_json.proofs.values.places_json.Given as goal
 
 abbrev pub invariant-loop-place : goal.invariant-loop-place

@@ -2,7 +2,7 @@ use Rattle.std.proofs.Common.{◌≡◌, ◌∙◌, ap, sym, subst, inr, Err, na
 use Rattle.std.specs.List.{list_all}
 use Rattle.std.specs.List.Sorted.{IsPermutation}
 use Rattle.std.proofs.lemmas.List.Filters.{dedup_is}
-use Rattle.mh_text.specs.Misreads.{MisreadData}
+use Rattle.mh_json.specs.Misreads.{MisreadData}
 use Rattle.mh_profile.proofs.Needs.{are_needs, are_twice}
 use Rattle.mh_profile.proofs.line.needs_among_points.Goals as goal
 

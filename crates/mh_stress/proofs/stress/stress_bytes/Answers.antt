@@ -1,6 +1,6 @@
 use Rattle.std.proofs.Common.{rules, string_bytes}
 use Rattle.mh_text.specs.Bytes.{HasFailed}
-use Rattle.mh_text.specs.Inputs.{json_of_input}
+use Rattle.mh_json.specs.Inputs.{json_of_input}
 use Rattle.mh_stress.proofs.Scripts.{err_of, input_none, stress_cut_short, told_of_a_script}
 use Rattle.mh_stress.proofs.stress.stress_bytes.Goals as goal
 

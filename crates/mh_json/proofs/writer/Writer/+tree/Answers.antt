@@ -8,7 +8,7 @@ use Rattle.mh_tree.specs.Laws.Trees.{tree_of_filter}
 use Rattle.mh_tree.specs.Tree.{filter, filters_of}
 use Rattle.mh_tree.specs.TreeOf.{tree_of, filter_trees}
 use Rattle.mh_tree.specs.declared.node.Node.{Node}
-use Rattle.mh_json.specs.Trees.{tree_data}
+use Rattle.mh_json.specs.TreeData.{tree_data}
 use Rattle.serde_json.proofs.Views.{view-Array}
 use Rattle.serde_json.specs.Data.{array}
 use Rattle.serde_json.specs.View.{view, items_of}

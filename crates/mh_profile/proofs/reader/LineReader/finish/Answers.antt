@@ -1,5 +1,5 @@
 use Rattle.std.proofs.Common.{subst, List, ℕ}
-use Rattle.mh_text.specs.Gives.{at_place, GivesAt}
+use Rattle.mh_json.specs.Gives.{at_place, GivesAt}
 use Rattle.mh_profile.specs.Profiles.{text_of_line}
 use Rattle.mh_profile.proofs.Reading.{finished}
 use Rattle.mh_profile.proofs.reader.LineReader.finish.Goals as goal

@@ -1,8 +1,7 @@
 use Rattle.std.proofs.Common.{◌≡◌, ◌⊎◌, ◌∙◌, ◌+◌, ap, refl, subst, Ok, Err, List, ℕ}
 use Rattle.std.proofs.lemmas.Result.{err_from_is_err_and}
 use Rattle.mh_profile.specs.declared.reader.LineReader.{LineReader}
-use Rattle.mh_text.specs.Gives.{no_memory, at_place}
-use Rattle.mh_text.specs.Output.{outside}
+use Rattle.mh_json.specs.Gives.{no_memory, at_place, outside}
 use Rattle.mh_profile.specs.Profiles.{text_of_line}
 use Rattle.mh_profile.proofs.Reading.{end_taken, end_refused}
 use Rattle.mh_profile.proofs.reader.LineReader.with_end.Goals as goal

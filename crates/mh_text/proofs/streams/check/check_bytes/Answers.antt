@@ -1,5 +1,5 @@
 use Rattle.std.proofs.lemmas.Result.{err_from_is_err_and}
-use Rattle.mh_text.specs.Inputs.{json_of_input}
+use Rattle.mh_json.specs.Inputs.{json_of_input}
 use Rattle.mh_text.proofs.Claims.{found_in, unwritten}
 use Rattle.mh_text.proofs.streams.check.check_bytes.Goals as goal
 

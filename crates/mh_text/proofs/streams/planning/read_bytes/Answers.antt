@@ -1,4 +1,4 @@
-use Rattle.mh_text.specs.Inputs.{json_of_input}
+use Rattle.mh_json.specs.Inputs.{json_of_input}
 use Rattle.mh_text.proofs.ProblemInputs.{is_problem, is_fault}
 use Rattle.mh_text.proofs.streams.planning.read_bytes.Goals as goal
 

@@ -1,0 +1,235 @@
+//! Why a part of an input could not be read, and where it stands.
+ghost use Rattle.std.specs.Prelude.{◌≡◌, ◌⊎◌, ◌∷◌, Some, Result, IfOk};
+ghost use Rattle.mh_json.specs.Misreads.{path_of, MisreadData, here, behind, err_of, under};
+ghost use Rattle.mh_json.specs.declared.fault.InputFault.TheVariants.{BadShape, BadValue, NoMemory as out_of_memory};
+ghost use Rattle.mh_json.specs.Gives.{Gives};
+
+use crate::fault::{Fault, InputFault};
+use crate::json::wanted::Wanted;
+use crate::key::Key;
+use mh_core::NoMemory;
+use mh_network::ProblemFault;
+use mh_tree::TreeFault;
+use mh_type::TypeFault;
+use std::alloc::{AllocError, AllocFailed, Global};
+use std::marker::Model;
+
+/// The first fault of an input in the order of reading, and the part that has it.
+#[derive(Debug, Drop)]
+pub struct Misread {
+    fault: InputFault,
+    /// The keys that lead to the part, the innermost first; none where no step was taken.
+    keys: Option<Vec<Key>>,
+    wanted: Wanted,
+}
+
+impl Model for Misread {
+    ghost use Rattle.mh_json.specs.Misreads.{MisreadData};
+
+    ghost Value = { MisreadData };
+
+    ghost use Rattle.mh_json.specs.Misreads.{misread_data};
+
+    ghost view = { misread_data };
+}
+
+impl Misread {
+    /// A fault of the part as a whole.
+    pub fn of(fault: InputFault) -> Misread
+        ensures value { result ≡ here fault }
+    {
+        Misread::wanting(fault, Wanted::Nothing)
+    }
+
+    /// The same, where this was wanted.
+    pub(crate) fn wanting(fault: InputFault, wanted: Wanted) -> Misread
+        ensures value { result ≡ here fault }
+    {
+        Misread {
+            fault,
+            keys: None,
+            wanted,
+        }
+    }
+
+    /// A part that is not of the form that was wanted.
+    pub(crate) fn bad_shape(wanted: Wanted) -> Misread
+        ensures value { result ≡ here BadShape }
+    {
+        Misread::wanting(InputFault::BadShape, wanted)
+    }
+
+    /// The fault.
+    pub fn fault(&self) -> InputFault
+        ensures value { result ≡ self.now.fault }
+    {
+        self.fault
+    }
+
+    /// A value that is not of the kind that was wanted.
+    pub(crate) fn bad_value(wanted: Wanted) -> Misread
+        ensures value { result ≡ here BadValue }
+    {
+        Misread::wanting(InputFault::BadValue, wanted)
+    }
+
+    /// What would have stood at the part, as far as it is known: for words alone.
+    pub fn wanted(&self) -> Wanted {
+        self.wanted
+    }
+
+    /// The keys that lead to the part, the outermost first.
+    pub fn into_path(self, alloc: Global) -> Vec<Key>
+        ensures value { result.items ≡ self.path }
+    {
+        let mut keys = self.keys.unwrap_or_else(|| Vec::new(alloc));
+        keys.reverse();
+        keys
+    }
+
+    /// The same, where the part stands at a key of another.
+    pub(crate) fn behind(self, alloc: Global, key: Key) -> Misread
+        ensures value { (result.fault ≡ out_of_memory) ⊎ (result ≡ behind key self) }
+    {
+        let Misread {
+            fault,
+            keys,
+            wanted,
+        } = self;
+        match longer(alloc, keys, key) {
+            Ok(keys) => Misread {
+                fault,
+                keys: Some(keys),
+                wanted,
+            },
+            Err(_) => Misread::of(InputFault::NoMemory),
+        }
+    }
+}
+
+/// The keys, and one more behind them.
+fn longer(alloc: Global, keys: Option<Vec<Key>>, key: Key) -> Result<Vec<Key>, AllocError>
+    ensures value { IfOk result (λ longer. path_of (Some longer) ≡ key ∷ path_of keys) }
+{
+    let mut longer = keys.unwrap_or_else(|| Vec::new(alloc));
+    longer.push(key)?;
+    Ok(longer)
+}
+
+/// What was read at a key, or its fault behind that key.
+pub(crate) fn at<T: Drop>(alloc: Global, key: Key, read: Result<T, Misread>) -> Result<T, Misread>
+    ensures value { (f : Result T MisreadData) → Gives (λ x. x) read f
+        → Gives (λ x. x) result (under key f) }
+{
+    match read {
+        Ok(value) => Ok(value),
+        Err(misread) => Err(misread.behind(alloc, key)),
+    }
+}
+
+/// The first fault of what was read, where it has one.
+pub(crate) fn misread_of<T: Drop>(read: Result<T, Misread>) -> Result<Option<Misread>, NoMemory>
+    ensures value { (f : Result T MisreadData) → Gives (λ x. x) read f
+        → IfOk result (λ found. found ≡ err_of f) }
+{
+    match read {
+        Ok(_) => Ok(None),
+        Err(misread) => {
+            if let InputFault::NoMemory = misread.fault() {
+                return Err(NoMemory);
+            }
+            Ok(Some(misread))
+        }
+    }
+}
+
+impl From<InputFault> for Misread {
+    ghost use Rattle.std.specs.Prelude.{◌≡◌};
+    ghost use Rattle.mh_json.specs.Misreads.{here};
+
+    ghost from_gives = { λ cause e. e ≡ here cause };
+
+    fn from(cause: InputFault) -> Misread {
+        Misread::of(cause)
+    }
+}
+
+impl From<AllocError> for Misread {
+    ghost use Rattle.std.specs.Prelude.{◌≡◌};
+    ghost use Rattle.mh_json.specs.declared.fault.InputFault.TheVariants.{NoMemory};
+
+    ghost from_gives = { λ _ e. e.fault ≡ NoMemory };
+
+    fn from(_e: AllocError) -> Misread {
+        Misread::of(InputFault::NoMemory)
+    }
+}
+
+impl<T: Drop> From<AllocFailed<T>> for Misread {
+    ghost use Rattle.std.specs.Prelude.{◌≡◌};
+    ghost use Rattle.mh_json.specs.declared.fault.InputFault.TheVariants.{NoMemory};
+
+    ghost from_gives = { λ _ e. e.fault ≡ NoMemory };
+
+    fn from(_e: AllocFailed<T>) -> Misread {
+        Misread::of(InputFault::NoMemory)
+    }
+}
+
+impl From<NoMemory> for Misread {
+    ghost use Rattle.std.specs.Prelude.{◌≡◌};
+    ghost use Rattle.mh_json.specs.declared.fault.InputFault.TheVariants.{NoMemory};
+
+    ghost from_gives = { λ _ e. e.fault ≡ NoMemory };
+
+    fn from(_e: NoMemory) -> Misread {
+        Misread::of(InputFault::NoMemory)
+    }
+}
+
+impl From<TreeFault> for Misread {
+    ghost use Rattle.std.specs.Prelude.{◌≡◌};
+    ghost use Rattle.mh_json.specs.Gives.{of_tree};
+    ghost use Rattle.mh_json.specs.Misreads.{here};
+
+    ghost from_gives = { λ cause e. e ≡ here (of_tree cause) };
+
+    fn from(cause: TreeFault) -> Misread {
+        Misread::of(InputFault::from(cause))
+    }
+}
+
+impl From<TypeFault> for Misread {
+    ghost use Rattle.std.specs.Prelude.{◌≡◌};
+    ghost use Rattle.mh_json.specs.Gives.{of_type};
+    ghost use Rattle.mh_json.specs.Misreads.{here};
+
+    ghost from_gives = { λ cause e. e ≡ here (of_type cause) };
+
+    fn from(cause: TypeFault) -> Misread {
+        Misread::of(InputFault::from(cause))
+    }
+}
+
+impl From<ProblemFault> for Misread {
+    ghost use Rattle.std.specs.Prelude.{◌≡◌};
+    ghost use Rattle.mh_json.specs.Gives.{of_problem};
+    ghost use Rattle.mh_json.specs.Misreads.{here};
+
+    ghost from_gives = { λ cause e. e ≡ here (of_problem cause) };
+
+    fn from(cause: ProblemFault) -> Misread {
+        Misread::of(InputFault::from(cause))
+    }
+}
+
+impl From<Misread> for Fault {
+    ghost use Rattle.std.specs.Prelude.{◌≡◌};
+    ghost use Rattle.mh_json.specs.declared.fault.TextFault.TheVariants.{Input};
+
+    ghost from_gives = { λ misread e. e ≡ record { kind = Input misread.fault; at = 0 } };
+
+    fn from(misread: Misread) -> Fault {
+        Fault::from(misread.fault())
+    }
+}

@@ -1,6 +1,0 @@
-use Rattle.std.proofs.Common.{of_calls}
-use Rattle.mh_text.specs.Plans.{charge_row_of}
-use Rattle.mh_text.proofs.json.plan.read_charges.Goals as goal
-
-pub returns : goal.returns
-returns c = record { value = c.each.ensures.value charge_row_of (search of_calls) }
