@@ -1,17 +1,19 @@
 /* mhlink.h: a runtime for dynamic calls after java.lang.invoke, proved, for C and for every VM.
 
-   Nothing checks a C caller. It passes a struct that an opening filled, to one call at a time, and to none after its closing
-   or from a signal handler; pointers that lead to as much as the lengths beside them say, and to nothing that another
-   argument leads to; no null pointer, but for a buffer or an array whose length is 0.
+   The library does not validate its arguments. The caller must ensure that
+   - every handle was filled in by an open function and has not been closed;
+   - no handle is used by two calls at once, or from a signal handler;
+   - every pointer is valid for the length passed with it and does not alias another argument;
+   - no pointer is null, unless its length is 0.
 
    A machine, a desk and a caller may each go from thread to thread, where a lock or a join orders its calls. Machines share
    nothing. Callers of one desk call beside each other and beside every call of the desk, but for mhlink_desk_flush and
    mhlink_caller_look of that same caller, and for mhlink_desk_renew. The calls of one desk, these among them, are made one at a time, as a lock of
    the host's orders them.
 
-   Every answer but a version is a status: MHLINK_OK, or what is wrong. After any other status than MHLINK_OK the machine,
-   the desk and the caller are as before, and no number is written but a part and, after MHLINK_SHORT, a length or a count. What
-   stands in a buffer behind what is written stays. Sites, points, links, snapshots and plans have numbers: the first three from 0
+   Every function except mhlink_version returns a status: MHLINK_OK on success, or an error code. After an error the machine,
+   the desk and the caller are as before, and no number is written but a part and, after MHLINK_SHORT, a length or a count.
+   Bytes of a buffer past the reported length are left unmodified. Sites, points, links, snapshots and plans have numbers: the first three from 0
    in the order of the definition, links through all sites; the last two from 1.
 
    A history ends: after 1,024 snapshots or plans, or as many records as its limit allows, changes are refused with
@@ -47,7 +49,7 @@ enum mhlink_status {
     MHLINK_PROBLEM = 200, MHLINK_GAINS_TOO_LARGE = 202, MHLINK_COSTS_TOO_LARGE = 203, MHLINK_NEED_OUT_OF_RANGE = 204,
     MHLINK_NEEDS_NOT_ASCENDING = 205, MHLINK_TOO_MANY_LINKS = 206, MHLINK_TOO_MANY_POINTS = 207, MHLINK_TOO_MANY_NEEDS = 208,
     /* of these calls alone */
-    MHLINK_UNKNOWN = 301,    /* a question about a name, a key or a number of nothing that is there */
+    MHLINK_UNKNOWN = 301,    /* no such name, key or number */
     MHLINK_SHORT = 302,      /* the buffer is shorter than the length that is reported */
     MHLINK_BAD_VALUE = 303,  /* a value of no kind, out of its kind's range, or whose text is not passed */
     MHLINK_BAD_LIMITS = 304  /* a limit, or the number of workers, is out of its range */
@@ -195,7 +197,7 @@ uint32_t mhlink_install(mhlink_machine *machine, size_t plan, uint64_t *linked, 
 /* The best plan for a snapshot with the flow that shows it to be best, as JSON. */
 uint32_t mhlink_certificate(mhlink_machine *machine, size_t snapshot, uint8_t *buffer, size_t capacity, size_t *length);
 
-/* How much of the history is used up; it is never refused. */
+/* Stores the current usage of the history in *used. Always succeeds. */
 uint32_t mhlink_used(mhlink_machine *machine, mhlink_usage *used);
 /* Begins a new history, with MHLINK_KEEP_HITS, MHLINK_HALVE_HITS or MHLINK_DROP_HITS; another number is MHLINK_UNKNOWN. Each
    call means what it meant, hits that are not flushed stay, and so do the machine, names, and the numbers of sites, points and
@@ -220,8 +222,8 @@ uint32_t mhlink_extend(mhlink_machine *machine, const uint8_t *json, size_t leng
 uint32_t mhlink_hits(mhlink_machine *machine, uint32_t worker, size_t link, uint64_t *hits);
 uint32_t mhlink_total(mhlink_machine *machine, size_t link, uint64_t *total);
 uint32_t mhlink_linked(mhlink_machine *machine, size_t site, uint64_t *links);
-/* A detail of enum mhlink_details, of this number, at this place; where it has no place, or no number, any will do. It takes no
-   memory. The status is MHLINK_UNKNOWN where there is none, as of a site without a key. */
+/* Stores in *told the property `detail`, of enum mhlink_details, of item `number`. `place` selects an element if the property
+   is a list. Arguments that a property does not use are ignored. It takes no memory. The status is MHLINK_UNKNOWN where there is none, as of a site without a key. */
 uint32_t mhlink_detail(mhlink_machine *machine, uint32_t detail, size_t number, size_t place, uint64_t *told);
 /* The tree of a site, as JSON of the form in which a definition declares it: that of its last retargeting, else the one that it was
    opened with. Parts that it shares are written out. The status is MHLINK_UNKNOWN where there is no such site. */
@@ -287,8 +289,8 @@ uint32_t mhlink_desk_used(mhlink_desk *desk, mhlink_usage *used);
 uint32_t mhlink_desk_renew(mhlink_desk *desk, mhlink_caller *callers, size_t callers_count, const uint32_t *again, size_t count,
                            uint32_t hits);
 
-/* The planner alone: which links are worth most, of such the fewest, and what they are worth. At most 2^20 links, and as
-   many points, any of which a link may need. Needs are numbers of points, of each link ascending. After any other status
+/* Computes an optimal selection of links; among optimal selections, the one with the fewest links (it is unique). Stores the
+   selected links and their value. At most 2^20 links, and as many points, any of which a link may need. Needs are numbers of points, of each link ascending. After any other status
    than MHLINK_OK `chosen` and `value` are as before. */
 uint32_t mhlink_plan_problem(const uint64_t *costs, size_t points, const mhlink_problem_link *links, size_t count,
                              const uint32_t *needs, size_t all_needs, uint32_t *chosen, size_t capacity, size_t *length,

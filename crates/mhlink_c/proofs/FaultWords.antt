@@ -19,7 +19,7 @@ use Rattle.mh_type.specs.Faults as type_fault
 use Rattle.mh_type.specs.declared.fault.TypeFault.{TypeFault}
 use Rattle.mh_type.specs.declared.fault.TypeFault.TheVariants as type
 use Rattle.mh_core.specs.declared.refusal.Refusal.TheVariants.{NoMemory, HistoryFull, NoSite, NoPoint, WrongType, NoSnapshot, NoPlan, PlanRefused, OldPlan, TotalTooLarge, LedgerFull, GainTooLarge, NoWorker, WrongLevel}
-use Rattle.mh_text.specs.declared.fault.InputFault.TheVariants as input
+use Rattle.mh_json.specs.declared.fault.InputFault.TheVariants as input
 use Rattle.mhlink_c.specs.Buffers.{IsCopied}
 use Rattle.mhlink_c.specs.Statuses.{part_of, status_of}
 use Rattle.mhlink_c.specs.Wording.{IsTold, fault_words, with_part, words_of}

@@ -17,7 +17,7 @@ use Rattle.std.specs.Global.{Global}
 use Rattle.mh_core.specs.Laws.Crossing.{RuntimesCross}
 use Rattle.mh_share.specs.contracts.caller.Caller as SharedCaller
 use Rattle.mh_share.specs.contracts.desk.Desk as SharedDesk
-use Rattle.mh_text.specs.contracts.json.scope.Scope as Scope
+use Rattle.mh_json.specs.contracts.json.scope.Scope as Scope
 use Rattle.mh_tree.specs.Laws.Crossing.{TreesCross}
 use Rattle.mh_type.specs.Laws.Crossing.{ValuesCross}
 use Rattle.mhlink_c.specs.Held.{held}

@@ -12,8 +12,8 @@ use Rattle.mh_core.specs.declared.record.Record.{Record}
 use Rattle.mh_core.specs.declared.record.Record.TheVariants.{Targeted, Invalidated, Snapped, Published, Installed}
 use Rattle.mh_core.specs.declared.refusal.Refusal.{Refusal}
 use Rattle.mh_core.specs.declared.refusal.Refusal.TheVariants.{NoSite, NoSnapshot}
-use Rattle.mh_text.specs.Plans.{plan_of_input}
-use Rattle.mh_text.specs.declared.json.scope.Scope.{Scope}
+use Rattle.mh_json.specs.Plans.{plan_of_input}
+use Rattle.mh_json.specs.declared.json.scope.Scope.{Scope}
 use Rattle.mhlink_c.specs.Inputs.{IsFaultOf, tree_in}
 use Rattle.mhlink_c.specs.Statuses.{no_memory}
 use Rattle.mhlink_c.specs.declared.failure.Failure.{Failure}

@@ -6,9 +6,9 @@ use Rattle.mh_core.specs.declared.record.Record.{Record}
 use Rattle.mh_core.specs.declared.refusal.Refusal.{Refusal}
 use Rattle.mh_ledger.specs.Ledgers.{AreHeld, Holds as HoldsLedger, LedgerState, settled}
 use Rattle.mh_share.specs.Desks.{DeskState, RefusesFlush, coded_desk, flush_of, opened_desk}
-use Rattle.mh_text.specs.contracts.json.scope.Scope as scope
-use Rattle.mh_text.specs.declared.json.declarations.Declarations.{Declarations}
-use Rattle.mh_text.specs.declared.json.scope.Scope.{Scope}
+use Rattle.mh_json.specs.contracts.json.scope.Scope as scope
+use Rattle.mh_json.specs.declared.json.declarations.Declarations.{Declarations}
+use Rattle.mh_json.specs.declared.json.scope.Scope.{Scope}
 use Rattle.mhlink_c.specs.Opening.{limits_of}
 use Rattle.mhlink_c.specs.declared.failure.Failure.{Failure}
 use Rattle.mhlink_c.specs.declared.failure.Failure.TheVariants.{Refused}

@@ -2,8 +2,8 @@
 use Rattle.std.specs.Prelude.{◌≡◌, ◌⊎◌, ℕ, List, [], ◌∷◌, Some, None}
 use Rattle.std.specs.List.{slice_get}
 use Rattle.mh_explain.specs.Explanations.{ExplainsDefinition, ExplainsRead}
-use Rattle.mh_text.specs.Inputs.{json_of_input}
-use Rattle.mh_text.specs.declared.json.form.InputForm.TheVariants as input
+use Rattle.mh_json.specs.Inputs.{json_of_input}
+use Rattle.mh_json.specs.declared.json.form.InputForm.TheVariants as input
 use Rattle.mhlink_c.specs.Buffers.{IsCopied, IsTooShort}
 use Rattle.mhlink_c.specs.Statuses.{no_memory}
 use Rattle.mhlink_c.specs.declared.explaining.TextForm.{TextForm}

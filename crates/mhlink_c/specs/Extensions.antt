@@ -5,7 +5,7 @@ use Rattle.mh_core.specs.Extensions.{Extends, GoesOn, RefusesExtension, more_lin
 use Rattle.mh_core.specs.declared.extending.ExtensionFault.{ExtensionFault}
 use Rattle.mh_core.specs.declared.extending.ExtensionFault.TheVariants.{HistoryFull, Definition}
 use Rattle.mh_core.specs.declared.refusal.Refusal.TheVariants as refusal
-use Rattle.mh_text.specs.Gives.{of_definition}
+use Rattle.mh_json.specs.Gives.{of_definition}
 use Rattle.mhlink_c.specs.Further.{further_in}
 use Rattle.mhlink_c.specs.Hosts.{HostState}
 use Rattle.mhlink_c.specs.Inputs.{IsFaultOf}

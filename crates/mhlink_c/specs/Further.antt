@@ -5,15 +5,15 @@ use Rattle.mh_site.specs.Defined.{DefinitionData}
 use Rattle.mh_site.specs.NamesInOrder.{with_name}
 use Rattle.mh_site.specs.declared.point.Point.{Point}
 use Rattle.mh_site.specs.declared.version.Version.TheVariants.{Two}
-use Rattle.mh_text.specs.Gives.{◌>>=◌, at_place}
-use Rattle.mh_text.specs.Inputs.{json_of_input}
-use Rattle.mh_text.specs.Misreads.{MisreadData}
-use Rattle.mh_text.specs.Script.{point_names_of, points_of, sites_in, with_site}
-use Rattle.mh_text.specs.Shape.{member_of}
-use Rattle.mh_text.specs.Shared.{shared_in}
-use Rattle.mh_text.specs.declared.fault.Fault.{Fault as TextualFault}
-use Rattle.mh_text.specs.declared.key.Field.TheVariants as field
-use Rattle.mh_text.specs.declared.json.scope.Scope.{Scope}
+use Rattle.mh_json.specs.Gives.{◌>>=◌, at_place}
+use Rattle.mh_json.specs.Inputs.{json_of_input}
+use Rattle.mh_json.specs.Misreads.{MisreadData}
+use Rattle.mh_json.specs.Script.{point_names_of, points_of, sites_in, with_site}
+use Rattle.mh_json.specs.Shape.{member_of}
+use Rattle.mh_json.specs.Shared.{shared_in}
+use Rattle.mh_json.specs.declared.fault.Fault.{Fault as TextualFault}
+use Rattle.mh_json.specs.declared.key.Field.TheVariants as field
+use Rattle.mh_json.specs.declared.json.scope.Scope.{Scope}
 use Rattle.mhlink_c.specs.declared.further.Further.{Further}
 
 -- the names of points, and then of these

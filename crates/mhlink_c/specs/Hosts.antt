@@ -6,8 +6,8 @@ use Rattle.mh_core.specs.Ledgers.{ledger_at, settled}
 use Rattle.mh_core.specs.Runtimes.{RefusesFlush, RuntimeState, coded_runtime, flush_of}
 use Rattle.mh_core.specs.declared.record.Record.{Record}
 use Rattle.mh_core.specs.declared.refusal.Refusal.{Refusal}
-use Rattle.mh_text.specs.contracts.json.scope.Scope as scope
-use Rattle.mh_text.specs.declared.json.scope.Scope.{Scope}
+use Rattle.mh_json.specs.contracts.json.scope.Scope as scope
+use Rattle.mh_json.specs.declared.json.scope.Scope.{Scope}
 use Rattle.mhlink_c.specs.declared.failure.Failure.{Failure}
 use Rattle.mhlink_c.specs.declared.failure.Failure.TheVariants.{Refused}
 

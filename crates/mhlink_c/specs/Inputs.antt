@@ -1,13 +1,13 @@
 -- What a text in JSON reads as.
 use Rattle.std.specs.Prelude.{◌≡◌, ◌⊎◌, ℕ, List, Result, Ok, Err}
 use Rattle.mh_tree.specs.Handle.{TypedTree}
-use Rattle.mh_text.specs.Gives.{◌>>=◌, at_place}
-use Rattle.mh_text.specs.Inputs.{json_of_input}
-use Rattle.mh_text.specs.Script.{definition_of}
-use Rattle.mh_text.specs.Trees.{declared_of}
-use Rattle.mh_text.specs.declared.fault.Fault.{Fault as TextualFault}
-use Rattle.mh_text.specs.declared.json.declarations.Declarations.{Declarations}
-use Rattle.mh_text.specs.declared.json.scope.Scope.{Scope}
+use Rattle.mh_json.specs.Gives.{◌>>=◌, at_place}
+use Rattle.mh_json.specs.Inputs.{json_of_input}
+use Rattle.mh_json.specs.Script.{definition_of}
+use Rattle.mh_json.specs.Trees.{declared_of}
+use Rattle.mh_json.specs.declared.fault.Fault.{Fault as TextualFault}
+use Rattle.mh_json.specs.declared.json.declarations.Declarations.{Declarations}
+use Rattle.mh_json.specs.declared.json.scope.Scope.{Scope}
 use Rattle.mhlink_c.specs.Statuses.{no_memory, of_text}
 use Rattle.mhlink_c.specs.declared.failure.Failure.{Failure}
 

@@ -3,7 +3,7 @@ use Rattle.std.specs.Prelude.{◌≡◌, ◌⊎◌, ◌<◌, ◌≤◌, ℕ, Lis
 use Rattle.mh_core.specs.Limits.{IsLimits, LimitsData}
 use Rattle.mh_core.specs.Runtimes.{opened_runtime}
 use Rattle.mh_base.specs.Limits.{most_workers}
-use Rattle.mh_text.specs.declared.json.declarations.Declarations.{Declarations}
+use Rattle.mh_json.specs.declared.json.declarations.Declarations.{Declarations}
 use Rattle.mhlink_c.specs.Hosts.{HostState}
 use Rattle.mhlink_c.specs.Inputs.{IsFaultOf, declarations_in}
 use Rattle.mhlink_c.specs.declared.failure.Failure.{Failure}

@@ -34,8 +34,8 @@ abbrev pub Tells : BookState → Question → ℕ → Type 0
 Tells b (question.Site name) n = IsSite b.definition name.now n
 Tells b (question.Point name) n = IsPoint b.definition name.now n
 Tells b (question.Link s key text) n = (x : Value) × (IsValue key text.now x × IsLink b.definition s x n)
-Tells b (question.Total j) n = n ≡ at b.totals.total j
-Tells b (question.Linked s) n = n ≡ length (kept b.definition b.records s)
+Tells b (question.Total j) n = (j < length b.totals.total) × (n ≡ at b.totals.total j)
+Tells b (question.Linked s) n = (s < length b.definition.sites) × (n ≡ length (kept b.definition b.records s))
 Tells b (question.Detail which i k) n = detail_at b which i k ≡ Some n
 
 -- no link of the site has this key

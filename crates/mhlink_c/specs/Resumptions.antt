@@ -5,7 +5,7 @@ use Rattle.mh_core.specs.Resumptions.{IsResumed, resumption_tests}
 use Rattle.mh_core.specs.declared.refusal.Refusal.TheVariants as refusal
 use Rattle.mh_core.specs.declared.resuming.ResumptionFault.{ResumptionFault}
 use Rattle.mh_core.specs.declared.resuming.ResumptionFault.TheVariants.{NoWorker, NoPoint, WrongCount, HistoryFull, TotalTooLarge, NoMemory}
-use Rattle.mh_text.specs.declared.json.declarations.Declarations.{Declarations}
+use Rattle.mh_json.specs.declared.json.declarations.Declarations.{Declarations}
 use Rattle.mhlink_c.specs.Hosts.{HostState}
 use Rattle.mhlink_c.specs.Inputs.{IsFaultOf, declarations_in}
 use Rattle.mhlink_c.specs.Opening.{AreLimits, Opens, limits_of}

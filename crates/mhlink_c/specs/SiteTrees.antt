@@ -2,7 +2,7 @@
 use Rattle.std.specs.Prelude.{◌≡◌, ◌⊎◌, ◌<◌, ℕ, List, length}
 use Rattle.mh_core.specs.Books.{BookState}
 use Rattle.mh_core.specs.Records.{base}
-use Rattle.mh_json.specs.Trees.{tree_text}
+use Rattle.mh_json.specs.TreeData.{tree_text}
 use Rattle.mhlink_c.specs.Statuses.{no_memory}
 use Rattle.mhlink_c.specs.declared.failure.Failure.{Failure}
 use Rattle.mhlink_c.specs.declared.failure.Failure.TheVariants.{Unknown}

@@ -11,11 +11,11 @@ use Rattle.mh_network.specs.declared.fault.ProblemFault.TheVariants as problem
 use Rattle.mh_core.specs.Refusals.{refusal_number}
 use Rattle.mh_core.specs.declared.refusal.Refusal.{Refusal}
 use Rattle.mh_core.specs.declared.refusal.Refusal.TheVariants as refusal
-use Rattle.mh_text.specs.declared.fault.Fault.{Fault as TextualFault}
-use Rattle.mh_text.specs.declared.fault.InputFault.{InputFault}
-use Rattle.mh_text.specs.declared.fault.InputFault.TheVariants as input
-use Rattle.mh_text.specs.declared.fault.TextFault.{TextFault}
-use Rattle.mh_text.specs.declared.fault.TextFault.TheVariants as text
+use Rattle.mh_json.specs.declared.fault.Fault.{Fault as TextualFault}
+use Rattle.mh_json.specs.declared.fault.InputFault.{InputFault}
+use Rattle.mh_json.specs.declared.fault.InputFault.TheVariants as input
+use Rattle.mh_json.specs.declared.fault.TextFault.{TextFault}
+use Rattle.mh_json.specs.declared.fault.TextFault.TheVariants as text
 use Rattle.mhlink_c.specs.declared.failure.Failure.{Failure}
 use Rattle.mhlink_c.specs.declared.failure.Failure.TheVariants.{Refused, Input, Problem, Unknown, Short, BadValue, BadLimits}
 

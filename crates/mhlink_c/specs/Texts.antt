@@ -6,7 +6,7 @@ use Rattle.mh_core.specs.Ledgers.{LedgerState, at}
 use Rattle.mh_core.specs.Links.{links}
 use Rattle.mh_core.specs.Records.{numbers}
 use Rattle.mh_core.specs.Runtimes.{RuntimeState}
-use Rattle.mh_text.specs.PlanLines.{plan_json}
+use Rattle.mh_json.specs.PlanData.{plan_json}
 use Rattle.mh_text.specs.Report.{tables_text}
 use Rattle.mhlink_c.specs.Buffers.{IsTooShort}
 use Rattle.mhlink_c.specs.Changes.{IsBest}

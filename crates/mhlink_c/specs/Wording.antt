@@ -4,8 +4,8 @@ use Rattle.std.specs.Fmt.{decimal}
 use Rattle.mh_core.specs.Refusals.{refusal_text}
 use Rattle.mh_core.specs.declared.refusal.Refusal.TheVariants.{OldPlan}
 use Rattle.mh_network.specs.declared.fault.ProblemFault.TheVariants as problem
-use Rattle.mh_text.specs.Faults.{input_text}
-use Rattle.mh_text.specs.declared.fault.InputFault.TheVariants as input
+use Rattle.mh_json.specs.Faults.{input_text}
+use Rattle.mh_json.specs.declared.fault.InputFault.TheVariants as input
 use Rattle.mhlink_c.specs.Buffers.{IsTooShort}
 use Rattle.mhlink_c.specs.Statuses.{no_memory}
 use Rattle.mhlink_c.specs.declared.failure.Failure.{Failure}

@@ -19,8 +19,8 @@ use crate::request::Question;
 use crate::texts::read_target;
 use crate::value::value;
 use mh_core::{Book, Declared, Listing, Plan, Refusal};
+use mh_json::readers::Scope;
 use mh_plan::plan_alone;
-use mh_text::readers::Scope;
 use std::alloc::Global;
 
 /// The answer to a question.
@@ -60,6 +60,7 @@ fn detail_at(book: &Book, detail: u32, number: usize, place: usize) -> Result<u6
 
 fn total(book: &Book, link: usize) -> Result<u64, Failure>
     ensures value { IfOk result (λ n. n ≡ at book.now.totals.total link) }
+    ensures inside { OnOk result (link < length book.now.totals.total) }
     ensures unknown { IfErr result (λ e. (e ≡ Unknown)
         × (link < length book.now.totals.total → ⊥)) }
 {
@@ -72,6 +73,7 @@ fn total(book: &Book, link: usize) -> Result<u64, Failure>
 
 fn linked(book: &Book, site: usize) -> Result<u64, Failure>
     ensures value { IfOk result (λ n. n ≡ length (kept book.now.definition book.now.records site)) }
+    ensures inside { OnOk result (site < length book.now.definition.sites) }
     ensures unknown { IfErr result (λ e. (e ≡ Unknown)
         × (site < length book.now.definition.sites → ⊥)) }
 {

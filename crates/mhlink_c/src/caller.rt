@@ -95,6 +95,7 @@ impl HeldCaller {
     /// The unflushed hits of a link.
     pub(crate) fn hits(&self, link: usize) -> Result<u64, Failure>
         ensures value { IfOk result (λ n. n ≡ at self.now.caller.ledger.unflushed link) }
+        ensures inside { OnOk result (link < length self.now.caller.ledger.unflushed) }
         ensures unknown { IfErr result (λ e. (e ≡ Unknown)
             × (link < length self.now.caller.ledger.unflushed → ⊥)) }
     {

@@ -131,6 +131,7 @@ fn hits_held(caller: MhlinkCaller, link: usize) -> (MhlinkCaller, Result<u64, Fa
     ensures full { result.0.full ≡ true }
     ensures same { result.0.value ≡ caller.value }
     ensures value { IfOk result.1 (λ n. n ≡ at caller.value.caller.ledger.unflushed link) }
+    ensures inside { OnOk result.1 (link < length caller.value.caller.ledger.unflushed) }
     ensures unknown { IfErr result.1 (λ e. (e ≡ Unknown)
         × (link < length caller.value.caller.ledger.unflushed → ⊥)) }
 {
@@ -146,6 +147,7 @@ pub extern "C" fn mhlink_caller_hits(caller: &mut MhlinkCaller, link: usize, hit
     ensures full { caller.new.full ≡ true }
     ensures same { caller.new.value ≡ caller.old.value }
     ensures value { result ≡ 0 → hits.new ≡ at caller.old.value.caller.ledger.unflushed link }
+    ensures inside { result ≡ 0 → link < length caller.old.value.caller.ledger.unflushed }
     ensures unknown { result ≢ 0 → (result ≡ status_of Unknown)
         × (link < length caller.old.value.caller.ledger.unflushed → ⊥) }
     ensures untouched { result ≢ 0 → hits.new ≡ hits.old }

@@ -17,9 +17,9 @@ use crate::host::limits_for;
 use crate::request::Change;
 use crate::texts::{MhlinkLimits, read_definition};
 use mh_core::{Plan, SharedPlan};
+use mh_json::read_plan;
+use mh_json::readers::{Declarations, Scope};
 use mh_share::{Caller, Desk};
-use mh_text::read_plan;
-use mh_text::readers::{Declarations, Scope};
 use std::alloc::Global;
 use std::marker::Model;
 

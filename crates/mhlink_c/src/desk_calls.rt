@@ -322,6 +322,7 @@ pub extern "C" fn mhlink_desk_total(
     ensures full { desk.new.full ≡ true }
     ensures same { desk.new.value ≡ desk.old.value }
     ensures value { result ≡ 0 → total.new ≡ at desk.old.value.desk.book.totals.total link }
+    ensures inside { result ≡ 0 → link < length desk.old.value.desk.book.totals.total }
     ensures unknown { result ≢ 0 → (result ≡ status_of Unknown)
         × (link < length desk.old.value.desk.book.totals.total → ⊥) }
     ensures untouched { result ≢ 0 → total.new ≡ total.old }
@@ -340,6 +341,7 @@ pub extern "C" fn mhlink_desk_linked(
     requires full { desk.old.full ≡ true }
     ensures full { desk.new.full ≡ true }
     ensures same { desk.new.value ≡ desk.old.value }
+    ensures inside { result ≡ 0 → site < length desk.old.value.desk.book.definition.sites }
     ensures value { result ≡ 0 → links.new ≡ length (kept desk.old.value.desk.book.definition
         desk.old.value.desk.book.records site) }
     ensures unknown { result ≢ 0 → (result ≡ status_of Unknown)

@@ -13,7 +13,7 @@ use crate::handle::MhlinkMachine;
 use crate::host::Host;
 use core::mem::replace_with;
 use mh_core::{ExtensionFault, Refusal};
-use mh_text::InputFault;
+use mh_json::InputFault;
 use std::alloc::Global;
 
 impl From<ExtensionFault> for Failure {

@@ -4,7 +4,7 @@ ghost use Rattle.std.specs.Prelude.{◌≡◌, ◌≢◌, ◌≤◌, IfErr, IfOk
 ghost use Rattle.mhlink_c.specs.Statuses.{input_number as number_of_input, input_part as part_of_input, part_of, status_of};
 
 use mh_core::{NoMemory, ProblemFault, Refusal};
-use mh_text::{Fault as TextualFault, InputFault, Misread, TextFault};
+use mh_json::{Fault as TextualFault, InputFault, Misread, TextFault};
 use std::alloc::{AllocError, AllocFailed};
 
 /// Why an export did nothing.

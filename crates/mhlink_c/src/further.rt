@@ -2,19 +2,19 @@
 
 ghost use Rattle.std.specs.Prelude.{◌≡◌, fold, IfErr, IfOk};
 ghost use Rattle.serde_json.specs.View.{view};
-ghost use Rattle.mh_text.specs.Gives.{Gives};
-ghost use Rattle.mh_text.specs.Script.{with_site};
-ghost use Rattle.mh_text.specs.declared.fault.InputFault.TheVariants.{NoMemory};
+ghost use Rattle.mh_json.specs.Gives.{Gives};
+ghost use Rattle.mh_json.specs.Script.{with_site};
+ghost use Rattle.mh_json.specs.declared.fault.InputFault.TheVariants.{NoMemory};
 ghost use Rattle.mhlink_c.specs.Further.{further_in, further_of, names_of_all as all_names, scope_over as scope_with};
 ghost use Rattle.mhlink_c.specs.Inputs.{Reads};
 
 use crate::failure::Failure;
 use mh_core::{Definition, Listing, Point, Site};
-use mh_site::{Names, Version};
-use mh_text::readers::{
+use mh_json::readers::{
     Scope, Sited, member, point_names, read_json, read_points, read_shared_trees, read_site_list,
 };
-use mh_text::{Field, Misread};
+use mh_json::{Field, Misread};
+use mh_site::{Names, Version};
 use serde_json::Value;
 use std::alloc::{AllocError, Global};
 

@@ -17,7 +17,7 @@ use crate::texts::{MhlinkLimits, read_definition};
 use crate::value::{MhlinkReply, MhlinkValue, read_values, reply_of, share_text, text_of};
 use mh_base::MOST_WORKERS;
 use mh_core::{Limits, MOST_PARAMETERS, Runtime, Text, Value};
-use mh_text::readers::{Declarations, Scope};
+use mh_json::readers::{Declarations, Scope};
 use std::alloc::Global;
 use std::marker::Model;
 

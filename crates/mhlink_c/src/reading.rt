@@ -1,6 +1,6 @@
 //! What C reads of a machine: numbers of names, hits, and texts.
 
-ghost use Rattle.std.specs.Prelude.{◌≡◌, ◌≢◌, ◌⊎◌, ◌<◌, ℕ, List, Some, None, drop, length, string_bytes, true, IfErr, IfOk};
+ghost use Rattle.std.specs.Prelude.{◌≡◌, ◌≢◌, ◌⊎◌, ◌<◌, ℕ, List, Some, None, drop, length, string_bytes, true, IfErr, IfOk, OnOk};
 ghost use Rattle.mh_core.specs.Installations.{kept};
 ghost use Rattle.mh_core.specs.Ledgers.{at, ledger_at};
 ghost use Rattle.mh_core.specs.Value.{Value as AnyValue};
@@ -92,6 +92,8 @@ fn hits_held(machine: MhlinkMachine, asked: (u32, usize)) -> (MhlinkMachine, Res
     ensures same { result.0.value ≡ machine.value }
     ensures value { IfOk result.1 (λ n. n
         ≡ at (ledger_at machine.value.runtime.ledgers asked.0).unflushed asked.1) }
+    ensures inside { OnOk result.1 ((asked.0 < length machine.value.runtime.ledgers)
+        × (asked.1 < length (ledger_at machine.value.runtime.ledgers asked.0).unflushed)) }
     ensures unknown { IfErr result.1 (λ e. (e ≡ Unknown)
         × (asked.0 < length machine.value.runtime.ledgers
         → asked.1 < length (ledger_at machine.value.runtime.ledgers asked.0).unflushed → ⊥)) }
@@ -116,6 +118,8 @@ pub extern "C" fn mhlink_hits(
     ensures untouched { result ≢ 0 → hits.new ≡ hits.old }
     ensures value { result ≡ 0 → hits.new
         ≡ at (ledger_at machine.old.value.runtime.ledgers worker).unflushed link }
+    ensures inside { result ≡ 0 → (worker < length machine.old.value.runtime.ledgers)
+        × (link < length (ledger_at machine.old.value.runtime.ledgers worker).unflushed) }
     ensures unknown { result ≢ 0 → (result ≡ status_of Unknown)
         × (worker < length machine.old.value.runtime.ledgers
         → link < length (ledger_at machine.old.value.runtime.ledgers worker).unflushed → ⊥) }
@@ -137,6 +141,7 @@ pub extern "C" fn mhlink_total(
     ensures untouched { result ≢ 0 → total.new ≡ total.old }
     ensures value { result ≡ 0 → total.new
         ≡ at machine.old.value.runtime.book.totals.total link }
+    ensures inside { result ≡ 0 → link < length machine.old.value.runtime.book.totals.total }
     ensures unknown { result ≢ 0 → (result ≡ status_of Unknown)
         × (link < length machine.old.value.runtime.book.totals.total → ⊥) }
 {
@@ -154,6 +159,7 @@ pub extern "C" fn mhlink_linked(
     requires full { machine.old.full ≡ true }
     ensures full { machine.new.full ≡ true }
     ensures same { machine.new.value ≡ machine.old.value }
+    ensures inside { result ≡ 0 → site < length machine.old.value.runtime.book.definition.sites }
     ensures value { result ≡ 0 → links.new ≡ length (kept machine.old.value.runtime.book.definition
         machine.old.value.runtime.book.records site) }
     ensures unknown { result ≢ 0 → (result ≡ status_of Unknown)

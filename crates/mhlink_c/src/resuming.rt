@@ -14,7 +14,7 @@ use crate::handle::MhlinkMachine;
 use crate::host::{Host, limits_for, room_for_arguments};
 use crate::texts::{MhlinkLimits, read_definition};
 use mh_core::{Definition, Limits, Refusal, ResumptionFault, Runtime};
-use mh_text::readers::Declarations;
+use mh_json::readers::Declarations;
 use std::alloc::Global;
 
 /// What an earlier machine kept, as C passes it.

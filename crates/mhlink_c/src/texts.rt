@@ -1,4 +1,4 @@
-//! What C passes in JSON, for the readers of mh_text.
+//! What C passes in JSON, for the readers of mh_json.
 
 ghost use Rattle.std.specs.Prelude.{◌≡◌, IfErr, IfOk};
 ghost use Rattle.mh_core.specs.Limits.{IsLimits};
@@ -8,8 +8,8 @@ ghost use Rattle.mhlink_c.specs.declared.failure.Failure.TheVariants.{BadLimits}
 
 use crate::failure::Failure;
 use mh_core::{Declared, Limits};
-use mh_text::readers;
-use mh_text::readers::{Declarations, Scope, read_declared, read_json};
+use mh_json::readers;
+use mh_json::readers::{Declarations, Scope, read_declared, read_json};
 use std::alloc::Global;
 
 /// The limits of a machine: the most records, the most unflushed hits of a link by a worker's calls,

@@ -7,7 +7,7 @@ ghost use Rattle.mhlink_c.specs.Statuses.{no_memory};
 use crate::failure::Failure;
 use crate::texts::read_target;
 use mh_core::{Declared, NoMemory};
-use mh_text::readers::Scope;
+use mh_json::readers::Scope;
 use std::alloc::Global;
 use std::marker::Model;
 

@@ -6,21 +6,21 @@ ghost use Rattle.mh_core.specs.Ledgers.{at, ledger_at};
 ghost use Rattle.mh_core.specs.Links.{links};
 ghost use Rattle.mh_ledger.specs.Limits.{greatest_limit};
 ghost use Rattle.mh_core.specs.Records.{numbers};
-ghost use Rattle.mh_core.specs.declared.record.Record.TheVariants.{Invalidated, Snapped};
+ghost use Rattle.mh_core.specs.declared.record.Record.TheVariants.{Invalidated, Snapped, Installed};
 ghost use Rattle.mh_text.specs.Report.{most_unflushed};
 ghost use Rattle.mhlink_c.specs.Changes.{HasNoBest, Installs, MakesChange, Publishes, PublishesBest, PublishesOffer, RefusesBest, RefusesChange, RefusesInvalidation, RefusesOffer, RefusesPublished, RefusesRecord, RefusesTarget, Retargets, TakesSnapshot};
 ghost use Rattle.mhlink_c.specs.Hosts.{Flushes, Records, RefusesToFlush};
 ghost use Rattle.mhlink_c.specs.Statuses.{no_memory};
 ghost use Rattle.mhlink_c.specs.Texts.{IsCertificate, report_of, unflushed_of};
 ghost use Rattle.mhlink_c.specs.declared.failure.Failure.TheVariants.{Unknown};
-ghost use Rattle.mh_core.specs.declared.record.Record.TheVariants.{Installed};
 
 use crate::books::{best_plan_for, listed, read_tree};
 use crate::failure::Failure;
 use crate::host::Host;
 use crate::request::Change;
 use mh_core::{Book, Ledger, Plan, SharedPlan};
-use mh_text::{plan_json, push_tables, read_plan};
+use mh_json::{plan_json, read_plan};
+use mh_text::push_tables;
 use std::alloc::Global;
 
 impl Host {
@@ -148,6 +148,8 @@ impl Host {
     pub(crate) fn hits(&self, worker: u32, link: usize) -> Result<u64, Failure>
         ensures value { IfOk result (λ n. n
             ≡ at (ledger_at self.now.runtime.ledgers worker).unflushed link) }
+        ensures inside { OnOk result ((worker < length self.now.runtime.ledgers)
+            × (link < length (ledger_at self.now.runtime.ledgers worker).unflushed)) }
         ensures unknown { IfErr result (λ e. (e ≡ Unknown)
             × ((worker < length self.now.runtime.ledgers)
             → (link < length (ledger_at self.now.runtime.ledgers worker).unflushed) → ⊥)) }
@@ -163,6 +165,7 @@ impl Host {
 /// The unflushed hits of a link in a ledger.
 pub(crate) fn hits_in(ledger: &Ledger, link: usize) -> Result<u64, Failure>
     ensures value { IfOk result (λ n. n ≡ at ledger.now.unflushed link) }
+    ensures inside { OnOk result (link < length ledger.now.unflushed) }
     ensures unknown { IfErr result (λ e. (e ≡ Unknown)
         × (link < length ledger.now.unflushed → ⊥)) }
 {

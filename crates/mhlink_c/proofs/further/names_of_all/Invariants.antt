@@ -1,6 +1,6 @@
 use Rattle.std.proofs.Common.{◌≡◌, fold, take}
 use Rattle.mh_site.specs.NamesInOrder.{with_name}
-use Rattle.mh_text.specs.Script.{point_names_of}
+use Rattle.mh_json.specs.Script.{point_names_of}
 use Rattle.mhlink_c.proofs.further.names_of_all.Given as goal
 
 abbrev pub invariant-loop-point : goal.invariant-loop-point

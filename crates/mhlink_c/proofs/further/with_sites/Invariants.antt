@@ -1,5 +1,5 @@
 use Rattle.std.proofs.Common.{◌≡◌, fold, take}
-use Rattle.mh_text.specs.Script.{with_site}
+use Rattle.mh_json.specs.Script.{with_site}
 use Rattle.mhlink_c.proofs.further.with_sites.Given as goal
 
 abbrev pub invariant-loop-site : goal.invariant-loop-site
