@@ -10,9 +10,9 @@ kit=${kit%/*/*}
 proved=$here/crates/mhlink/out/mhlink
 seen=$here/out/sources
 
-# The folders of the program and of each crate below it, one a line.
+# The folders of a crate, the program's by default, and of each crate below it, one a line.
 crates_below() {
-    awk -F: '
+    awk -F: -v top="${1:-mhlink}" '
         function name_all(crate,   its, i, n) {
             if (!(crate in uses) || seen[crate]++) return
             print "crates/" crate
@@ -21,13 +21,13 @@ crates_below() {
         }
         { sub(/#.*/, "") }
         NF == 2 { split($1, words, " "); uses[words[1]] = $2 }
-        END { name_all("mhlink") }' "$here/crates.txt"
+        END { name_all(top) }' "$here/crates.txt"
 }
 
-# One sum of the kit, of crates.txt, and of all that the program and its proofs are made from.
+# One sum of the kit, of crates.txt, and of all that a crate, the program's by default, and its proofs are made from.
 sources() (
     cd "$here" || exit
-    find $(crates_below) -name out -prune -o \( -name '*.rt' -o -name '*.antt' \) -exec sha256sum {} + |
+    find $(crates_below "${1:-mhlink}") -name out -prune -o \( -name '*.rt' -o -name '*.antt' \) -exec sha256sum {} + |
         LC_ALL=C sort -k 2 | cat "$kit/KIT-ID" crates.txt - | sha256sum | cut -c1-64
 )
 

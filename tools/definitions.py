@@ -232,7 +232,8 @@ def quoted(names):
 
 @dataclass
 class Promise:
-    """A section of docs/BELIEVE.md that names clauses, and what it asks to be read beyond those before it."""
+    """A section of docs/BELIEVE.md that names clauses, what it asks to be read beyond those before it on the page, and how many lines of
+    definitions it asks for alone."""
 
     title: str
     section: str
@@ -240,6 +241,7 @@ class Promise:
     clauses: list
     views: list
     files: dict
+    alone: int
 
     @property
     def number(self):
@@ -247,16 +249,19 @@ class Promise:
 
 
 def promises():
-    """The promises of docs/BELIEVE.md, in order."""
+    """The promises of docs/BELIEVE.md, in the order of the page."""
     reading, before = Reading(), {}
     for section in re.split(r"(?m)^## ", PROMISES.read_text(encoding="utf-8"))[1:]:
         named = [(crate, function, clause) for crate, those, clauses in entries(section, "Clauses", CLAUSES)
                  for function in quoted(those) for clause in quoted(clauses)]
         reading.clauses, reading.views = [], []
-        for crate, function, clause in named:
-            reading.add_clause(crate, function, clause)
+        alone = Reading()
+        for it in named:
+            reading.add_clause(*it)
+            alone.add_clause(*it)
         more = {path: sorted(lines - before.get(path, set())) for path, lines in reading.lines.items()}
         before = {path: set(lines) for path, lines in reading.lines.items()}
         if named:
             files = {path: lines for path, lines in more.items() if lines}
-            yield Promise(section.split("\n")[0], section, named, list(dict.fromkeys(reading.clauses)), reading.views, files)
+            clauses, lines = list(dict.fromkeys(reading.clauses)), sum(map(len, alone.lines.values()))
+            yield Promise(section.split("\n")[0], section, named, clauses, reading.views, files, lines)

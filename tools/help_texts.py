@@ -16,7 +16,7 @@ class Option:
 
     def ends(self):
         """The least and the greatest value, where the help gives them."""
-        ends = re.search(r"from (\d+) to (\d+)", self.says) if self.value else None
+        ends = re.search(r"(\d+) to (\d+)", self.says) if self.value else None
         return list(ends.groups()) if ends else []
 
     def values(self):

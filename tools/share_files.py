@@ -95,7 +95,7 @@ _mhlink() {{
     esac
     COMPREPLY=($(compgen -W "$words" -- "$word"))
 }}
-complete -F _mhlink mhlink
+complete -o default -F _mhlink mhlink
 """
 
 
