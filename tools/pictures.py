@@ -1,26 +1,45 @@
-"""What the tools that draw pictures share: how wide a text is, how a label finds room, and how a wrong input is reported."""
+"""Shared by the tools that draw pictures: the width of a text, room for labels, shortened names, and the report of a wrong input."""
 import os, sys
+from html import escape
 
 # Widths of characters in parts of the height of the font, as DejaVu Sans has them, which is wider than most.
 NARROW = {**dict.fromkeys("iIlj|'", 0.29), **dict.fromkeys(" ,.:;/\\()[]{}\"!-ftr", 0.4), **dict.fromkeys("mwMW%@", 0.98)}
 USUAL, CAPITAL = 0.636, 0.72
 
 
+# The longest name that is drawn whole, in characters.
+LONGEST_NAME = 28
+
+
 class Wrong(Exception):
-    """What is wrong with an input, in words for who gave it."""
+    """An error in an input, in words for its author."""
 
 
 class UsageError(Exception):
-    """The words of a tool are not those that it takes."""
+    """The arguments of a tool are not those that it takes."""
+
+
+def shortened(name):
+    """Returns a name that is too long without its middle: method names differ at both ends."""
+    half = (LONGEST_NAME - 1) // 2
+    return name if len(name) <= LONGEST_NAME else f"{name[:half]}…{name[-half:]}"
+
+
+def text_at(x, y, text, name="", whole=None):
+    """Returns a text centred at a place. `dy` centres it vertically, since few renderers know `dominant-baseline`. If `whole` is
+    given, it is shown while the mouse is over the text."""
+    of_class = f' class="{name}"' if name else ""
+    drawn = f'<text{of_class} x="{x:.4g}" y="{y:.4g}" dy=".35em">{escape(text)}</text>'
+    return drawn if whole in (None, text) else f"<g><title>{escape(whole)}</title>{drawn}</g>"
 
 
 def width(text, size):
-    """How wide a text is in a font of this size, both in pixels."""
+    """Returns the width of a text in a font of this size, both in pixels."""
     return size * sum(NARROW.get(it, CAPITAL if it.isupper() else USUAL) for it in text)
 
 
 def meets(one, other):
-    """By how many pixels two boxes (left, top, right, bottom) lie over each other."""
+    """Returns the area in which two boxes (left, top, right, bottom) overlap, in square pixels."""
     across = min(one[2], other[2]) - max(one[0], other[0])
     down = min(one[3], other[3]) - max(one[1], other[1])
     return across * down if across > 0 and down > 0 else 0
@@ -50,7 +69,7 @@ class Room:
 
 
 def run(main, name, usage):
-    """Runs a tool that draws: prints its text for --help, or what is wrong with its words (status 2) or its input (status 1)."""
+    """Runs a tool that draws. Prints its text for --help, and errors in its arguments (status 2) or its input (status 1)."""
     words = sys.argv[1:]
     try:
         print(usage if words in (["--help"], ["-h"]) else main(words), flush=True)

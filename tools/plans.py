@@ -1,4 +1,4 @@
-"""Problems of selection with their plans, as plan_to_svg draws them: what they are read of, and which of their parts are shown."""
+"""Problems of selection with their plans, for plan_to_svg: how they are read, and which of their parts are shown."""
 import json, subprocess
 from pathlib import Path
 
@@ -83,7 +83,7 @@ class Plan:
         """Gives links and points the names that a profile has for them."""
         self.of_profile = True
         for one, name in [*zip(self.links, links), *zip(self.points, points)]:
-            one.title = name if len(name) <= 28 else f"{name[:26]}.."
+            one.title = name
 
     def take_amounts(self, plan):
         """Takes the amounts of the flow and those that go to charges."""

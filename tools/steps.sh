@@ -44,6 +44,7 @@ checks_of_documents() {
     step tools/check_pictures
     step tools/calling --check
     step tools/definitions_page --check
+    step tools/words --check
 }
 
 tell() {
