@@ -9,7 +9,7 @@ use Rattle.mh_json.specs.Plans.{plan_of}
 use Rattle.mh_json.specs.Problems.{problem_read}
 use Rattle.mh_json.specs.Shape.{member_of}
 
--- a problem at one key, which is read and made, and then a plan at another: their fault knows its place
+-- a problem at one key, which is read and made, and then a plan at another; a fault has its place
 abbrev pub claim_read : Data → Result Claim MisreadData
 claim_read d = do
   problem ← member_of field.Problem problem_read d

@@ -8,7 +8,7 @@ use Rattle.mh_json.specs.Misreads.{MisreadData, err_of}
 use Rattle.mh_json.specs.Problems.{problem_read}
 use Rattle.mh_json.specs.Script.{script_read}
 
--- none where it is read without one
+-- none if it is read without one
 abbrev pub misread_by : InputForm → Data → Option MisreadData
 misread_by Script d = err_of (script_read d)
 misread_by Problem d = err_of (problem_read d)

@@ -9,7 +9,7 @@ use Rattle.mh_json.specs.declared.key.Field.TheVariants as field
 use Rattle.mh_json.specs.declared.key.Key.{Key}
 use Rattle.mh_json.specs.declared.key.Key.TheVariants.{Member, Item}
 
--- the key that a field stands for
+-- the key of a field
 abbrev pub field_name : Field → List ℕ
 field_name field.Charge = codes "charge"
 field_name field.Charges = codes "charges"
@@ -42,7 +42,7 @@ field_name field.Weight = codes "weight"
 field_name field.When = codes "when"
 field_name field.Workers = codes "workers"
 
--- a key behind others: `.sites`, `[3]`
+-- a key after others: `.sites`, `[3]`
 abbrev pub step_text : Key → List ℕ
 step_text (Member field) = codes "." ++ field_name field
 step_text (Item n) = codes "[" ++ (decimal n ++ codes "]")
@@ -57,7 +57,7 @@ abbrev pub path_text : List Key → List ℕ
 path_text [] = []
 path_text (key ∷ rest) = first_text key ++ flat_map step_text rest
 
--- what a value has at a key
+-- the part of a value at a key
 abbrev pub child : Key → Data → Option Data
 child (Member field) d = get (field_name field) d
 child (Item n) d = at n d

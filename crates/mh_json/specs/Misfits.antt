@@ -1,4 +1,4 @@
--- Where what a definition or a problem refuses stands in the JSON that it was read from.
+-- The places of faults of definitions and problems in the JSON that they were read from.
 use Rattle.std.specs.Prelude.{List, [], ◌∷◌, Result, Ok, Err}
 use Rattle.mh_network.specs.declared.place.ProblemMisfit.{ProblemMisfit}
 use Rattle.mh_network.specs.declared.place.ProblemPlace.{ProblemPlace}
@@ -18,7 +18,7 @@ use Rattle.mh_json.specs.declared.key.Key.TheVariants.{Member, Item}
 use Rattle.mh_json.specs.Gives.{of_definition, of_problem}
 use Rattle.mh_json.specs.Misreads.{MisreadData}
 
--- the keys of a part: none where it is the whole
+-- the keys of a part: none for the whole
 abbrev pub keys_of_point : PointPart → List Key
 keys_of_point of_point.Whole = []
 keys_of_point of_point.Name = Member field.Name ∷ []
@@ -48,7 +48,7 @@ keys_of (place.Point i part) = Member field.Points ∷ Item i ∷ keys_of_point 
 keys_of (place.Site i part) = Member field.Sites ∷ Item i ∷ keys_of_site part
 keys_of (place.Link i j part) = Member field.Sites ∷ Item i ∷ Member field.Links ∷ Item j ∷ keys_of_link part
 
--- what a definition refuses, as a misread of its JSON
+-- the fault of a definition, as a misread of its JSON
 abbrev pub of_misfit : DefinitionMisfit → MisreadData
 of_misfit m = record { fault = of_definition m.fault; path = keys_of m.place }
 
@@ -59,11 +59,11 @@ keys_in_problem of_problem_place.Links = Member field.Links ∷ []
 keys_in_problem of_problem_place.Points = Member field.Costs ∷ []
 keys_in_problem (of_problem_place.Needs j) = Member field.Links ∷ Item j ∷ Member field.Needs ∷ []
 
--- what a problem refuses, as a misread of its JSON
+-- the fault of a problem, as a misread of its JSON
 abbrev pub of_problem_misfit : ProblemMisfit → MisreadData
 of_problem_misfit m = record { fault = of_problem m.fault; path = keys_in_problem m.place }
 
--- what was made, or its misfit as a misread
+-- the result, or its misfit as a misread
 abbrev pub fitted : {A C : Type 0} → (C → MisreadData) → Result A C → Result A MisreadData
 fitted misread (Ok x) = Ok x
 fitted misread (Err m) = Err (misread m)

@@ -1,4 +1,4 @@
--- Why a part of an input could not be read, and where it stands.
+-- Why a part of an input could not be read, and its place.
 use Rattle.std.specs.Prelude.{List, [], ◌∷◌, Option, Some, None, Result, Ok, Err, reverse, Vec}
 use Rattle.mh_json.specs.declared.fault.InputFault.{InputFault}
 use Rattle.mh_json.specs.declared.key.Key.{Key}
@@ -14,16 +14,16 @@ pub record MisreadData : Type 0 where
 abbrev pub here : InputFault → MisreadData
 here e = record { fault = e; path = [] }
 
--- the same where the part stands at a key of another
+-- the same with a further key, that of the part in the value that contains it
 abbrev pub behind : Key → MisreadData → MisreadData
 behind key m = record { fault = m.fault; path = key ∷ m.path }
 
--- the fault of a reading, where it has one
+-- the fault of a reading, if it has one
 abbrev pub err_of : {A : Type 0} → Result A MisreadData → Option MisreadData
 err_of (Ok x) = None
 err_of (Err m) = Some m
 
--- what is read at a key
+-- the reading of the member at a key
 abbrev pub under : {A : Type 0} → Key → Result A MisreadData → Result A MisreadData
 under key (Ok x) = Ok x
 under key (Err m) = Err (behind key m)

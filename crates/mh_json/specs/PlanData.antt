@@ -35,7 +35,7 @@ uncharged flow links points value =
     (member (codes "points") points
     (member (codes "value") (number (of_integer value)) no_members)))
 
--- what is paid of charges, before other keys, where there is any
+-- the amounts paid of charges, before other keys, if there are any
 abbrev pub with_charges : List Charge → Members → Members
 with_charges [] rest = rest
 with_charges (r ∷ more) rest = member (codes "charges") (charges_data (r ∷ more)) rest

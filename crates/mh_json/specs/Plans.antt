@@ -13,7 +13,7 @@ use Rattle.mh_json.specs.Shape.{list_of, member_of, member_or, count_of, each_of
 use Rattle.mh_json.specs.declared.key.Field.TheVariants as field
 use Rattle.mh_json.specs.declared.key.Key.TheVariants.{Item}
 
--- a whole number of 64 bits with a sign
+-- a signed whole number of 64 bits
 abbrev pub signed_of : Data → Result ℤ MisreadData
 signed_of d = or_fault BadShape (option_and_then as_i64 (as_number d))
 
@@ -50,7 +50,7 @@ charge_row_of d = do
 abbrev pub charges_of : Data → Result (List Charge) MisreadData
 charges_of d = each_of charge_row_of d
 
--- the links, the points, the value, the flow, the charges, which may be absent
+-- the links, the points, the value, the flow, the optional charges
 abbrev pub plan_of : Data → Result Plan MisreadData
 plan_of d = do
   links ← member_of field.Links (counts_of (2 ^ 32 - 1)) d
@@ -60,7 +60,7 @@ plan_of d = do
   charges ← member_or [] field.Charges charges_of d
   Ok (record { links = links; points = points; value = value; flow = flow; charges = charges })
 
--- the plan that a value, or what it has at a key, is
+-- the plan that a value, or its member at a key, is
 abbrev pub plan_at : Option (List ℕ) → Data → Result Plan MisreadData
 plan_at key d = do
   part ← part_at key d

@@ -29,11 +29,11 @@ use Rattle.mh_json.specs.Versions.{charge_of, most_links, version_of, version_te
 use Rattle.mh_site.specs.Limits.{most_points}
 use Rattle.mh_site.specs.Places.{unfit}
 
--- whether something is so
+-- a truth value
 abbrev pub truth_of : Data → Result Bool MisreadData
 truth_of d = or_fault BadShape (as_bool d)
 
--- a link: its gain, whether it may be chosen, which it may where nothing is said, the numbers of the points that it needs, and its charge
+-- a link: its gain, whether it is eligible (default true), the numbers of the points that it needs, and its charge
 abbrev pub row_of : Version → Data → Result LinkRow MisreadData
 row_of version d = do
   gain ← member_of field.Gain (count_of (2 ^ 63 - 1)) d
@@ -53,7 +53,7 @@ rows_of d = do
   links ← member_of field.Links (row_list_of version) d
   Ok (record { version = version; links = links; costs = costs })
 
--- the links and costs that a value, or what it has at a key, says
+-- the links and costs of a value, or of its member at a key
 abbrev pub rows_at : Option (List ℕ) → Data → Result ProblemRows MisreadData
 rows_at key d = do
   part ← part_at key d
@@ -73,18 +73,18 @@ rows_of_input = rows_by json_of_input
 abbrev pub IsMade : ProblemRows → ProblemData → Type 0
 IsMade rows p = Passes (version_tests rows.version rows.links rows.costs) × (p ≡ problem_of rows.links rows.costs)
 
--- and else they have the fault of the first test that fails
+-- or they have the fault of the first test that fails
 abbrev pub IsNotMade : ProblemRows → Fault → Type 0
 IsNotMade rows e = (cause : ProblemFault) × Refuses (version_tests rows.version rows.links rows.costs) cause × (e ≡ record { kind = Input (Problem cause); at = 0 })
 
--- What was made of links and costs that were read: their problem; the first fault of reading, or else of the tests; or memory ran out.
+-- The result of reading links and costs: their problem; the first fault of reading, or else of the tests; or memory ran out.
 abbrev pub MakesProblem : Result ProblemRows Fault → Result ProblemData Fault → Type 0
 MakesProblem (Ok rows) (Ok p) = IsMade rows p
 MakesProblem (Ok rows) (Err e) = (e ≡ outside no_memory) ⊎ IsNotMade rows e
 MakesProblem (Err first) (Ok p) = ⊥
 MakesProblem (Err first) (Err e) = (e ≡ outside no_memory) ⊎ (e ≡ first)
 
--- whether numbers ascend from one that stands before them, and whether they do by themselves
+-- whether numbers ascend from one that precedes them, and whether they ascend on their own
 abbrev pub ascend_from : ℕ → List ℕ → Bool
 ascend_from n [] = true
 ascend_from n (m ∷ more) = nat_lt n m && ascend_from m more
@@ -119,7 +119,7 @@ problem_made rows = made_unless (problem_of rows.links rows.costs) (first_failin
 abbrev pub needs_of_first : (LinkRow → Bool) → List LinkRow → List Key
 needs_of_first passes links = Member field.Links ∷ Item (unwrap_or (unfit passes links) 0) ∷ Member field.Needs ∷ []
 
--- the keys that lead to what of links and costs has the fault
+-- the keys that lead to the part of links and costs that has the fault
 abbrev pub place_in : List LinkRow → List ℕ → ProblemFault → List Key
 place_in links costs TooManyLinks = Member field.Links ∷ []
 place_in links costs TooManyPoints = Member field.Costs ∷ []
@@ -129,7 +129,7 @@ place_in links costs NeedsNotAscending = needs_of_first (λ r. ascend r.needs) l
 place_in links costs GainTooLarge = Member field.Links ∷ []
 place_in links costs _ = []
 
--- what links and costs refuse, as a misread of their JSON
+-- the fault of links and costs, as a misread of their JSON
 abbrev pub misread_in : ProblemRows → ProblemFault → MisreadData
 misread_in rows cause = record { fault = of_problem cause; path = place_in rows.links rows.costs cause }
 

@@ -56,7 +56,7 @@ point_names_of points = fold (λ names p. with_name names p.name) [] points
 abbrev pub named_points_of : List (List ℕ) → Data → Result (List ℕ) MisreadData
 named_points_of points d = each_of (named_point_of points) d
 
--- a link: its key, read as of the kind of the key place, its weight, its charge, its needs
+-- a link: its key, read as of the kind at the key position, its weight, its charge, its needs
 abbrev pub link_of : Version → List (List ℕ) → Option Kind → Data → Result Link MisreadData
 link_of version points kind d = do
   when ← member_of field.When (value_for kind) d
@@ -69,19 +69,19 @@ link_of version points kind d = do
 abbrev pub links_of : Version → List (List ℕ) → Option Kind → Data → Result (List Link) MisreadData
 links_of version points kind d = each_of (link_of version points kind) d
 
--- a place, or none where the value is null
+-- an index, or null for none
 abbrev pub place_or_none : Data → Result (Option ℕ) MisreadData
 place_or_none d = if is_some (as_null d) then Ok None else (count_of (2 ^ 63 - 1) d >>= λ place. Ok (Some place))
 
--- the kind of the parameter at the key place, where there is one
+-- the kind of the parameter at the key position, if there is one
 abbrev pub key_kind : Signature → Option ℕ → Option Kind
 key_kind method_type key = option_and_then (slice_get method_type.parameters) key
 
--- the links of a site, and none where it says none
+-- the links of a site, default none
 unfoldable pub linked_of : Version → List (List ℕ) → Option Kind → Data → Result (List Link) MisreadData
 linked_of version points kind site = member_or [] field.Links (links_of version points kind) site
 
--- a site: its name, its type, its level, its key place, its target, its links
+-- a site: its name, its type, its level, its key position, its target, its links
 abbrev pub site_of : Version → Scope → Data → Result Site MisreadData
 site_of version scope d = do
   name ← member_of field.Name text_of d
@@ -152,7 +152,7 @@ limits_made history ledger total =
     if nat_le history most_events && (nat_lt 0 ledger && nat_le ledger most_held) && nat_le total most_hits
     then Ok (record { history = history; ledger = ledger; total = total }) else Err (here BadShape)
 
--- the limits, each the greatest where it is absent
+-- the limits, each by default its maximum
 abbrev pub limits_in : Data → Result LimitsData MisreadData
 limits_in d = if is_some (as_object d) then (do
   history ← member_or most_events field.History (count_of (2 ^ 63 - 1)) d
@@ -160,7 +160,7 @@ limits_in d = if is_some (as_object d) then (do
   total ← member_or most_hits field.Total (count_of (2 ^ 63 - 1)) d
   limits_made history ledger total) else Err (here BadShape)
 
--- the limits, which may be absent
+-- the optional limits
 abbrev pub limits_where : Option Data → Result LimitsData MisreadData
 limits_where None = limits_made most_events most_held most_hits
 limits_where (Some d) = under (Member field.Limits) (limits_in d)
@@ -172,7 +172,7 @@ limits_of d = limits_where (get (field_name field.Limits) d)
 abbrev pub parameters_at : DefinitionData → ℕ → List Kind
 parameters_at d s = if nat_lt s (length d.sites) then (site_at d s).method_type.parameters else []
 
--- the number of a site by its name: one past the last where no site has it
+-- the number of a site by its name, or one past the last if no site has it
 abbrev pub named_site_of : List (List ℕ) → Data → Result ℕ MisreadData
 named_site_of sites d = do
   name ← text_of d
@@ -236,7 +236,7 @@ plan_from (snapshot ∷ []) = do
   Ok (ask_plan snapshot)
 plan_from _ = Err (here BadShape)
 
--- the event that each word heads
+-- the event of each word
 abbrev pub events : Declarations → List Data → List (List ℕ × Result Event MisreadData)
 events declared args =
     (codes "call", call_from declared args)
@@ -248,16 +248,16 @@ events declared args =
     ∷ (codes "install", install_from args)
     ∷ []
 
--- the event that a word heads
+-- the event of a word and its arguments
 abbrev pub event_named : Declarations → List ℕ → List Data → Result Event MisreadData
 event_named declared word args = at_word (events declared args) word (Err (here BadShape))
 
--- the step that a word heads: the asking for a plan, or an event
+-- the step of a word and its arguments: a request for a plan, or an event
 abbrev pub step_named : Declarations → List ℕ → List Data → Result Step MisreadData
 step_named declared word args =
     if bytes_eq word (codes "plan") then plan_from args else (event_named declared word args >>= λ event. Ok (Ask event))
 
--- a word, and what it heads
+-- a word and its arguments
 abbrev pub step_from : Declarations → List Data → Result Step MisreadData
 step_from declared [] = Err (here BadShape)
 step_from declared (head ∷ args) = do
@@ -283,7 +283,7 @@ step_list_of declared d = do
   events ← at_place 0 (list_of events)
   steps_of declared events
 
--- what a script declares, its workers, its limits
+-- the definition of a script, its workers, its limits
 unfoldable pub preamble_of : Data → Result Preamble MisreadData
 preamble_of d = do
   declared ← member_of field.Definition definition_of d
@@ -291,33 +291,33 @@ preamble_of d = do
   limits ← limits_of d
   Ok (record { declared = declared; workers = workers; limits = limits })
 
--- a script that goes on with these steps
+-- a script with these steps
 abbrev pub script_with : Preamble → List Step → Script
 script_with preamble steps = record { definition = preamble.declared.definition; workers = preamble.workers; limits = preamble.limits; steps = steps }
 
--- a script, whose fault knows its place
+-- a script; a fault has its place
 abbrev pub script_read : Data → Result Script MisreadData
 script_read d = do
   preamble ← preamble_of d
   steps ← member_of field.Events (events_of preamble.declared) d
   Ok (script_with preamble steps)
 
--- the same, whose fault has the number of its event
+-- the same; a fault has the number of its event
 abbrev pub script_of : Data → Result Script Fault
 script_of d = do
   preamble ← at_place 0 (preamble_of d)
   steps ← step_list_of preamble.declared d
   Ok (script_with preamble steps)
 
--- event n of these stands there, and those before it are read
+-- event n of these exists, and those before it are read
 abbrev pub IsNext : Declarations → List Data → ℕ → Type 0
 IsNext declared ds n = (before : List Step) × (0 < n) × (n ≤ length ds) × (steps_of declared (take (n - 1) ds) ≡ Ok before)
 
--- event n of a script that declares this stands there, and those before it are read
+-- event n of a script with this definition exists, and those before it are read
 abbrev pub IsNextOf : Declarations → Data → ℕ → Type 0
 IsNextOf declared d n = (ds : List Data) × ((part_of field.Events d >>= list_of) ≡ Ok ds) × IsNext declared ds n
 
--- event n of a script stands there, and all that is read before it has no fault
+-- event n of a script exists, and nothing that is read before it has a fault
 abbrev pub IsReached : Data → ℕ → Type 0
 IsReached d n = (preamble : Preamble) × (preamble_of d ≡ Ok preamble) × IsNextOf preamble.declared d n
 
@@ -331,7 +331,7 @@ script_by json source = do
 abbrev pub script_of_input : List ℕ → Result Script Fault
 script_of_input = script_by json_of_input
 
--- event n of a source is reached: it stands there, and nothing before it has a fault
+-- event n of a source is reached: it exists, and nothing before it has a fault
 abbrev pub IsReachedBy : {A : Type 0} → (A → Result Data Fault) → A → ℕ → Type 0
 IsReachedBy json source n = (d : Data) × (json source ≡ Ok d) × IsReached d n
 

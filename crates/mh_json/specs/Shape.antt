@@ -1,4 +1,4 @@
--- The parts of a JSON value, each with its fault where it is not of its form.
+-- The parts of a JSON value, each with its fault if it does not have its form.
 use Rattle.std.specs.Prelude.{ℕ, ◌+◌, List, [], ◌∷◌, Option, Some, None, Result, Ok, Err, option_and_then, nat_le, if◌then◌else◌}
 use Rattle.serde_json.specs.Data.{Data, null, boolean, number, string, array, object, Items, no_items, item}
 use Rattle.serde_json.specs.Find.{get, as_number, as_str, as_u64}
@@ -26,20 +26,20 @@ list_of (object ms) = Err (here BadShape)
 abbrev pub text_of : Data → Result (List ℕ) MisreadData
 text_of d = or_fault BadShape (as_str d)
 
--- what an object has at a key that has to be there
+-- the member of an object at a required key
 abbrev pub part_of : Field → Data → Result Data MisreadData
 part_of field d = or_fault BadShape (get (field_name field) d)
 
--- a value, or what it has at a key that has to be there
+-- a value, or its member at a required key
 abbrev pub part_at : Option (List ℕ) → Data → Result Data MisreadData
 part_at None d = Ok d
 part_at (Some key) d = or_fault BadShape (get key d)
 
--- what an object has at a key that has to be there, read so
+-- the reading of the member at a required key
 abbrev pub member_of : {A : Type 0} → Field → (Data → Result A MisreadData) → Data → Result A MisreadData
 member_of field read d = part_of field d >>= λ part. under (Member field) (read part)
 
--- the same of a key that may be absent
+-- the same of an optional key
 abbrev pub part_or : {A : Type 0} → A → Field → (Data → Result A MisreadData) → Option Data → Result A MisreadData
 part_or absent field read None = Ok absent
 part_or absent field read (Some part) = under (Member field) (read part)
@@ -59,7 +59,7 @@ each_from read n (d ∷ ds) = do
   xs ← each_from read (n + 1) ds
   Ok (x ∷ xs)
 
--- the items of a list, each read so, up to the first that has a fault
+-- the reading of each item of a list, up to the first that has a fault
 abbrev pub items_from : {A : Type 0} → (ℕ → Data → Result A MisreadData) → ℕ → List Data → Result (List A) MisreadData
 items_from read n ds = each_from (λ i d. under (Item i) (read i d)) n ds
 

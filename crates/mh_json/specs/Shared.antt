@@ -15,7 +15,7 @@ use Rattle.mh_site.specs.NamesInOrder.{with_name}
 use Rattle.mh_json.specs.Shape.{list_of, text_of, member_or}
 use Rattle.mh_json.specs.Trees.{tree_of}
 
--- the points of these names, no shared tree and no site
+-- points with these names, without shared trees and sites
 abbrev pub without_shared : List (List ℕ) → Scope
 without_shared points = record { points = points; names = []; trees = []; sites = []; types = [] }
 
@@ -60,6 +60,6 @@ all_shared_of scope n (d ∷ ds) = do
 abbrev pub scope_of : Scope → Data → Result Scope MisreadData
 scope_of scope d = list_of d >>= all_shared_of scope 0
 
--- the names that the trees of a definition may use, where its points have these
+-- the names that the trees of a definition may use, whose points have these names
 abbrev pub shared_in : List (List ℕ) → Data → Result Scope MisreadData
 shared_in points definition = member_or (without_shared points) field.Shared (scope_of (without_shared points)) definition

@@ -5,7 +5,7 @@ use Rattle.mh_core.specs.declared.event.Event.TheVariants.{Call, Flush, Target, 
 use Rattle.mh_json.specs.declared.json.step.Step.{Step}
 use Rattle.mh_json.specs.declared.json.step.Step.TheVariants.{Ask, Plan as ask_plan}
 
--- the number that an event names, of the snapshot that a plan is for or of the plan that is installed; 0 where it names none
+-- the number that an event names, of the snapshot that a plan is for or of the plan that is installed; 0 if it names none
 abbrev pub number_in : Event → ℕ
 number_in (Call w s a) = 0
 number_in (Flush w) = 0

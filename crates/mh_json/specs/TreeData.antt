@@ -63,7 +63,7 @@ abbrev mutual
   filters_data d (absent fs) = item null (filters_data d fs)
   filters_data d (present f fs) = item (tree_data d f) (filters_data d fs)
 
--- a filter, and null where there is none
+-- a filter, or null for none
 abbrev pub filter_data : DefinitionData → Option Tree → Data
 filter_data d None = null
 filter_data d (Some f) = tree_data d f

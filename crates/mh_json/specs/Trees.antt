@@ -17,7 +17,7 @@ use Rattle.mh_site.specs.NamesInOrder.{place_of}
 use Rattle.mh_json.specs.Shape.{text_of, count_of, counts_of}
 use Rattle.mh_json.specs.Values.{kind_of, kinds_of, type_of, op_of, value_of_kind, values_for}
 
--- a value, what it is as a tree, and what it is as a list of filters
+-- a value, its reading as a tree, and its reading as a list of filters
 pub record Part : Type 0 where
   pub value : Data
   pub tree : Result TypedTree MisreadData
@@ -125,7 +125,7 @@ point_from scope (name ∷ target ∷ fallback ∷ []) = do
   caused of_tree (point_made point target fallback)
 point_from scope _ = Err (here BadShape)
 
--- the shared tree of a name, among those that stand earlier
+-- the shared tree of a name, among those declared earlier
 abbrev pub shared_named : Scope → List ℕ → Result TypedTree MisreadData
 shared_named scope name = or_fault UnknownShared (slice_get scope.trees (place_of scope.names name))
 
@@ -139,7 +139,7 @@ abbrev pub ref_from : Scope → List Part → Result TypedTree MisreadData
 ref_from scope (name ∷ []) = under (Item 1) (shared_name_of scope name.value)
 ref_from scope _ = Err (here BadShape)
 
--- the invocation of the site of a name, among those that stand earlier, with the site's type
+-- the invocation of the site of a name, among those declared earlier, with the site's type
 abbrev pub invocation_named : Scope → List ℕ → Result TypedTree MisreadData
 invocation_named scope name = do
   method_type ← or_fault UnknownSite (slice_get scope.types (point_place scope.sites name))
@@ -155,7 +155,7 @@ abbrev pub invoke_from : Scope → List Part → Result TypedTree MisreadData
 invoke_from scope (name ∷ []) = under (Item 1) (site_name_of scope name.value)
 invoke_from scope _ = Err (here BadShape)
 
--- what each word heads
+-- the tree of each word
 abbrev pub forms : Scope → List Part → List (List ℕ × Result TypedTree MisreadData)
 forms scope args =
     (codes "const", constant_from args)
@@ -173,18 +173,18 @@ forms scope args =
     ∷ (codes "invoke", invoke_from scope args)
     ∷ []
 
--- what a word heads
+-- the tree of a word and its arguments
 abbrev pub form_named : Scope → List ℕ → List Part → Result TypedTree MisreadData
 form_named scope word args = at_word (forms scope args) word (Err (here BadShape))
 
--- a word, and what it heads
+-- a word and its arguments
 abbrev pub form_from : Scope → List Part → Result TypedTree MisreadData
 form_from scope [] = Err (here BadShape)
 form_from scope (head ∷ args) = do
   word ← under (Item 0) (text_of head.value)
   form_named scope word args
 
--- an item of a list of filters: none where it is null, and else the tree that it is
+-- an item of a list of filters: null for none, or a tree
 abbrev pub filter_or_none : Data → Result TypedTree MisreadData → Result (Option TypedTree) MisreadData
 filter_or_none d tree = if is_some (as_null d) then Ok None else (tree >>= λ filter. Ok (Some filter))
 

@@ -40,7 +40,7 @@ op_of d = do
   name ← text_of d
   or_fault BadShape (op_named name)
 
--- a whole number of 64 bits with a sign
+-- a signed whole number of 64 bits
 abbrev pub long_of : Data → Result ℤ MisreadData
 long_of d = or_fault BadValue (option_and_then as_i64 (as_number d))
 
@@ -48,7 +48,7 @@ long_of d = or_fault BadValue (option_and_then as_i64 (as_number d))
 abbrev pub is_int : ℤ → Bool
 is_int z = not (int_lt z (neg_ℤ (pos (2 ^ 31)))) && int_lt z (pos (2 ^ 31))
 
--- an int where it fits, else a long
+-- an int if it fits, else a long
 abbrev pub least_number : ℤ → Value
 least_number z = if is_int z then Int z else Long z
 
@@ -71,7 +71,7 @@ value_of_kind kind.Text d = do
   bytes ← or_fault BadValue (as_str d)
   text_value bytes
 
--- a value by its own form
+-- a value whose kind follows from its form
 abbrev pub value_by_form : Data → Result Value MisreadData
 value_by_form (string bytes) = text_value bytes
 value_by_form (boolean truth) = Ok (Boolean truth)
@@ -82,12 +82,12 @@ value_by_form null = Err (here BadValue)
 value_by_form (array ds) = Err (here BadValue)
 value_by_form (object ms) = Err (here BadValue)
 
--- the first reading, and the second where that has a fault
+-- the first reading, or the second if the first has a fault
 abbrev pub or_else : Result Value MisreadData → Result Value MisreadData → Result Value MisreadData
 or_else (Ok value) other = Ok value
 or_else (Err e) other = other
 
--- a value of the kind that is wanted, where one is, and else by its own form
+-- a value of the given kind, or, without one, a value whose kind follows from its form
 abbrev pub value_for : Option Kind → Data → Result Value MisreadData
 value_for (Some kind) d = or_else (value_of_kind kind d) (value_by_form d)
 value_for None d = value_by_form d

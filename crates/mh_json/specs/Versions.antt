@@ -1,4 +1,4 @@
--- Versions of definitions and problems, and the charges that links have in version 2.
+-- Versions of definitions and problems, and the charges of links in version 2.
 use Rattle.std.specs.Prelude.{ℕ, ◌^◌, ◌-◌, ◌≤◌, Result, Ok, Err, length, List, if◌then◌else◌, ◌==◌}
 use Rattle.serde_json.specs.Data.{Data}
 use Rattle.mh_base.specs.Tests.{Tests, test, only}
@@ -22,7 +22,7 @@ version_of d = do
   version ← count_of 2 d
   if version == 1 then Ok One else (if version == 2 then Ok Two else Err (here BadShape))
 
--- the charge of a link, which may be absent; in version 1 the key means nothing
+-- the charge of a link, default 0; version 1 ignores the key
 abbrev pub charge_of : Version → Data → Result ℕ MisreadData
 charge_of One link = Ok 0
 charge_of Two link = member_or 0 field.Charge (count_of (2 ^ 63 - 1)) link

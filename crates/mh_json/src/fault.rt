@@ -1,4 +1,4 @@
-//! Why an input could not be read or its lines not be written.
+//! Why an input could not be read, or output not be written.
 ghost use Rattle.std.specs.Prelude.{◌≡◌};
 ghost use Rattle.mh_json.specs.declared.fault.TextFault.TheVariants as text;
 ghost use Rattle.mh_json.specs.Faults.{is_nowhere};
@@ -13,34 +13,34 @@ use std::alloc::{AllocError, AllocFailed};
 use std::error::Error;
 use std::fmt;
 
-/// What is wrong with an input, or that memory ran out.
+/// A fault of an input, or lack of memory.
 #[derive(Clone, Copy, Debug, PartialEq, Eq)]
 pub enum InputFault {
     /// Memory ran out.
     NoMemory,
     /// The input has more than 1,048,576 bytes.
     TooLong,
-    /// The input is no JSON.
+    /// The input is not JSON.
     NotJson,
-    /// A part is missing, of another form, of another length, or out of its range.
+    /// A part is missing, has another form or another length, or is out of range.
     BadShape,
-    /// A value does not stand for an int, a long, a boolean or a text.
+    /// A value is not an int, a long, a boolean or a text.
     BadValue,
-    /// A shared tree that stands nowhere earlier.
+    /// A tree refers to a shared tree that is not declared earlier.
     UnknownShared,
-    /// A constructor of trees refused.
+    /// A constructor of trees failed.
     Tree(TreeFault),
     /// The definition is not lawful.
     Definition(DefinitionFault),
-    /// Rows and costs are no problem.
+    /// The links and costs do not make a problem.
     Problem(ProblemFault),
-    /// A text is no method type.
+    /// A text is not a method type.
     BadType(TypeFault),
-    /// A site that a tree invokes, and that stands nowhere earlier.
+    /// A tree invokes a site that is not declared earlier.
     UnknownSite,
-    /// A link of a profile needs a point that stands in no earlier line.
+    /// A link of a profile needs a point that no earlier line declares.
     UnknownPoint,
-    /// A point of a profile has the name of a point in an earlier line.
+    /// A point of a profile has the name of an earlier point.
     PointTwice,
     /// A link of a profile names a need twice.
     NeedTwice,
@@ -158,15 +158,15 @@ pub enum TextFault {
     Input(InputFault),
     /// A read failed.
     ReadFailed,
-    /// A write or a flush failed, or a write took no byte.
+    /// A write or a flush failed, or a write accepted no byte.
     WriteFailed,
-    /// No more readers of a published world can be made. It is no fault of an input, and has no
-    /// number.
+    /// No more readers of a published world can be made. This is not a fault of an input, and has
+    /// no number.
     NoReader,
 }
 
 impl TextFault {
-    /// Whether no event and no part of an input has it.
+    /// Returns whether the fault is not of an event or a part of an input.
     fn is_nowhere(self) -> bool
         ensures value { result ≡ is_nowhere self }
     {
@@ -208,8 +208,8 @@ impl From<AllocError> for TextFault {
     }
 }
 
-/// A fault, and the number of the event that has it, or of the line of a profile, from 1, or 0
-/// outside of them.
+/// A fault, with the number of its event or, in a profile, of its line, counted from 1; 0 outside
+/// of these.
 #[derive(Clone, Copy, Debug, PartialEq, Eq)]
 pub struct Fault {
     pub kind: TextFault,

@@ -35,7 +35,7 @@ use std::alloc::Global;
 /// The most bytes that an input may have.
 pub const LONGEST_INPUT: usize = 1_048_576;
 
-/// The JSON value of bytes, however many.
+/// Parses bytes as JSON, without a limit.
 pub fn parse_json(alloc: Global, input: &[u8]) -> Result<Value, Misread>
     ensures value { Gives view result (json_in input.now) }
 {
@@ -55,7 +55,7 @@ pub fn parse_json(alloc: Global, input: &[u8]) -> Result<Value, Misread>
     }
 }
 
-/// The JSON value of an input, whose length comes first.
+/// Parses an input as JSON, after a test of its length.
 pub fn read_json(alloc: Global, input: &[u8]) -> Result<Value, Fault>
     ensures value { GivesAt view result (json_of_input input.now) }
     ensures kind { IfErr result (λ e. IsOfInput e.kind) }

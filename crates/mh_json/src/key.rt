@@ -5,7 +5,7 @@ ghost use Rattle.mh_json.specs.Keys.{child, field_name};
 
 use serde_json::Value;
 
-/// The key of an object that some form reads.
+/// A key of an object in an input.
 #[derive(Clone, Copy, Debug, PartialEq, Eq)]
 pub enum Field {
     Charge,
@@ -41,7 +41,7 @@ pub enum Field {
 }
 
 impl Field {
-    /// The key itself.
+    /// Returns the key as text.
     pub fn name(self) -> &'static str
         ensures value { result.now ≡ field_name self }
     {
@@ -83,14 +83,14 @@ impl Field {
 /// A step into a JSON value.
 #[derive(Clone, Copy, Debug, PartialEq, Eq)]
 pub enum Key {
-    /// What an object has at this key.
+    /// The member of an object at this key.
     Member(Field),
-    /// The item of an array with this number, from 0.
+    /// The item of an array at this index, counted from 0.
     Item(usize),
 }
 
 impl Key {
-    /// What a value has there.
+    /// Returns the part of a value at this step.
     pub fn find(self, value: &Value) -> Option<&Value>
         ensures value { option_map (λ v. view v.now) result ≡ child self (view value.now) }
     {

@@ -10,7 +10,7 @@ use mh_type::{Kind, Op, Value as Constant};
 use serde_json::{Value, json};
 use std::alloc::{AllocError, Global};
 
-// A value, behind its kind.
+// Returns the form of a constant: its kind and its value.
 pub(crate) fn constant_json(alloc: Global, value: &Constant) -> Result<Value, AllocError>
     ensures value { IfOk result (λ v. view v ≡ constant_data value.now) }
 {
@@ -19,14 +19,14 @@ pub(crate) fn constant_json(alloc: Global, value: &Constant) -> Result<Value, Al
     json!(in alloc; ["const", kind, value])
 }
 
-// The argument of a kind.
+// Returns the form of the identity of a kind.
 pub(crate) fn identity_json(alloc: Global, kind: Kind) -> Result<Value, AllocError>
     ensures value { IfOk result (λ v. view v ≡ identity_data kind) }
 {
     json!(in alloc; ["id", kind.name()])
 }
 
-// An operation by its name.
+// Returns the form of an operation.
 pub(crate) fn operation_json(alloc: Global, op: Op) -> Result<Value, AllocError>
     ensures value { IfOk result (λ v. view v ≡ operation_data op) }
 {
@@ -34,7 +34,7 @@ pub(crate) fn operation_json(alloc: Global, op: Op) -> Result<Value, AllocError>
 }
 
 impl Writer<'_> {
-    // The invocation of a site by its name.
+    // Returns the form of an invocation, with the name of its site.
     pub(crate) fn invocation(&self, site: u32) -> Result<Value, AllocError>
         ensures value { IfOk result (λ v. view v ≡ invocation_data self.now.definition.now site) }
     {

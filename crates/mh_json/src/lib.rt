@@ -1,8 +1,8 @@
-//! Scripts, problems, plans and trees from JSON and as JSON.
+//! Scripts, problems, plans and trees, read from JSON and written as JSON.
 //!
-//! `json` reads the parts of an input, and `readers` exports the readers that callers use by
-//! themselves. A fault knows the part of the input that has it (`Misread`). `tree_json` and
-//! `plan_json` write what is read back.
+//! `json` reads the parts of an input, and `readers` exports the readers that callers may use on
+//! their own. A fault has the path of the part of the input that has it (`Misread`). `tree_json`
+//! and `plan_json` write the form that is read.
 //!
 //! ```
 //! let script = read_script(alloc, input)?;

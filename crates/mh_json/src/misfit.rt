@@ -1,4 +1,4 @@
-//! What a definition or a problem refuses, as a fault of the JSON that it was read from.
+//! Faults of definitions and problems, as faults of the JSON that they were read from.
 ghost use Rattle.std.specs.Prelude.{◌≡◌, ◌⊎◌, ◌++◌};
 ghost use Rattle.mh_json.specs.declared.fault.InputFault.TheVariants.{NoMemory};
 ghost use Rattle.mh_json.specs.Misfits.{keys_of_link, keys_of_point, keys_of_site, of_misfit, of_problem_misfit};
@@ -12,7 +12,7 @@ use mh_network::{ProblemMisfit, ProblemPlace};
 use mh_site::{DefinitionMisfit, DefinitionPlace, LinkPart, PointPart, SitePart};
 use std::alloc::Global;
 
-/// A fault that stands at an item of the list at a key.
+/// Places a fault at an item of the list at a key.
 fn at_item(alloc: Global, misread: Misread, field: Field, item: usize) -> Misread
     ensures value { (result.fault ≡ NoMemory)
         ⊎ (result ≡ behind (Member field) (behind (Item item) misread)) }
@@ -21,7 +21,7 @@ fn at_item(alloc: Global, misread: Misread, field: Field, item: usize) -> Misrea
     item.behind(alloc, Key::Member(field))
 }
 
-/// A fault of a part of a point.
+/// Places a fault at a part of a point.
 fn of_point(alloc: Global, misread: Misread, part: PointPart) -> Misread
     ensures value { (result.fault ≡ NoMemory) ⊎ (result ≡ record {
       fault = misread.fault;
@@ -35,7 +35,7 @@ fn of_point(alloc: Global, misread: Misread, part: PointPart) -> Misread
     }
 }
 
-/// A fault of a part of a site.
+/// Places a fault at a part of a site.
 fn of_site(alloc: Global, misread: Misread, part: SitePart) -> Misread
     ensures value { (result.fault ≡ NoMemory) ⊎ (result ≡ record {
       fault = misread.fault;
@@ -53,7 +53,7 @@ fn of_site(alloc: Global, misread: Misread, part: SitePart) -> Misread
     misread.behind(alloc, Key::Member(field))
 }
 
-/// A fault of a part of a link.
+/// Places a fault at a part of a link.
 fn of_link(alloc: Global, misread: Misread, part: LinkPart) -> Misread
     ensures value { (result.fault ≡ NoMemory) ⊎ (result ≡ record {
       fault = misread.fault;
@@ -70,7 +70,7 @@ fn of_link(alloc: Global, misread: Misread, part: LinkPart) -> Misread
     misread.behind(alloc, Key::Member(field))
 }
 
-/// What a definition refuses, behind the keys that lead to its place.
+/// Returns the fault of a definition, with the keys that lead to its place.
 pub(crate) fn misread_of_misfit(alloc: Global, misfit: DefinitionMisfit) -> Misread
     ensures value { (result.fault ≡ NoMemory) ⊎ (result ≡ of_misfit misfit) }
 {
@@ -92,7 +92,7 @@ pub(crate) fn misread_of_misfit(alloc: Global, misfit: DefinitionMisfit) -> Misr
     }
 }
 
-/// What a problem refuses, behind the keys that lead to its place.
+/// Returns the fault of a problem, with the keys that lead to its place.
 pub(crate) fn misread_of_problem(alloc: Global, misfit: ProblemMisfit) -> Misread
     ensures value { (result.fault ≡ NoMemory) ⊎ (result ≡ of_problem_misfit misfit) }
 {

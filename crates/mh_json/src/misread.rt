@@ -1,4 +1,4 @@
-//! Why a part of an input could not be read, and where it stands.
+//! Why a part of an input could not be read, and its place.
 ghost use Rattle.std.specs.Prelude.{◌≡◌, ◌⊎◌, ◌∷◌, Some, Result, IfOk};
 ghost use Rattle.mh_json.specs.Misreads.{path_of, MisreadData, here, behind, err_of, under};
 ghost use Rattle.mh_json.specs.declared.fault.InputFault.TheVariants.{BadShape, BadValue, NoMemory as out_of_memory};
@@ -18,7 +18,7 @@ use std::marker::Model;
 #[derive(Debug, Drop)]
 pub struct Misread {
     fault: InputFault,
-    /// The keys that lead to the part, the innermost first; none where no step was taken.
+    /// The keys that lead to the part, the innermost first. Empty for the whole input.
     keys: Option<Vec<Key>>,
     wanted: Wanted,
 }
@@ -34,14 +34,14 @@ impl Model for Misread {
 }
 
 impl Misread {
-    /// A fault of the part as a whole.
+    /// Makes a fault of the part as a whole.
     pub fn of(fault: InputFault) -> Misread
         ensures value { result ≡ here fault }
     {
         Misread::wanting(fault, Wanted::Nothing)
     }
 
-    /// The same, where this was wanted.
+    /// Makes a fault of the part as a whole, for which this form was expected.
     pub(crate) fn wanting(fault: InputFault, wanted: Wanted) -> Misread
         ensures value { result ≡ here fault }
     {
@@ -52,33 +52,33 @@ impl Misread {
         }
     }
 
-    /// A part that is not of the form that was wanted.
+    /// Makes the fault of a part that does not have the expected form.
     pub(crate) fn bad_shape(wanted: Wanted) -> Misread
         ensures value { result ≡ here BadShape }
     {
         Misread::wanting(InputFault::BadShape, wanted)
     }
 
-    /// The fault.
+    /// Returns the fault.
     pub fn fault(&self) -> InputFault
         ensures value { result ≡ self.now.fault }
     {
         self.fault
     }
 
-    /// A value that is not of the kind that was wanted.
+    /// Makes the fault of a value that does not have the expected kind.
     pub(crate) fn bad_value(wanted: Wanted) -> Misread
         ensures value { result ≡ here BadValue }
     {
         Misread::wanting(InputFault::BadValue, wanted)
     }
 
-    /// What would have stood at the part, as far as it is known: for words alone.
+    /// Returns the expected form of the part, as far as it is known. It is for messages only.
     pub fn wanted(&self) -> Wanted {
         self.wanted
     }
 
-    /// The keys that lead to the part, the outermost first.
+    /// Returns the keys that lead to the part, the outermost first.
     pub fn into_path(self, alloc: Global) -> Vec<Key>
         ensures value { result.items ≡ self.path }
     {
@@ -87,7 +87,7 @@ impl Misread {
         keys
     }
 
-    /// The same, where the part stands at a key of another.
+    /// Returns the fault with a further key, that of the part in the value that contains it.
     pub(crate) fn behind(self, alloc: Global, key: Key) -> Misread
         ensures value { (result.fault ≡ out_of_memory) ⊎ (result ≡ behind key self) }
     {
@@ -107,7 +107,7 @@ impl Misread {
     }
 }
 
-/// The keys, and one more behind them.
+/// Returns the keys with one more appended.
 fn longer(alloc: Global, keys: Option<Vec<Key>>, key: Key) -> Result<Vec<Key>, AllocError>
     ensures value { IfOk result (λ longer. path_of (Some longer) ≡ key ∷ path_of keys) }
 {
@@ -116,7 +116,7 @@ fn longer(alloc: Global, keys: Option<Vec<Key>>, key: Key) -> Result<Vec<Key>, A
     Ok(longer)
 }
 
-/// What was read at a key, or its fault behind that key.
+/// Returns the result of reading the member at a key. A fault gets the key.
 pub(crate) fn at<T: Drop>(alloc: Global, key: Key, read: Result<T, Misread>) -> Result<T, Misread>
     ensures value { (f : Result T MisreadData) → Gives (λ x. x) read f
         → Gives (λ x. x) result (under key f) }
@@ -127,7 +127,7 @@ pub(crate) fn at<T: Drop>(alloc: Global, key: Key, read: Result<T, Misread>) -> 
     }
 }
 
-/// The first fault of what was read, where it has one.
+/// Returns the fault of a reading, or `None` if it has none.
 pub(crate) fn misread_of<T: Drop>(read: Result<T, Misread>) -> Result<Option<Misread>, NoMemory>
     ensures value { (f : Result T MisreadData) → Gives (λ x. x) read f
         → IfOk result (λ found. found ≡ err_of f) }

@@ -1,7 +1,7 @@
-//! The readers of the parts of an input that callers read by themselves.
+//! The readers of parts of an input for other crates.
 //!
-//! Each returns what the specification of its part gives for the same value, or the first fault in
-//! the order of reading with its place, or out of memory.
+//! Each returns the result of its part's specification for the same value: the part, or the first
+//! fault in the order of reading with its place. Any of them may fail with `NoMemory`.
 pub use crate::json::claim::Claim;
 pub use crate::json::declarations::Declarations;
 pub use crate::json::plan::{read_plan_at, read_plan_value};

@@ -1,4 +1,4 @@
-//! An event of a script that was refused.
+//! Refused events of a script.
 use mh_core::Refusal;
 
 /// An event of a run that was refused.
@@ -6,6 +6,6 @@ use mh_core::Refusal;
 pub struct RefusedEvent {
     /// The event's number, from 1.
     pub event: u64,
-    /// Why it was refused.
+    /// The reason for which it was refused.
     pub refusal: Refusal,
 }

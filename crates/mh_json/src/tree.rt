@@ -1,4 +1,4 @@
-//! The forms of trees. Parts are written from left to right before the tree that has them.
+//! The forms of trees. Subtrees are written from left to right before the tree that contains them.
 
 ghost use Rattle.std.specs.Prelude.{◌≡◌, ◌≤◌, Some, IfOk, string_bytes, option_map};
 ghost use Rattle.std.specs.Arc.{arc_value};
@@ -21,7 +21,7 @@ use std::alloc::{AllocError, Global};
 use std::sync::Arc;
 
 impl Writer<'_> {
-    // A tree as JSON.
+    // Returns a tree as JSON.
     #[cycle(tree)]
     fn tree(&self, node: &Node) -> Result<Value, AllocError>
         ensures value { IfOk result (λ v. view v
@@ -67,7 +67,7 @@ impl Writer<'_> {
         }
     }
 
-    // A target with values put in.
+    // Returns the form of an insertion of values into a target.
     #[cycle(tree)]
     fn insert(
         &self,
@@ -83,7 +83,7 @@ impl Writer<'_> {
         json!(in self.alloc; ["insert", target, position, values])
     }
 
-    // A target with parameters of these kinds that it does not get.
+    // Returns the form of a target that drops parameters of these kinds.
     #[cycle(tree)]
     fn discard(&self, target: &Node, position: usize, kinds: &[Kind]) -> Result<Value, AllocError>
         ensures value { IfOk result (λ v. view v
@@ -94,7 +94,7 @@ impl Writer<'_> {
         json!(in self.alloc; ["drop", target, position, kinds])
     }
 
-    // A target whose arguments come in another order.
+    // Returns the form of a target that takes its arguments in another order.
     #[cycle(tree)]
     fn permute(
         &self,
@@ -111,7 +111,7 @@ impl Writer<'_> {
         json!(in self.alloc; ["permute", target, new_type, reorder])
     }
 
-    // A target with filters of its arguments.
+    // Returns the form of a target with filters of its arguments.
     #[cycle(tree)]
     fn filter(
         &self,
@@ -127,7 +127,7 @@ impl Writer<'_> {
         json!(in self.alloc; ["filter", target, position, filters])
     }
 
-    // A JSON array of filters.
+    // Returns a JSON array of filters.
     #[cycle(tree)]
     fn filters(&self, filters: &[Option<Arc<Node>>]) -> Result<Value, AllocError>
         ensures value { IfOk result (λ v. view v ≡ array
@@ -140,7 +140,7 @@ impl Writer<'_> {
         Ok(Value::Array(list))
     }
 
-    // A filter, and null where there is none.
+    // Returns a filter, or `null` for none.
     #[cycle(tree)]
     fn filter_or_null(&self, filter: &Option<Arc<Node>>) -> Result<Value, AllocError>
         ensures value { IfOk result (λ v. view v ≡ filter_data self.now.definition.now
@@ -152,7 +152,7 @@ impl Writer<'_> {
         }
     }
 
-    // A target with a filter of what it gives.
+    // Returns the form of a target with a filter of its result.
     #[cycle(tree)]
     fn filter_return(&self, target: &Node, filter: &Node) -> Result<Value, AllocError>
         ensures value { IfOk result (λ v. view v ≡ tree_data self.now.definition.now
@@ -163,7 +163,7 @@ impl Writer<'_> {
         json!(in self.alloc; ["return", target, filter])
     }
 
-    // A target whose first argument a combiner gives.
+    // Returns the form of a target whose first argument is the result of a combiner.
     #[cycle(tree)]
     fn fold(&self, target: &Node, combiner: &Node) -> Result<Value, AllocError>
         ensures value { IfOk result (λ v. view v ≡ tree_data self.now.definition.now
@@ -174,7 +174,7 @@ impl Writer<'_> {
         json!(in self.alloc; ["fold", target, combiner])
     }
 
-    // Two branches, and the test that chooses one.
+    // Returns the form of two branches and the test that chooses one.
     #[cycle(tree)]
     fn guard(&self, test: &Node, target: &Node, fallback: &Node) -> Result<Value, AllocError>
         ensures value { IfOk result (λ v. view v ≡ tree_data self.now.definition.now
@@ -186,7 +186,7 @@ impl Writer<'_> {
         json!(in self.alloc; ["guard", test, target, fallback])
     }
 
-    // Two branches, and the name of the point that chooses one.
+    // Returns the form of two branches and the name of the point that chooses one.
     #[cycle(tree)]
     fn point(&self, point: u32, target: &Node, fallback: &Node) -> Result<Value, AllocError>
         ensures value { IfOk result (λ v. view v ≡ tree_data self.now.definition.now
@@ -198,16 +198,16 @@ impl Writer<'_> {
     }
 }
 
-/// A tree as compact JSON, in the form in which a definition declares it: points and sites stand
-/// by their names in this definition, and a part that several trees share is written out at each
-/// place. A number of no point or site of the definition gets the empty name; the trees of its own
-/// sites, and those that a world of it runs, have no such number.
+/// Returns a tree as compact JSON, in the form in which a definition declares it: points and sites
+/// have their names in this definition, and a shared subtree is written out at each place. The
+/// number of a point or site that is not in the definition gets the empty name; the trees of the
+/// definition's own sites, and those that a world of it runs, have no such number.
 ///
-/// serde_json reads the text of a tree within the limits of declared trees; that of a deeper one may
-/// nest too deep for it.
+/// serde_json reads the text of every tree within the limits of declared trees; a deeper tree may
+/// be nested too deep for it.
 ///
-/// Time and memory are linear in the tree's size and the lengths of its texts. Refused only where
-/// memory runs out.
+/// Time and memory are linear in the tree's size and the lengths of its texts. Fails only if memory
+/// runs out.
 pub fn tree_json(
     alloc: Global,
     definition: &Definition,

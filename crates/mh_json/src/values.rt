@@ -8,7 +8,7 @@ use mh_type::{Kind, Value as Constant};
 use serde_json::Value;
 use std::alloc::{AllocError, Global};
 
-/// A value as a number, true or false, or a string.
+/// Returns a value as a number, `true` or `false`, or a string.
 pub(crate) fn value_json(alloc: Global, value: &Constant) -> Result<Value, AllocError>
     ensures value { IfOk result (λ v. view v ≡ value_data value.now) }
 {
@@ -20,7 +20,7 @@ pub(crate) fn value_json(alloc: Global, value: &Constant) -> Result<Value, Alloc
     }
 }
 
-/// A JSON array of values.
+/// Returns a JSON array of values.
 pub(crate) fn values_json(alloc: Global, values: &[Constant]) -> Result<Value, AllocError>
     ensures value { IfOk result (λ v. view v ≡ values_data values.now) }
 {
@@ -31,7 +31,7 @@ pub(crate) fn values_json(alloc: Global, values: &[Constant]) -> Result<Value, A
     Ok(Value::Array(list))
 }
 
-/// A JSON array of the names of kinds.
+/// Returns a JSON array of the names of kinds.
 pub(crate) fn kinds_json(alloc: Global, kinds: &[Kind]) -> Result<Value, AllocError>
     ensures value { IfOk result (λ v. view v ≡ kinds_data kinds.now) }
 {
@@ -42,7 +42,7 @@ pub(crate) fn kinds_json(alloc: Global, kinds: &[Kind]) -> Result<Value, AllocEr
     Ok(Value::Array(list))
 }
 
-/// A JSON array of numbers of parameters.
+/// Returns a JSON array of indices of parameters.
 pub(crate) fn places_json(alloc: Global, places: &[usize]) -> Result<Value, AllocError>
     ensures value { IfOk result (λ v. view v ≡ places_data places.now) }
 {

@@ -1,4 +1,4 @@
-//! What writes a tree.
+//! The writer of trees.
 
 ghost use Rattle.std.specs.Prelude.{◌≡◌};
 ghost use Rattle.mh_site.specs.Defined.{point_at, site_at};
@@ -6,7 +6,7 @@ ghost use Rattle.mh_site.specs.Defined.{point_at, site_at};
 use mh_site::Definition;
 use std::alloc::Global;
 
-// Where memory is taken from, and the definition whose points and sites have names.
+// The allocator, and the definition that names points and sites.
 #[derive(Clone, Copy)]
 pub(crate) struct Writer<'a> {
     pub(crate) alloc: Global,
@@ -14,7 +14,7 @@ pub(crate) struct Writer<'a> {
 }
 
 impl Writer<'_> {
-    // The name of a point, empty past the last.
+    // Returns the name of a point, and the empty text past the last.
     pub(crate) fn point_name(&self, point: u32) -> &str
         ensures value { result.now ≡ (point_at self.now.definition.now point).name }
     {
@@ -24,7 +24,7 @@ impl Writer<'_> {
         }
     }
 
-    // The name of a site, empty past the last.
+    // Returns the name of a site, and the empty text past the last.
     pub(crate) fn site_name(&self, site: u32) -> &str
         ensures value { result.now ≡ (site_at self.now.definition.now site).name }
     {

@@ -8,11 +8,11 @@ use mh_cert::Plan;
 use serde_json::{Value, json};
 use std::alloc::{AllocError, Global};
 
-/// An item of a list that a plan has.
+/// An item of a list in a plan.
 trait ListItem {
     ghost json: { Self → Data };
 
-    /// The item as JSON.
+    /// Returns the item as JSON.
     fn value(&self, alloc: Global) -> Result<Value, AllocError>
         ensures value { IfOk result (λ v. view v ≡ json self.now) };
 }
@@ -61,7 +61,7 @@ fn push_items<T: ListItem>(
     Ok(())
 }
 
-/// A list as a JSON array.
+/// Returns a list as a JSON array.
 fn list_value<T: ListItem>(alloc: Global, items: &[T]) -> Result<Value, AllocError>
     ensures value { IfOk result (λ v. view v ≡ array (items_of (map T.json items.now))) }
 {
@@ -70,7 +70,7 @@ fn list_value<T: ListItem>(alloc: Global, items: &[T]) -> Result<Value, AllocErr
     Ok(Value::Array(list))
 }
 
-/// A plan that pays no charge as a JSON object of these parts.
+/// Returns a plan that pays no charge as a JSON object.
 fn uncharged_value(
     alloc: Global,
     flow: Value,
@@ -84,7 +84,7 @@ fn uncharged_value(
     json!(in alloc; {"flow": flow, "links": links, "points": points, "value": worth})
 }
 
-/// A plan that pays charges as a JSON object of these parts.
+/// Returns a plan that pays charges as a JSON object.
 fn charged_value(
     alloc: Global,
     charges: Value,
@@ -99,7 +99,7 @@ fn charged_value(
     json!(in alloc; {"charges": charges, "flow": flow, "links": links, "points": points, "value": worth})
 }
 
-/// A plan as a JSON object.
+/// Returns a plan as a JSON object.
 #[tactic(auto, using(crate::proofs::PlanData::charges_first, crate::proofs::PlanData::no_charges_first))]
 fn plan_value(alloc: Global, plan: &Plan) -> Result<Value, AllocError>
     ensures value { IfOk result (λ v. view v ≡ plan_data plan.now) }
@@ -114,8 +114,8 @@ fn plan_value(alloc: Global, plan: &Plan) -> Result<Value, AllocError>
     charged_value(alloc, charges, flow, links, points, plan.value)
 }
 
-/// A plan as compact JSON with its keys in the order charges, flow, links, points, value, of the
-/// form that `read_plan` reads. Where nothing is paid of charges the first key is absent.
+/// Returns a plan as compact JSON, with its keys in the order charges, flow, links, points, value,
+/// in the form that `read_plan` reads. If no charge is paid, the first key is absent.
 pub fn plan_json(alloc: Global, plan: &Plan) -> Result<String, AllocError>
     ensures value { IfOk result (λ s. string_bytes s ≡ json_of plan.now) }
 {

@@ -1,4 +1,4 @@
-//! A problem and a plan, which is claimed to be best.
+//! A problem with a plan that is claimed to be optimal.
 ghost use Rattle.serde_json.specs.View.{view};
 ghost use Rattle.mh_json.specs.Claims.{claim_read};
 ghost use Rattle.mh_json.specs.Gives.{Gives};
@@ -13,14 +13,14 @@ use mh_network::Problem;
 use serde_json::Value;
 use std::alloc::Global;
 
-/// A problem, and what is said to be a best plan of it.
+/// A problem and the plan that is claimed to be optimal for it.
 #[derive(Drop)]
 pub struct Claim {
     pub problem: Problem,
     pub plan: Plan,
 }
 
-/// A problem, which is read and made, and then a plan.
+/// Reads a problem, makes it, and then reads a plan.
 pub(crate) fn read_placed_claim(alloc: Global, value: &Value) -> Result<Claim, Misread>
     ensures value { Gives (λ x. x) result (claim_read (view value.now)) }
 {

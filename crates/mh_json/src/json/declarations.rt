@@ -1,4 +1,4 @@
-//! What a script declares, and the names that its events may use.
+//! The definition of a script, and the names that its events may use.
 ghost use Rattle.std.specs.Prelude.{◌≡◌};
 ghost use Rattle.mh_site.specs.NamesInOrder.{place_of};
 ghost use Rattle.mh_json.specs.Script.{parameters_at};
@@ -15,14 +15,15 @@ pub struct Declarations {
 }
 
 impl Declarations {
-    /// The number of a site by its name: one past the last where no site has it.
+    /// Returns the number of a site by its name, or one past the last number if no site has the
+    /// name.
     pub fn site_number(&self, name: &str) -> usize
         ensures value { result ≡ place_of self.now.scope.sites name.now }
     {
         self.scope.sites.place(name)
     }
 
-    /// The parameters of a site, none past the last.
+    /// Returns the parameters of a site, and none past the last site.
     pub fn parameters(&self, site: usize) -> &[Kind]
         ensures value { result.now ≡ parameters_at self.now.definition site }
     {

@@ -21,7 +21,7 @@ use mh_site::Listing;
 use serde_json::Value;
 use std::alloc::Global;
 
-/// The number of a site by its name: one past the last where no site has it.
+/// Returns the number of a site by its name, or one past the last number if no site has the name.
 fn read_named_site(declared: &Declarations, value: &Value) -> Result<usize, Misread>
     ensures value { Gives (λ x. x) result
         (named_site_of declared.now.scope.sites (view value.now)) }
@@ -123,7 +123,7 @@ fn read_plan_step(alloc: Global, args: &[Value]) -> Result<Step, Misread>
     Ok(Step::Plan { snapshot })
 }
 
-/// The event that a word heads.
+/// Reads the arguments of an event, by its word.
 fn read_event(
     alloc: Global,
     declared: &Declarations,
@@ -144,7 +144,7 @@ fn read_event(
     }
 }
 
-/// The step that a word heads.
+/// Reads the arguments of a step, by its word.
 fn read_named(
     alloc: Global,
     declared: &Declarations,
@@ -160,7 +160,7 @@ fn read_named(
     Ok(Step::Ask(event))
 }
 
-/// A step of a script: a word, and what it heads.
+/// Reads a step of a script: a list of a word and its arguments.
 pub(crate) fn read_step(
     alloc: Global,
     declared: &Declarations,
@@ -177,7 +177,7 @@ pub(crate) fn read_step(
     }
 }
 
-/// The steps of a script, whose fault knows its place.
+/// Reads the steps of a script. The fault has its place.
 pub(crate) fn read_events(
     alloc: Global,
     declared: &Declarations,
@@ -188,7 +188,7 @@ pub(crate) fn read_events(
     each(alloc, value, |event| read_step(alloc, declared, event))
 }
 
-/// The step of this number, from 1.
+/// Reads the step with this number, counted from 1.
 fn read_numbered(
     alloc: Global,
     declared: &Declarations,
@@ -207,7 +207,7 @@ fn read_numbered(
     }
 }
 
-/// One step more, of this number.
+/// Appends the step with this number.
 fn push_step(steps: &mut Vec<Step>, step: Step, at: u64) -> Result<(), Fault>
     ensures ok { OnOk result (steps.new.items ≡ steps.old.items ++ step ∷ []) }
     ensures memory { IfErr result (λ e. e ≡ record { kind = no_memory; at = at }) }
@@ -221,7 +221,7 @@ fn push_step(steps: &mut Vec<Step>, step: Step, at: u64) -> Result<(), Fault>
     }
 }
 
-/// The steps; the first fault of one has its step's number, from 1.
+/// Reads the steps. The first fault has the number of its step, counted from 1.
 pub(crate) fn read_steps(
     alloc: Global,
     declared: &Declarations,

@@ -1,4 +1,4 @@
-//! What an input is read as.
+//! The forms of inputs.
 ghost use Rattle.std.specs.Prelude.{◌≡◌, IfOk};
 ghost use Rattle.serde_json.specs.View.{view};
 ghost use Rattle.mh_json.specs.Forms.{misread_by};
@@ -11,20 +11,21 @@ use mh_core::NoMemory;
 use serde_json::Value;
 use std::alloc::Global;
 
-/// What an input is read as.
+/// The forms of inputs.
 #[derive(Clone, Copy, Debug, PartialEq, Eq)]
 pub enum InputForm {
-    /// A script, which is run.
+    /// A script, for `mhlink run` and `mhlink stress`.
     Script,
-    /// A problem, which is planned.
+    /// A problem, for `mhlink plan`.
     Problem,
-    /// A problem and a plan of it, which is checked.
+    /// A problem and a plan for it, for `mhlink check`.
     Claim,
 }
 
-/// The first fault of a value that is read so, and the part that has it; none where it has no fault.
+/// Returns the first fault found when `value` is read as this form, with the path of the offending
+/// part, or `None` if there is no fault.
 ///
-/// Links and costs that make no problem have the problem itself as the part. Fails only if memory
+/// If links and costs do not make a problem, the part is the problem itself. Fails only if memory
 /// runs out.
 pub fn first_misread(
     alloc: Global,

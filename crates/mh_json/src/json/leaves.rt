@@ -1,4 +1,4 @@
-//! Trees in JSON that have no tree inside.
+//! Leaves of trees in JSON.
 ghost use Rattle.std.specs.Prelude.{◌≡◌, map};
 ghost use Rattle.serde_json.specs.View.{view};
 ghost use Rattle.mh_json.specs.Gives.{Gives};
@@ -14,7 +14,7 @@ use mh_tree::Handle;
 use serde_json::Value;
 use std::alloc::Global;
 
-/// A constant of a kind.
+/// Reads a constant of a kind.
 pub(crate) fn read_leaf_constant(
     alloc: Global,
     scope: &Scope,
@@ -30,7 +30,7 @@ pub(crate) fn read_leaf_constant(
     Ok(Handle::constant(alloc, &value)?)
 }
 
-/// The identity of a kind.
+/// Reads the identity of a kind.
 pub(crate) fn read_identity(alloc: Global, scope: &Scope, args: &[Value]) -> Result<Handle, Misread>
     ensures value { Gives (λ x. x) result (identity_from (map (part scope.now) args.now)) }
 {
@@ -41,7 +41,7 @@ pub(crate) fn read_identity(alloc: Global, scope: &Scope, args: &[Value]) -> Res
     Ok(Handle::identity(alloc, kind)?)
 }
 
-/// A leaf operation.
+/// Reads a leaf operation.
 pub(crate) fn read_operation(
     alloc: Global,
     scope: &Scope,
@@ -56,21 +56,21 @@ pub(crate) fn read_operation(
     Ok(Handle::op(alloc, op)?)
 }
 
-/// The shared tree of a name, which stands earlier.
+/// Returns the shared tree of a name, which must be declared earlier.
 fn read_shared_name(scope: &Scope, value: &Value) -> Result<Handle, Misread>
     ensures value { Gives (λ x. x) result (shared_name_of scope.now (view value.now)) }
 {
     scope.tree_named(text(value, Wanted::NameOf(Named::Shared))?)
 }
 
-/// The invocation of the site of a name, which stands earlier.
+/// Returns an invocation of the site of a name, which must be declared earlier.
 fn read_site_name(alloc: Global, scope: &Scope, value: &Value) -> Result<Handle, Misread>
     ensures value { Gives (λ x. x) result (site_name_of scope.now (view value.now)) }
 {
     scope.invocation_named(alloc, text(value, Wanted::NameOf(Named::Site))?)
 }
 
-/// A shared tree that stands earlier.
+/// Reads a reference to a shared tree that is declared earlier.
 pub(crate) fn read_ref(alloc: Global, scope: &Scope, args: &[Value]) -> Result<Handle, Misread>
     ensures value { Gives (λ x. x) result (ref_from scope.now (map (part scope.now) args.now)) }
 {
@@ -80,7 +80,7 @@ pub(crate) fn read_ref(alloc: Global, scope: &Scope, args: &[Value]) -> Result<H
     at(alloc, Key::Item(1), read_shared_name(scope, name))
 }
 
-/// The invocation of a site that stands earlier.
+/// Reads an invocation of a site that is declared earlier.
 pub(crate) fn read_invocation(
     alloc: Global,
     scope: &Scope,

@@ -13,14 +13,14 @@ use mh_core::{LARGEST_LEDGER, LARGEST_TOTAL, LONGEST_HISTORY, Limits};
 use serde_json::Value;
 use std::alloc::Global;
 
-/// The limits, each in its range.
+/// Reads the limits, each in its range.
 fn limits(history: u64, ledger: u64, total: u64) -> Result<Limits, Misread>
     ensures value { Gives (λ x. x) result (limits_made history ledger total) }
 {
     Limits::new(history, ledger, total).ok_or(Misread::bad_shape(Wanted::Limits))
 }
 
-/// The most hits that a worker may hold.
+/// Reads the most unflushed hits of a worker.
 fn held(value: &Value) -> Result<u64, Misread>
     ensures value { Gives (λ x. x) result (count_of (2 ^ 63 - 1) (view value.now)) }
 {
@@ -28,7 +28,7 @@ fn held(value: &Value) -> Result<u64, Misread>
     count(value, MOST, Wanted::Number { least, most })
 }
 
-/// The limits of an object, each the greatest where it is absent.
+/// Reads the limits of an object. Each defaults to its maximum.
 fn read_given_limits(alloc: Global, value: &Value) -> Result<Limits, Misread>
     ensures value { Gives (λ x. x) result (limits_in (view value.now)) }
 {
@@ -53,7 +53,7 @@ fn read_given_limits(alloc: Global, value: &Value) -> Result<Limits, Misread>
     limits(history, ledger, total)
 }
 
-/// The limits of a script: `limits` may be absent.
+/// Reads the limits of a script. The key `limits` is optional.
 pub(crate) fn read_limits(alloc: Global, script: &Value) -> Result<Limits, Misread>
     ensures value { Gives (λ x. x) result (limits_of (view script.now)) }
 {

@@ -16,7 +16,7 @@ use mh_type::Kind;
 use serde_json::Value;
 use std::alloc::Global;
 
-/// A link: its key, read as of this kind, its weight, its charge and its needs.
+/// Reads a link: its key, which has this kind, its weight, its charge and its needs.
 pub fn read_link(
     alloc: Global,
     version: Version,
@@ -54,7 +54,7 @@ pub fn read_link(
     })
 }
 
-/// The links of a site, whose keys are of this kind.
+/// Reads the links of a site, whose keys have this kind.
 pub fn read_links(
     alloc: Global,
     version: Version,

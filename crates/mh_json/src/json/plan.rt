@@ -17,21 +17,21 @@ use mh_network::Listing;
 use serde_json::Value;
 use std::alloc::Global;
 
-/// A whole number of 64 bits with a sign.
+/// Reads a signed whole number of 64 bits.
 fn read_signed(value: &Value) -> Result<i64, Misread>
     ensures value { Gives (λ x. x) result (signed_of (view value.now)) }
 {
     value.as_i64().ok_or(Misread::bad_shape(Wanted::Signed))
 }
 
-/// What is paid of a charge or a cost: a whole number of 64 bits.
+/// Reads the amount paid of a charge or a cost: a whole number of 64 bits.
 fn paid(value: &Value) -> Result<u64, Misread>
     ensures value { Gives (λ x. x) result (count_of (2 ^ 64 - 1) (view value.now)) }
 {
     count(value, u64::MAX, Wanted::up_to(u64::MAX))
 }
 
-/// A link, a point, and an amount.
+/// Reads a link, a point, and an amount.
 fn read_parts(alloc: Global, parts: &[Value]) -> Result<(u32, u32, u64), Misread>
     ensures value { Gives (λ x. x) result (flow_row_from (map view parts.now)) }
 {
@@ -44,21 +44,21 @@ fn read_parts(alloc: Global, parts: &[Value]) -> Result<(u32, u32, u64), Misread
     Ok((link, point, amount))
 }
 
-/// A row of a flow: a link, a point, and an amount.
+/// Reads a row of a flow: a link, a point, and an amount.
 fn read_flow_row(alloc: Global, value: &Value) -> Result<(u32, u32, u64), Misread>
     ensures value { Gives (λ x. x) result (flow_row_of (view value.now)) }
 {
     read_parts(alloc, list(value, Wanted::FlowRow)?)
 }
 
-/// The rows of a flow.
+/// Reads the rows of a flow.
 fn read_flow(alloc: Global, value: &Value) -> Result<Listing<(u32, u32, u64)>, Misread>
     ensures value { Gives (λ x. x) result (flow_of (view value.now)) }
 {
     each(alloc, value, |row| read_flow_row(alloc, row))
 }
 
-/// A link and an amount.
+/// Reads a link and an amount.
 fn read_charge_parts(alloc: Global, parts: &[Value]) -> Result<(u32, u64), Misread>
     ensures value { Gives (λ x. x) result (charge_row_from (map view parts.now)) }
 {
@@ -70,21 +70,21 @@ fn read_charge_parts(alloc: Global, parts: &[Value]) -> Result<(u32, u64), Misre
     Ok((link, amount))
 }
 
-/// What a link pays of its charge: the link, and the amount.
+/// Reads the amount that a link pays of its charge: the link, and the amount.
 fn read_charge_row(alloc: Global, value: &Value) -> Result<(u32, u64), Misread>
     ensures value { Gives (λ x. x) result (charge_row_of (view value.now)) }
 {
     read_charge_parts(alloc, list(value, Wanted::ChargeRow)?)
 }
 
-/// What links pay of their charges.
+/// Reads the amounts that links pay of their charges.
 fn read_charges(alloc: Global, value: &Value) -> Result<Listing<(u32, u64)>, Misread>
     ensures value { Gives (λ x. x) result (charges_of (view value.now)) }
 {
     each(alloc, value, |row| read_charge_row(alloc, row))
 }
 
-/// The plan that a value is.
+/// Reads a plan.
 pub fn read_plan_value(alloc: Global, value: &Value) -> Result<Plan, Misread>
     ensures value { Gives (λ x. x) result (plan_of (view value.now)) }
 {
@@ -119,7 +119,7 @@ pub fn read_plan_value(alloc: Global, value: &Value) -> Result<Plan, Misread>
     })
 }
 
-/// The plan that a value, or what it has at a key, is.
+/// Reads a plan from a value, or from its member at a key.
 pub fn read_plan_at(alloc: Global, value: &Value, key: Option<&str>) -> Result<Plan, Fault>
     ensures value { GivesAt (λ x. x) result
         (at_place 0 (plan_at (option_map (λ k. k.now) key.entry) (view value.now))) }
@@ -128,13 +128,13 @@ pub fn read_plan_at(alloc: Global, value: &Value, key: Option<&str>) -> Result<P
     Ok(read_plan_value(alloc, part_at(value, key)?)?)
 }
 
-/// The plan that an input is, or that its JSON object has at the key `member`.
+/// Reads the plan that an input is, or that its JSON object has at the key `member`.
 ///
 /// A plan is `{"charges":[[link,amount]..],"flow":[[link,point,amount]..],"links":[N..],
-/// "points":[N..],"value":N}`, links and points by number, where `charges` may be absent, which is
-/// the empty list. The numbers of links and points are 0 to 2^32 - 1, amounts 0 to 2^64 - 1, and
-/// the value has 64 bits with a sign. The first fault is returned, at 0: the input's length, its
-/// JSON, and then BadShape where a part is missing, of another form, or out of its range.
+/// "points":[N..],"value":N}`, with links and points by number. `charges` is optional and defaults
+/// to the empty list. The numbers of links and points are 0 to 2^32 - 1, amounts 0 to 2^64 - 1, and
+/// the value is a signed number of 64 bits. Fails with the first fault, at 0: the input's length,
+/// its JSON, and then BadShape if a part is missing, has another form, or is out of range.
 pub fn read_plan(alloc: Global, input: &[u8], member: Option<&str>) -> Result<Plan, Fault>
     ensures value { GivesAt (λ x. x) result
         (plan_of_input (option_map (λ k. k.now) member.entry) input.now) }

@@ -15,14 +15,14 @@ use mh_site::{GREATEST_COST, Listing, Name, Names, Point};
 use serde_json::Value;
 use std::alloc::{AllocError, Global};
 
-/// A name.
+/// Reads a name.
 pub fn read_name(alloc: Global, value: &Value) -> Result<Name, Misread>
     ensures value { Gives (λ x. x) result (text_of (view value.now)) }
 {
     Ok(Name::new(alloc, text(value, Wanted::Text)?)?)
 }
 
-/// A point: its name, then its cost.
+/// Reads a point: its name, then its cost.
 pub fn read_point(alloc: Global, value: &Value) -> Result<Point, Misread>
     ensures value { Gives (λ x. x) result (point_of (view value.now)) }
 {
@@ -36,7 +36,7 @@ pub fn read_point(alloc: Global, value: &Value) -> Result<Point, Misread>
     Ok(Point { name, cost })
 }
 
-/// The points of a definition, each its name and its cost.
+/// Reads the points of a definition.
 pub fn read_points(alloc: Global, value: &Value) -> Result<Listing<Point>, Misread>
     ensures value { Gives (λ x. x) result (points_of (view value.now)) }
 {
@@ -54,14 +54,14 @@ pub fn point_names(alloc: Global, points: &[Point]) -> Result<Names, AllocError>
     Ok(names)
 }
 
-/// The number of a point by its name: one past the last where no point has it.
+/// Returns the number of a point by its name, or one past the last number if no point has the name.
 pub fn read_named_point(scope: &Scope, value: &Value) -> Result<u32, Misread>
     ensures value { Gives (λ x. x) result (named_point_of scope.now.points (view value.now)) }
 {
     Ok(scope.point_number(text(value, Wanted::NameOf(Named::Point))?))
 }
 
-/// The numbers of points that are named in a list.
+/// Reads a list of names of points, and returns their numbers.
 pub fn read_named_points(
     alloc: Global,
     scope: &Scope,

@@ -32,7 +32,7 @@ pub struct ProblemRows {
     pub costs: Listing<u64>,
 }
 
-/// The numbers of links or points in a list.
+/// Reads a list of the numbers of links or points.
 pub(crate) fn read_numbers(
     alloc: Global,
     numbered: Numbered,
@@ -43,29 +43,29 @@ pub(crate) fn read_numbers(
     each(alloc, value, |item| number(item, numbered))
 }
 
-/// A gain or a cost, of which no more than the greatest sum is lawful.
+/// Reads a gain or a cost. More than the greatest sum is not lawful.
 fn sum(value: &Value) -> Result<u64, Misread>
     ensures value { Gives (λ x. x) result (count_of (2 ^ 63 - 1) (view value.now)) }
 {
     amount(value, GREATEST_SUM)
 }
 
-/// The costs of points.
+/// Reads the costs of points.
 fn read_costs(alloc: Global, value: &Value) -> Result<Listing<u64>, Misread>
     ensures value { Gives (λ x. x) result (counts_of (2 ^ 63 - 1) (view value.now)) }
 {
     each(alloc, value, sum)
 }
 
-/// Whether something is so.
+/// Reads a truth value.
 fn read_truth(value: &Value) -> Result<bool, Misread>
     ensures value { Gives (λ x. x) result (truth_of (view value.now)) }
 {
     value.as_bool().ok_or(Misread::bad_shape(Wanted::Truth))
 }
 
-/// A link of a problem: its gain, whether it may be chosen, which it may where nothing is said, its
-/// needs and its charge.
+/// Reads a link of a problem: its gain, whether it is eligible (default `true`), its needs and its
+/// charge.
 fn read_row(alloc: Global, version: Version, link: &Value) -> Result<LinkRow, Misread>
     ensures value { Gives (λ x. x) result (row_of version (view link.now)) }
 {
@@ -86,7 +86,7 @@ fn read_row(alloc: Global, version: Version, link: &Value) -> Result<LinkRow, Mi
     })
 }
 
-/// The links of a problem.
+/// Reads the links of a problem.
 fn read_row_list(
     alloc: Global,
     version: Version,
@@ -97,7 +97,7 @@ fn read_row_list(
     each(alloc, value, |link| read_row(alloc, version, link))
 }
 
-/// The version, the costs and the links of a problem.
+/// Reads the version, the costs and the links of a problem.
 pub fn read_rows(alloc: Global, problem: &Value) -> Result<ProblemRows, Misread>
     ensures value { Gives (λ x. x) result (rows_of (view problem.now)) }
 {
@@ -121,7 +121,7 @@ pub fn read_rows(alloc: Global, problem: &Value) -> Result<ProblemRows, Misread>
     })
 }
 
-/// The rows that a value, or what it has at a key, says.
+/// Reads the rows of a problem from a value, or from its member at a key.
 fn read_rows_at(alloc: Global, value: &Value, key: Option<&str>) -> Result<ProblemRows, Misread>
     ensures value { Gives (λ x. x) result
         (rows_at (option_map (λ k. k.now) key.entry) (view value.now)) }
@@ -129,8 +129,8 @@ fn read_rows_at(alloc: Global, value: &Value, key: Option<&str>) -> Result<Probl
     read_rows(alloc, part_at(value, key)?)
 }
 
-/// The problem of rows that were read: the first fault is too many links or points for their
-/// version, and then what `Problem::placed` refuses.
+/// Makes the problem of rows that were read. Fails if there are too many links or points for their
+/// version, and then as `Problem::placed` does.
 fn make_problem(alloc: Global, rows: &ProblemRows) -> Result<Problem, ProblemMisfit>
     ensures made { IfOk result (λ p. IsMade rows.now p) }
     ensures refused { let tests = version_tests rows.now.version rows.now.links rows.now.costs in
@@ -157,7 +157,7 @@ fn make_problem(alloc: Global, rows: &ProblemRows) -> Result<Problem, ProblemMis
     Problem::placed(alloc, links, costs)
 }
 
-/// A problem: its rows, and then the fault of what they make.
+/// Reads the rows of a problem, and makes the problem.
 pub(crate) fn read_problem_value(alloc: Global, value: &Value) -> Result<Problem, Misread>
     ensures value { Gives (λ x. x) result (problem_read (view value.now)) }
 {
@@ -168,7 +168,7 @@ pub(crate) fn read_problem_value(alloc: Global, value: &Value) -> Result<Problem
     }
 }
 
-/// The problem of rows that were read, its fault at 0.
+/// Makes the problem of rows that were read. A fault is at 0.
 fn problem_of(alloc: Global, rows: &ProblemRows) -> Result<Problem, Fault>
     ensures value { MakesProblem (Ok rows.now) result }
     ensures kind { IfErr result (λ e. IsOfInput e.kind) }
@@ -179,7 +179,7 @@ fn problem_of(alloc: Global, rows: &ProblemRows) -> Result<Problem, Fault>
     }
 }
 
-/// The problem that a value, or what it has at a key, is.
+/// Reads a problem from a value, or from its member at a key.
 pub fn read_problem_at(alloc: Global, value: &Value, key: Option<&str>) -> Result<Problem, Fault>
     ensures value { MakesProblem (at_place 0
         (rows_at (option_map (λ k. k.now) key.entry) (view value.now))) result }
@@ -189,15 +189,15 @@ pub fn read_problem_at(alloc: Global, value: &Value, key: Option<&str>) -> Resul
     problem_of(alloc, &rows)
 }
 
-/// The problem of selection that an input is, or that its JSON object has at the key `member`.
+/// Reads the problem of selection that an input is, or that its JSON object has at the key
+/// `member`.
 ///
-/// A problem is `{"version":2,"costs":[N..],"links":[LINK..]}`, and a LINK of it
-/// `{"gain":N,"eligible":true,"needs":[N..],"charge":N}`, where `eligible` may be absent, which is
-/// true, and `charge`, which is 0. Numbers are 0 to 2^63 - 1, those of points in `needs` 0 to
-/// 2^32 - 1. In version 1 `charge` means nothing, and there are at most 4,096 links and 1,024
-/// points. The first fault is returned, at 0: the input's length, its JSON, the shapes of the
-/// version, the costs and the links in order, too many links or points for the version, and then
-/// what `Problem::new` refuses.
+/// A problem is `{"version":2,"costs":[N..],"links":[LINK..]}`, and a LINK is
+/// `{"gain":N,"eligible":true,"needs":[N..],"charge":N}`; `eligible` defaults to true, and `charge`
+/// to 0. Numbers are 0 to 2^63 - 1, those of points in `needs` 0 to 2^32 - 1. Version 1 ignores
+/// `charge`, and allows at most 4,096 links and 1,024 points. Fails with the first fault, at 0: the
+/// input's length, its JSON, the shapes of the version, the costs and the links in order, too many
+/// links or points for the version, and then the faults of `Problem::new`.
 pub fn read_problem(alloc: Global, input: &[u8], member: Option<&str>) -> Result<Problem, Fault>
     ensures value { MakesProblem (rows_of_input (option_map (λ k. k.now) member.entry) input.now)
         result }

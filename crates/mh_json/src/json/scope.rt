@@ -13,30 +13,30 @@ use mh_tree::Handle;
 use mh_type::MethodType;
 use std::alloc::Global;
 
-/// A tree that later ones may name.
+/// A tree that later trees may refer to by name.
 #[derive(Drop)]
 pub struct Shared {
     pub name: Name,
     pub tree: Handle,
 }
 
-/// Points by their names, and the shared trees and the sites so far.
+/// The names of all points, and the shared trees and sites declared so far.
 #[derive(Drop)]
 pub struct Scope {
     /// The names of the points, by number.
     pub points: Names,
-    /// The names of the shared trees, in the order in which they stand.
+    /// The names of the shared trees, in the order of their declarations.
     pub names: Names,
     /// The shared trees, by the numbers of their names.
     pub trees: Listing<Handle>,
-    /// The names of the sites that a tree may invoke, in the order in which they stand.
+    /// The names of the sites that a tree may invoke, in the order of their declarations.
     pub sites: Names,
     /// The types of these sites, by the numbers of their names.
     pub types: Listing<MethodType>,
 }
 
 impl Scope {
-    /// The points of these names, no shared tree and no site.
+    /// Makes a scope of points with these names, without shared trees and sites.
     pub fn new(alloc: Global, points: Names) -> Scope
         ensures value { result ≡ without_shared points }
     {
@@ -49,7 +49,7 @@ impl Scope {
         }
     }
 
-    /// Puts a shared tree last. Where memory is refused, all is as it was.
+    /// Appends a shared tree. If memory runs out, nothing changes.
     pub fn add(&mut self, shared: Shared) -> Result<(), Misread>
         ensures value { OnOk result (self.new ≡ with_shared self.old shared) }
         ensures refused { IfErr result (λ e. e.fault ≡ NoMemory) }
@@ -64,8 +64,8 @@ impl Scope {
         Ok(())
     }
 
-    /// Puts a site last, so that later trees may invoke it. Of one name, the first site stays. Where
-    /// memory is refused, all is as it was.
+    /// Appends a site, so that later trees may invoke it. If several sites have one name, it stays
+    /// the name of the first. If memory runs out, nothing changes.
     pub fn add_site(&mut self, site: &Site) -> Result<(), Misread>
         ensures value { OnOk result (self.new ≡ with_site self.old site.now) }
         ensures refused { IfErr result (λ e. e.fault ≡ NoMemory) }
@@ -82,7 +82,7 @@ impl Scope {
         Ok(())
     }
 
-    /// The invocation of a site by its name, with the site's type.
+    /// Returns an invocation of a site by its name, with the site's type.
     pub fn invocation_named(&self, alloc: Global, name: &str) -> Result<Handle, Misread>
         ensures value { Gives (λ x. x) result (invocation_named self.now name.now) }
     {
@@ -93,21 +93,23 @@ impl Scope {
         }
     }
 
-    /// The number of a site by its name: one past the last where no site so far has it.
+    /// Returns the number of a site by its name, or one past the last number if no site so far has
+    /// the name.
     fn site_number(&self, name: &str) -> u32
         ensures value { result ≡ point_place self.now.sites name.now }
     {
         u32::try_from(self.sites.place(name)).unwrap_or(u32::MAX)
     }
 
-    /// The number of a point by its name: one past the last where no point has it.
+    /// Returns the number of a point by its name, or one past the last number if no point has the
+    /// name.
     pub fn point_number(&self, name: &str) -> u32
         ensures value { result ≡ point_place self.now.points name.now }
     {
         u32::try_from(self.points.place(name)).unwrap_or(u32::MAX)
     }
 
-    /// Another owner of the shared tree of a name.
+    /// Returns another owner of the shared tree of a name.
     pub fn tree_named(&self, name: &str) -> Result<Handle, Misread>
         ensures value { Gives (λ x. x) result (shared_named self.now name.now) }
     {

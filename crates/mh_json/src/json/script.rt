@@ -28,7 +28,7 @@ use mh_site::{Definition, Listing, Point, Site, Version};
 use serde_json::Value;
 use std::alloc::Global;
 
-/// What a run needs.
+/// The script of a run.
 #[derive(Debug, Drop)]
 pub struct Script {
     pub definition: Definition,
@@ -37,7 +37,7 @@ pub struct Script {
     pub steps: Listing<Step>,
 }
 
-/// What a script says before its events.
+/// The part of a script before its events.
 #[derive(Drop)]
 pub struct Preamble {
     pub declared: Declarations,
@@ -46,7 +46,7 @@ pub struct Preamble {
 }
 
 impl Preamble {
-    /// The script that goes on with these steps.
+    /// Returns the script with these steps.
     fn with_steps(self, steps: Listing<Step>) -> Script
         ensures value { result ≡ script_with self steps }
     {
@@ -65,7 +65,7 @@ impl Preamble {
     }
 }
 
-/// The definition of points and sites that were read.
+/// Makes the definition of points and sites that were read.
 fn define(
     alloc: Global,
     version: Version,
@@ -81,8 +81,7 @@ fn define(
     }
 }
 
-/// A definition: its version, points, shared trees and sites, and then the faults of what they
-/// make.
+/// Reads a definition: its version, points, shared trees and sites, and then makes it.
 #[tactic(auto, unfolding(crate::specs::Script::definition_of))]
 pub fn read_definition(alloc: Global, value: &Value) -> Result<Declarations, Misread>
     ensures value { Gives (λ x. x) result (definition_of (view value.now)) }
@@ -101,7 +100,7 @@ pub fn read_definition(alloc: Global, value: &Value) -> Result<Declarations, Mis
     Ok(Declarations { definition, scope })
 }
 
-/// The number of workers: 1 to 64.
+/// Reads the number of workers: 1 to 64.
 fn read_workers(value: &Value) -> Result<u32, Misread>
     ensures value { Gives (λ x. x) result (workers_of (view value.now)) }
 {
@@ -112,7 +111,7 @@ fn read_workers(value: &Value) -> Result<u32, Misread>
     Ok(workers as u32)
 }
 
-/// What a script declares, its workers and its limits.
+/// Reads the definition of a script, its workers and its limits.
 #[tactic(auto, unfolding(crate::specs::Script::preamble_of))]
 fn read_preamble(alloc: Global, value: &Value) -> Result<Preamble, Misread>
     ensures value { Gives (λ x. x) result (preamble_of (view value.now)) }
@@ -145,8 +144,8 @@ fn read_step_list(
     read_steps(alloc, declared, events)
 }
 
-/// The script that a JSON value is, or its first fault in the order of reading: what it says before
-/// its events, and then the events.
+/// Reads a script from a JSON value. Fails with the first fault in the order of reading: the part
+/// before the events, and then the events.
 pub fn read_script_value(alloc: Global, value: &Value) -> Result<Script, Fault>
     ensures value { GivesUpTo (IsReached (view value.now)) result (script_of (view value.now)) }
     ensures kind { IfErr result (λ e. IsOfInput e.kind) }
@@ -156,7 +155,7 @@ pub fn read_script_value(alloc: Global, value: &Value) -> Result<Script, Fault>
     Ok(preamble.with_steps(steps))
 }
 
-/// The same, whose fault knows its place.
+/// Reads a script from a JSON value. The fault has its place.
 pub(crate) fn read_placed_script(alloc: Global, value: &Value) -> Result<Script, Misread>
     ensures value { Gives (λ x. x) result (script_read (view value.now)) }
 {
@@ -171,8 +170,9 @@ pub(crate) fn read_placed_script(alloc: Global, value: &Value) -> Result<Script,
     Ok(preamble.with_steps(steps))
 }
 
-/// The script of an input, or its first fault in the order of reading: its length, JSON, the
-/// definition (version, points, shared trees, sites), the workers, the limits, the events.
+/// Reads a script from an input. Fails with the first fault in the order of reading: its length,
+/// its JSON, the definition (version, points, shared trees, sites), the workers, the limits, the
+/// events.
 pub fn read_script(alloc: Global, input: &[u8]) -> Result<Script, Fault>
     ensures value { GivesUpTo (IsReachedIn input.now) result (script_of_input input.now) }
     ensures kind { IfErr result (λ e. IsOfInput e.kind) }

@@ -1,4 +1,4 @@
-//! The parts of a JSON value, each with its fault where it is not of its form.
+//! Readers of the parts of a JSON value. Each fails if the part does not have its form.
 ghost use Rattle.std.specs.Prelude.{◌≡◌, ◌^◌, ◌-◌, map, option_map, Result};
 ghost use Rattle.std.specs.Fn.{FnReturnsAt};
 ghost use Rattle.serde_json.specs.Data.{Data};
@@ -16,13 +16,13 @@ use mh_type::MOST_PARAMETERS;
 use serde_json::Value;
 use std::alloc::Global;
 
-/// The greatest N of a script, whose counts are 0 to 2^63 - 1.
+/// The greatest number in a script: counts are 0 to 2^63 - 1.
 pub(crate) const MOST: u64 = 0x7fff_ffff_ffff_ffff;
 
 /// The greatest number of a worker, a link or a point that an input can name.
 const LAST_NUMBER: u64 = 0xffff_ffff;
 
-/// The items of an array.
+/// Returns the items of an array.
 #[tactic(auto, using(crate::proofs::Shapes::list_of_array))]
 pub fn list(value: &Value, wanted: Wanted) -> Result<&[Value], Misread>
     ensures value { Gives (λ x. map view x.now) result (list_of (view value.now)) }
@@ -33,14 +33,14 @@ pub fn list(value: &Value, wanted: Wanted) -> Result<&[Value], Misread>
     }
 }
 
-/// A string.
+/// Returns the text of a string.
 pub fn text(value: &Value, wanted: Wanted) -> Result<&str, Misread>
     ensures value { Gives (λ x. x.now) result (text_of (view value.now)) }
 {
     value.as_str().ok_or(Misread::bad_shape(wanted))
 }
 
-/// What an object has at a key that has to be there.
+/// Returns the member of an object at a required key.
 pub fn part(value: &Value, field: Field) -> Result<&Value, Misread>
     ensures value { Gives (λ x. view x.now) result (part_of field (view value.now)) }
 {
@@ -49,7 +49,7 @@ pub fn part(value: &Value, field: Field) -> Result<&Value, Misread>
         .ok_or(Misread::bad_shape(Wanted::Missing(field)))
 }
 
-/// A value, or what it has at a key that has to be there.
+/// Returns a value, or its member at a required key.
 pub(crate) fn part_at<'a>(value: &'a Value, key: Option<&str>) -> Result<&'a Value, Misread>
     ensures value { Gives (λ x. view x.now) result
         (part_of_value (option_map (λ k. k.now) key.entry) (view value.now)) }
@@ -60,7 +60,7 @@ pub(crate) fn part_at<'a>(value: &'a Value, key: Option<&str>) -> Result<&'a Val
     }
 }
 
-/// What an object has at a key that has to be there, read so.
+/// Reads the member of an object at a required key.
 pub fn member<T: Drop, F: Fn(&Value) -> Result<T, Misread>>(
     alloc: Global,
     value: &Value,
@@ -77,7 +77,7 @@ pub fn member<T: Drop, F: Fn(&Value) -> Result<T, Misread>>(
     at(alloc, Key::Member(field), read(part))
 }
 
-/// What an object has at a key, read so, or this where it has none.
+/// Reads the member of an object at a key, or returns `absent` if there is none.
 pub fn member_or<T: Drop, F: Fn(&Value) -> Result<T, Misread>>(
     alloc: Global,
     value: &Value,
@@ -97,7 +97,7 @@ pub fn member_or<T: Drop, F: Fn(&Value) -> Result<T, Misread>>(
     }
 }
 
-/// A whole number from 0 to a bound.
+/// Reads a whole number from 0 to a bound.
 pub fn count(value: &Value, bound: u64, wanted: Wanted) -> Result<u64, Misread>
     ensures value { Gives (λ x. x) result (count_of bound (view value.now)) }
 {
@@ -107,42 +107,42 @@ pub fn count(value: &Value, bound: u64, wanted: Wanted) -> Result<u64, Misread>
     }
 }
 
-/// A cost, a weight, a charge or a level: 0 to 2^63 - 1, of which no more than this is lawful.
+/// Reads a cost, a weight, a charge or a level: 0 to 2^63 - 1. More than `lawful` is not lawful.
 pub(crate) fn amount(value: &Value, lawful: u64) -> Result<u64, Misread>
     ensures value { Gives (λ x. x) result (count_of (2 ^ 63 - 1) (view value.now)) }
 {
     count(value, MOST, Wanted::up_to(lawful))
 }
 
-/// A place in a list: 0 to 2^63 - 1.
+/// Reads an index: 0 to 2^63 - 1.
 pub fn place(value: &Value, wanted: Wanted) -> Result<usize, Misread>
     ensures value { Gives (λ x. x) result (count_of (2 ^ 63 - 1) (view value.now)) }
 {
     Ok(count(value, MOST, wanted)? as usize)
 }
 
-/// The place of a parameter.
+/// Reads the index of a parameter.
 pub(crate) fn parameter(value: &Value) -> Result<usize, Misread>
     ensures value { Gives (λ x. x) result (count_of (2 ^ 63 - 1) (view value.now)) }
 {
     place(value, Wanted::up_to(MOST_PARAMETERS as u64))
 }
 
-/// The places of parameters.
+/// Reads a list of indices of parameters.
 pub(crate) fn read_places(alloc: Global, value: &Value) -> Result<Listing<usize>, Misread>
     ensures value { Gives (λ x. x) result (counts_of (2 ^ 63 - 1) (view value.now)) }
 {
     each(alloc, value, parameter)
 }
 
-/// The number of something: a whole number of 32 bits.
+/// Reads the number of a thing: a whole number of 32 bits.
 pub(crate) fn number(value: &Value, numbered: Numbered) -> Result<u32, Misread>
     ensures value { Gives (λ x. x) result (count_of (2 ^ 32 - 1) (view value.now)) }
 {
     Ok(count(value, LAST_NUMBER, Wanted::NumberOf(numbered))? as u32)
 }
 
-/// What each item of a list is read as, up to the first fault.
+/// Reads each item of a list, up to the first fault.
 pub fn each<T: Drop, F: Fn(&Value) -> Result<T, Misread>>(
     alloc: Global,
     value: &Value,

@@ -14,7 +14,7 @@ use mh_site::{Name, Names};
 use serde_json::Value;
 use std::alloc::Global;
 
-/// A lawful name that no earlier shared tree has.
+/// Reads a lawful name that no earlier shared tree has.
 pub fn read_new_name(alloc: Global, names: &Names, value: &Value) -> Result<Name, Misread>
     ensures value { Gives (λ x. x) result (new_name names.now (view value.now)) }
 {
@@ -25,7 +25,7 @@ pub fn read_new_name(alloc: Global, names: &Names, value: &Value) -> Result<Name
     Ok(name)
 }
 
-/// A name, and the tree that it stands for.
+/// Reads a name and the tree that it names.
 fn read_pair(alloc: Global, scope: &Scope, parts: &[Value]) -> Result<Shared, Misread>
     ensures value { Gives (λ x. x) result (shared_from scope.now (map view parts.now)) }
 {
@@ -41,14 +41,14 @@ fn read_pair(alloc: Global, scope: &Scope, parts: &[Value]) -> Result<Shared, Mi
     Ok(Shared { name, tree })
 }
 
-/// A shared tree, read over those before it.
+/// Reads a shared tree, which may refer to those before it.
 pub fn read_shared(alloc: Global, scope: &Scope, value: &Value) -> Result<Shared, Misread>
     ensures value { Gives (λ x. x) result (shared_of scope.now (view value.now)) }
 {
     read_pair(alloc, scope, list(value, Wanted::SharedPair)?)
 }
 
-/// The names that the trees of a definition may use: these, and then its shared trees.
+/// Adds shared trees to the names that the trees of a definition may use.
 pub fn read_scope(alloc: Global, scope: Scope, value: &Value) -> Result<Scope, Misread>
     ensures value { Gives (λ x. x) result (scope_of scope (view value.now)) }
 {
@@ -61,8 +61,8 @@ pub fn read_scope(alloc: Global, scope: Scope, value: &Value) -> Result<Scope, M
     Ok(scope)
 }
 
-/// The names that the trees of a definition may use, where its points have these: `shared` may be
-/// absent.
+/// Returns the names that the trees of a definition may use: those of its points, and of its shared
+/// trees if it has the key `shared`.
 pub fn read_shared_trees(alloc: Global, points: Names, definition: &Value) -> Result<Scope, Misread>
     ensures value { Gives (λ x. x) result (shared_in points (view definition.now)) }
 {

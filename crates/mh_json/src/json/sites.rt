@@ -20,7 +20,7 @@ use mh_type::{Kind, MethodType};
 use serde_json::Value;
 use std::alloc::Global;
 
-/// A place, or none where the value is null.
+/// Reads an index, or `null` for none.
 pub fn read_place_or_none(value: &Value) -> Result<Option<usize>, Misread>
     ensures value { Gives (λ x. x) result (place_or_none (view value.now)) }
 {
@@ -30,14 +30,14 @@ pub fn read_place_or_none(value: &Value) -> Result<Option<usize>, Misread>
     Ok(Some(place(value, Wanted::KeyPlace)?))
 }
 
-/// The kind of the parameter at the key place, where there is one.
+/// Returns the kind of the parameter at the key position, or `None` without one.
 pub fn key_kind(method_type: &MethodType, key: Option<usize>) -> Option<Kind>
     ensures value { result ≡ kind_of_key method_type.now key }
 {
     kind_at(method_type.parameters(), key?)
 }
 
-/// The links of a site, whose keys are of this kind, and none where it says none.
+/// Reads the links of a site, whose keys have this kind. The key `links` is optional.
 #[tactic(auto, unfolding(crate::specs::Script::linked_of))]
 fn read_linked(
     alloc: Global,
@@ -59,7 +59,7 @@ fn read_linked(
     )
 }
 
-/// A site: its name, its type, its level, its key place, its target and its links.
+/// Reads a site: its name, its type, its level, its key position, its target and its links.
 pub fn read_site(
     alloc: Global,
     version: Version,
@@ -95,7 +95,7 @@ pub fn read_site(
     })
 }
 
-/// The sites of a definition that were read, and the names that later trees may use.
+/// The sites of a definition read so far, and the names that later trees may use.
 #[derive(Drop)]
 pub struct Sited {
     pub scope: Scope,
@@ -103,7 +103,7 @@ pub struct Sited {
 }
 
 impl Sited {
-    /// No site yet.
+    /// Returns a list without sites.
     pub fn new(alloc: Global, scope: Scope) -> Sited
         ensures value { result ≡ none_sited scope }
     {
@@ -113,7 +113,7 @@ impl Sited {
         }
     }
 
-    /// Puts a site last. Where memory is refused, all is as it was.
+    /// Appends a site. If memory runs out, nothing changes.
     pub fn add(&mut self, site: Site) -> Result<(), Misread>
         ensures value { OnOk result (self.new ≡ one_sited self.old site) }
         ensures refused { IfErr result (λ e. e.fault ≡ NoMemory) }
@@ -129,8 +129,7 @@ impl Sited {
     }
 }
 
-/// The sites of a definition, each its name, its type, its level, its key place, its target, which
-/// may invoke those before it, and its links.
+/// Reads the sites of a definition. The target of each may invoke the sites before it.
 pub fn read_sites(
     alloc: Global,
     version: Version,
@@ -152,7 +151,7 @@ pub fn read_sites(
     Ok(sited)
 }
 
-/// The sites that a definition has.
+/// Reads the sites of a definition, at the key `sites`.
 pub fn read_site_list(
     alloc: Global,
     version: Version,

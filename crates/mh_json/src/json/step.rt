@@ -1,4 +1,4 @@
-//! What a script asks for, step by step.
+//! The steps of a script.
 ghost use Rattle.std.specs.Prelude.{◌≡◌};
 ghost use Rattle.mh_json.specs.StepNumbers.{number_named, number_in};
 
@@ -7,16 +7,16 @@ use mh_core::Event;
 /// One step of a script.
 #[derive(Debug, Drop)]
 pub enum Step {
-    /// The machine is asked this.
+    /// An event of the machine.
     Ask(Event),
-    /// A plan for the problem of the snapshot of this number is made, and published: what the event
-    /// is, is known when the step runs.
+    /// Computes a plan for the problem of the snapshot with this number and publishes it. The event
+    /// is known only when the step runs.
     Plan { snapshot: usize },
 }
 
 impl Step {
-    /// The number that the step names, from 1: of the snapshot that a plan is for, or of the plan
-    /// that is installed; 0 where it names none.
+    /// Returns the number that the step names, counted from 1: that of the snapshot that a plan is
+    /// for, or of the plan that is installed. Returns 0 if the step names none.
     pub fn number(&self) -> usize
         ensures value { result ≡ number_named self.now }
     {

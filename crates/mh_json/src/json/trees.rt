@@ -22,14 +22,14 @@ use mh_type::{Kind, Value as Constant};
 use serde_json::Value;
 use std::alloc::Global;
 
-/// The kinds from a place on, none past the last.
+/// Returns the kinds from an index on, and none if it is past the last.
 fn kinds_from(kinds: &[Kind], place: usize) -> &[Kind]
     ensures value { result.now ≡ drop place kinds.now }
 {
     &kinds[place.min(kinds.len())..]
 }
 
-/// The values for the parameters of a tree from a place on.
+/// Reads values for the parameters of a tree from an index on.
 fn read_inserted(
     alloc: Global,
     target: &Handle,
@@ -102,7 +102,7 @@ fn read_filter(alloc: Global, scope: &Scope, args: &[Value]) -> Result<Handle, M
     Ok(Handle::filter(alloc, &target, position, filters.as_slice())?)
 }
 
-/// Filters in a list, none where an item is null.
+/// Reads a list of filters, each a tree or `null`.
 #[cycle(tree)]
 pub fn read_filters(
     alloc: Global,
@@ -122,7 +122,7 @@ pub fn read_filters(
     Ok(Listing::from_vec(filters))
 }
 
-/// A filter, or none where the value is null.
+/// Reads a filter: a tree, or `null` for none.
 #[cycle(tree)]
 pub fn read_filter_or_none(
     alloc: Global,
@@ -187,7 +187,7 @@ fn read_branches(alloc: Global, scope: &Scope, args: &[Value]) -> Result<Handle,
     Ok(Handle::point(alloc, point, &target, &fallback)?)
 }
 
-/// What a word heads.
+/// Reads the arguments of a tree's word.
 #[cycle(tree)]
 fn read_form(alloc: Global, scope: &Scope, word: &str, args: &[Value]) -> Result<Handle, Misread>
     ensures value { Gives (λ x. x) result
@@ -211,7 +211,7 @@ fn read_form(alloc: Global, scope: &Scope, word: &str, args: &[Value]) -> Result
     }
 }
 
-/// A tree by its form, over the names that it may use.
+/// Reads a tree, over the names that it may use.
 #[cycle(tree)]
 pub fn read_tree(alloc: Global, scope: &Scope, value: &Value) -> Result<Handle, Misread>
     ensures value { Gives (λ x. x) result (tree_of scope.now (view value.now)) }
@@ -228,7 +228,7 @@ pub fn read_tree(alloc: Global, scope: &Scope, value: &Value) -> Result<Handle, 
     }
 }
 
-/// A tree within the limits of declared trees.
+/// Reads a tree within the limits of declared trees.
 pub fn read_declared(alloc: Global, scope: &Scope, value: &Value) -> Result<Declared, Misread>
     ensures value { Gives (λ x. x) result (declared_of scope.now (view value.now)) }
 {

@@ -14,49 +14,49 @@ use mh_type::{Kind, MethodType, Op, Text, TypeFault, Value};
 use serde_json::Value as Json;
 use std::alloc::Global;
 
-/// The kind of a name.
+/// Reads the name of a kind.
 pub fn read_kind(value: &Json) -> Result<Kind, Misread>
     ensures value { Gives (λ x. x) result (kind_of (view value.now)) }
 {
     Kind::from_name(text(value, Wanted::Kind)?).ok_or(Misread::bad_shape(Wanted::Kind))
 }
 
-/// Kinds.
+/// Reads a list of kinds.
 pub fn read_kinds(alloc: Global, value: &Json) -> Result<Listing<Kind>, Misread>
     ensures value { Gives (λ x. x) result (kinds_of (view value.now)) }
 {
     each(alloc, value, read_kind)
 }
 
-/// The method type of a text.
+/// Reads the text of a method type.
 pub fn read_type(value: &Json) -> Result<MethodType, Misread>
     ensures value { Gives (λ x. x) result (type_of (view value.now)) }
 {
     Ok(MethodType::parse(text(value, Wanted::MethodType)?)?)
 }
 
-/// The operation of a name.
+/// Reads the name of an operation.
 pub fn read_op(value: &Json) -> Result<Op, Misread>
     ensures value { Gives (λ x. x) result (op_of (view value.now)) }
 {
     Op::from_name(text(value, Wanted::Operation)?).ok_or(Misread::bad_shape(Wanted::Operation))
 }
 
-/// A whole number of 64 bits with a sign.
+/// Reads a signed whole number of 64 bits.
 fn read_long(value: &Json, wanted: Wanted) -> Result<i64, Misread>
     ensures value { Gives (λ x. x) result (long_of (view value.now)) }
 {
     value.as_i64().ok_or(Misread::bad_value(wanted))
 }
 
-/// The same number in 32 bits, where it fits.
+/// Returns the number in 32 bits, or `None` if it does not fit.
 fn int(number: i64) -> Option<i32>
     ensures value { result ≡ (if is_int number then Some number else None) }
 {
     i32::try_from(number).ok()
 }
 
-/// A text of at most 65,536 bytes of printable ASCII.
+/// Reads a text of at most 65,536 bytes of printable ASCII.
 fn read_text(alloc: Global, bytes: &str, wanted: Wanted) -> Result<Value, Misread>
     ensures value { Gives (λ x. x) result (text_value bytes.now) }
 {
@@ -67,7 +67,7 @@ fn read_text(alloc: Global, bytes: &str, wanted: Wanted) -> Result<Value, Misrea
     }
 }
 
-/// A value of a kind.
+/// Reads a value of a kind.
 pub fn read_constant(alloc: Global, kind: Kind, value: &Json) -> Result<Value, Misread>
     ensures value { Gives (λ x. x) result (value_of_kind kind (view value.now)) }
 {
@@ -89,7 +89,7 @@ pub fn read_constant(alloc: Global, kind: Kind, value: &Json) -> Result<Value, M
     }
 }
 
-/// A value by its own form.
+/// Reads a value whose kind follows from its form.
 fn read_by_form(alloc: Global, value: &Json) -> Result<Value, Misread>
     ensures value { Gives (λ x. x) result (value_by_form (view value.now)) }
 {
@@ -106,7 +106,7 @@ fn read_by_form(alloc: Global, value: &Json) -> Result<Value, Misread>
     }
 }
 
-/// A value of the kind that is wanted, where one is, and else by its own form.
+/// Reads a value of the given kind, or, without one, a value whose kind follows from its form.
 pub fn read_value(alloc: Global, kind: Option<Kind>, value: &Json) -> Result<Value, Misread>
     ensures value { Gives (λ x. x) result (value_for kind (view value.now)) }
 {
@@ -124,14 +124,15 @@ pub fn read_value(alloc: Global, kind: Option<Kind>, value: &Json) -> Result<Val
     }
 }
 
-/// The kind at a place, where there is one.
+/// Returns the kind at an index, or `None` past the last.
 pub fn kind_at(kinds: &[Kind], place: usize) -> Option<Kind>
     ensures value { result ≡ slice_get kinds.now place }
 {
     kinds.get(place).copied()
 }
 
-/// Values for parameters of these kinds, in order; where there is no parameter, by their own form.
+/// Reads values for parameters of these kinds, in order. The kind of a further value follows from
+/// its form.
 #[tactic(auto, unfolding(crate::specs::Values::values_for))]
 pub fn read_values(alloc: Global, kinds: &[Kind], value: &Json) -> Result<Listing<Value>, Misread>
     ensures value { Gives (λ x. x) result (values_for kinds.now (view value.now)) }

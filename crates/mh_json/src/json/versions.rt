@@ -13,7 +13,7 @@ use mh_site::Version;
 use serde_json::Value;
 use std::alloc::Global;
 
-/// A version, 1 or 2.
+/// Reads a version: 1 or 2.
 pub fn read_version(value: &Value) -> Result<Version, Misread>
     ensures value { Gives (λ x. x) result (version_of (view value.now)) }
 {
@@ -24,8 +24,7 @@ pub fn read_version(value: &Value) -> Result<Version, Misread>
     }
 }
 
-/// The charge of a link, which may be absent, and of which no more than this is lawful. In version 1
-/// the key means nothing.
+/// Reads the charge of a link: 0 to `lawful`, default 0. Version 1 ignores the key.
 pub(crate) fn read_charge(
     alloc: Global,
     version: Version,
@@ -46,7 +45,7 @@ pub(crate) fn read_charge(
     )
 }
 
-/// The most links of a problem.
+/// Returns the most links of a problem of this version.
 pub fn most_links(version: Version) -> usize
     ensures value { result ≡ links_at_most version }
 {

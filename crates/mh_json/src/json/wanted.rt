@@ -1,8 +1,8 @@
-//! What would have stood at a part that could not be read.
+//! Expected forms of parts that could not be read.
 use crate::key::Field;
 use mh_type::Kind;
 
-/// A word that heads a list: the first thirteen a tree, the others an event.
+/// The first word of a list: the first thirteen are of trees, the others of events.
 #[derive(Clone, Copy, Debug)]
 pub enum Word {
     Const,
@@ -28,7 +28,7 @@ pub enum Word {
     Plan,
 }
 
-/// What is named by its number, from 0.
+/// A thing that inputs name by a number, counted from 0.
 #[derive(Clone, Copy, Debug)]
 pub enum Numbered {
     Worker,
@@ -38,7 +38,7 @@ pub enum Numbered {
     Plan,
 }
 
-/// What is named by its name.
+/// A thing that inputs name by its name.
 #[derive(Clone, Copy, Debug)]
 pub enum Named {
     Point,
@@ -46,19 +46,19 @@ pub enum Named {
     Shared,
 }
 
-/// What would have stood at a part that could not be read: for words alone, no contract speaks of
-/// it. Where readers take more than is lawful, it is what is lawful.
+/// The expected form of a part that could not be read. It is for messages only: no contract
+/// mentions it. If readers accept more than is lawful, it is the lawful form.
 #[derive(Clone, Copy, Debug)]
 pub enum Wanted {
-    /// The fault says enough.
+    /// Nothing: the fault says enough.
     Nothing,
-    /// JSON: reading stopped at this line and column, or its bytes end too early.
+    /// JSON. Reading stopped at this line and column, or the input ended too early.
     Json {
         line: usize,
         column: usize,
         is_cut: bool,
     },
-    /// This key, which the object lacks, or an object with it.
+    /// This key, which the object lacks, or an object that has it.
     Missing(Field),
     /// A string.
     Text,
@@ -66,16 +66,16 @@ pub enum Wanted {
     Truth,
     /// A list.
     List,
-    /// A whole number from the least to the most.
+    /// A whole number in this range.
     Number {
         least: u64,
         most: u64,
     },
-    /// A whole number of 64 bits with a sign.
+    /// A signed whole number of 64 bits.
     Signed,
-    /// The number of such a thing.
+    /// The number of a thing of this sort.
     NumberOf(Numbered),
-    /// The name of such a thing.
+    /// The name of a thing of this sort.
     NameOf(Named),
     /// The name of a kind.
     Kind,
@@ -83,7 +83,7 @@ pub enum Wanted {
     Operation,
     /// The text of a method type.
     MethodType,
-    /// A version, 1 or 2.
+    /// A version: 1 or 2.
     Version,
     /// A number of workers, 1 to 64.
     Workers,
@@ -105,7 +105,7 @@ pub enum Wanted {
     Event,
     /// A word that heads an event.
     EventWord,
-    /// As many parts as this word heads.
+    /// As many arguments as this word takes.
     PartsOf(Word),
     /// A list of a name and a tree.
     SharedPair,
@@ -116,7 +116,7 @@ pub enum Wanted {
 }
 
 impl Wanted {
-    /// A whole number from 0 to a greatest one.
+    /// Returns the form of a whole number from 0 to a maximum.
     pub const fn up_to(most: u64) -> Wanted {
         Wanted::Number { least: 0, most }
     }
