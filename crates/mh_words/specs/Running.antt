@@ -1,4 +1,4 @@
--- What code over words returns for a frame f, if `valid` says which points are valid.
+-- Results of code over words for a frame f, if `valid` says which points are valid.
 use Rattle.std.specs.Prelude.{ℕ, ℤ, pos, int_lt, Bool, false, not, List, slice_index_or, slice_set, Option, Some, None, if◌then◌else◌}
 use Rattle.mh_type.specs.declared.kind.Kind.{Kind}
 use Rattle.mh_type.specs.declared.outcome.Outcome.{Outcome}
