@@ -2,7 +2,7 @@
 
 use mh_code::Prepared;
 
-/// Which points are valid, and the tree of each site.
+/// The validity of the points, and the tree of each site.
 #[derive(Clone, Copy, Debug)]
 pub struct Here<'a> {
     /// Whether each point is valid.
