@@ -48,7 +48,7 @@ pub fn write_verdict<W: Write>(
 /// that is wrong.
 ///
 /// The input is a JSON object with a problem at the key `problem` (see `read_problem`) and a plan
-/// at the key `plan` (see `read_plan`). It is read to its end, or to the first byte after
+/// at the key `plan` (see `read_plan`). It is read to its end, or to the first byte beyond
 /// 1,048,576. The problem is read and made before the plan is read. If the input has a fault, or
 /// memory runs out, nothing is written. If a write fails, a prefix of the line was written, and the
 /// failure is reported at 0.

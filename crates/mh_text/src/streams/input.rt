@@ -10,7 +10,7 @@ use mh_json::{InputFault, LONGEST_INPUT, TextFault};
 use std::alloc::Global;
 use std::io::Read;
 
-/// Reads the input to its end, or up to the first byte after a limit.
+/// Reads the input to its end, or up to the first byte beyond a limit.
 ///
 /// Fails if it has more bytes than that, if a read fails, or if memory runs out.
 pub fn read_up_to<R: Read>(
@@ -49,7 +49,7 @@ pub fn read_up_to<R: Read>(
     Err(TextFault::Input(InputFault::TooLong))
 }
 
-/// Reads the input to its end, or up to the first byte after 1,048,576.
+/// Reads the input to its end, or up to the first byte beyond 1,048,576.
 ///
 /// Fails if it has more bytes than that, if a read fails, or if memory runs out.
 pub fn read_input<R: Read>(alloc: Global, reader: &mut Watched<R>) -> Result<Vec<u8>, TextFault>

@@ -138,7 +138,7 @@ pub fn write_lines<W: Write>(lines: String, writer: &mut Watched<W>) -> Result<(
 /// the certificate, by `plan_json`, and `phases` with the number of phases of all parts' flows, and
 /// `bound` with the sum of their bounds.
 ///
-/// The input is a problem (see `read_problem`). It is read to its end, or to the first byte after
+/// The input is a problem (see `read_problem`). It is read to its end, or to the first byte beyond
 /// 1,048,576. If the input has a fault, or memory runs out, nothing is written. If a write fails, a
 /// prefix of the lines was written, and the failure is reported at 0.
 pub fn plan_bytes<T: Threads + Sync, R: Read, W: Write>(

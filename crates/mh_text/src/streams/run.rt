@@ -187,7 +187,7 @@ fn write_report<W: Write>(
 /// Returns the script that the reader contains, or its first fault in the order of reading (see
 /// `read_script`).
 ///
-/// The input is read to its end, or to the first byte after 1,048,576.
+/// The input is read to its end, or to the first byte beyond 1,048,576.
 pub fn read_script_from<R: Read>(alloc: Global, reader: &mut Watched<R>) -> Result<Script, Fault>
     ensures ok { IfOk result (λ script. IfSome (R.remaining reader.old.inner)
         (λ input. script_of_input input ≡ Ok script)) }
@@ -236,7 +236,7 @@ fn run_script<T: Threads + Sync, W: Write>(
 /// Runs the script that the reader contains, and writes the line of each reply, followed by the
 /// report of the machine if the options ask for it (see `report_lines`).
 ///
-/// The input is read to its end, or to the first byte after 1,048,576, before the first event. If
+/// The input is read to its end, or to the first byte beyond 1,048,576, before the first event. If
 /// it has a fault, nothing is written. An event that finds no memory has its line, and the run
 /// continues. If a run ends because the line of another event finds no memory or a write fails, the
 /// lines of the events before that one, and a prefix of its own line, were written. A plan that is
