@@ -83,7 +83,7 @@ pub record IsBook (b : BookState) : Type 0 where
   pub snapshots : b.snapshots ≡ snapshots_of b.definition b.records
   pub plans : b.plans ≡ plans_of b.records
 
--- a record passes its tests, where `calls` calls were accepted besides the records
+-- a record passes its tests, given that `calls` calls were accepted besides the records
 abbrev pub MayTake : BookState → ℕ → Record → Type 0
 MayTake b calls e = Passes (tests_of_record b.definition b.limits (length b.records + calls) b.records e)
 
@@ -100,7 +100,7 @@ reply_to d r Snapped = reply.Taken (snapshots r + 1)
 reply_to d r (Published n plan) = reply.Published (plans r + 1) plan
 reply_to d r (Installed m) = reply.Installed (report d r m)
 
--- exactly this record is appended, which passes its tests, where `calls` calls were accepted besides the records
+-- exactly this record is appended, which passes its tests, given that `calls` calls were accepted besides the records
 pub record Takes (b : BookState) (calls : ℕ) (e : Record) (new : BookState) : Type 0 where
   pub passes : MayTake b calls e
   pub records : new.records ≡ e ∷ b.records

@@ -64,6 +64,6 @@ TakesNoMemory b s a = EntersPlain (linked_sites b.definition b.records) (linked 
 abbrev pub flush_of : RuntimeState → ℕ → Record
 flush_of r w = Flushed w (hits_in (ledger_at r.ledgers w).unflushed)
 
--- there is no such worker, or the first failing test of its flush is reported, where `calls` calls were accepted besides the records
+-- there is no such worker, or the first failing test of its flush is reported, given that `calls` calls were accepted besides the records
 abbrev pub RefusesFlush : RuntimeState → ℕ → ℕ → Refusal → Type 0
 RefusesFlush r calls w told = ((w < length r.ledgers → ⊥) × (told ≡ NoWorker)) ⊎ ((w < length r.ledgers) × MayRefuse r.book calls (flush_of r w) told)

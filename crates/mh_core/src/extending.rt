@@ -26,7 +26,7 @@ pub enum ExtensionFault {
     /// The limit of events does not exceed the number of workers.
     #[error("HistoryFull")]
     HistoryFull,
-    /// The longer definition has this fault; `NoMemory` also stands for lack of memory for the new
+    /// The longer definition has this fault; `NoMemory` also reports lack of memory for the new
     /// history.
     #[error("{0}")]
     Definition(DefinitionFault),

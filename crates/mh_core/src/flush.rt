@@ -14,8 +14,8 @@ use mh_base::NoMemory;
 use mh_ledger::Ledger;
 
 impl Book {
-    // Adds the unflushed hits of a ledger to the totals, where `calls` calls were accepted besides
-    // the records.
+    // Adds the unflushed hits of a ledger to the totals, given that `calls` calls were accepted
+    // besides the records.
     pub(crate) fn flush_after(&mut self, calls: usize, ledger: &mut Ledger) -> Result<(), Refusal>
         requires held { Holds self.old.totals ledger.old }
         ensures taken { OnOk result (Takes self.old calls

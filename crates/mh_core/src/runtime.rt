@@ -214,7 +214,7 @@ impl Runtime {
         Ok((outcome, steps))
     }
 
-    // Has the book take a record, where `calls` calls were accepted besides its records.
+    // Has the book take a record, given that `calls` calls were accepted besides its records.
     pub(crate) fn accept(&mut self, calls: usize, entry: Record) -> Result<Reply, Refusal>
         requires other { IsNoFlush entry }
         ensures taken { OnOk result (Takes self.old.book calls entry self.new.book) }
@@ -227,8 +227,8 @@ impl Runtime {
         self.book.accept(calls, entry)
     }
 
-    // Publishes a plan that matches the problem of a snapshot, where `calls` calls were accepted
-    // besides the records.
+    // Publishes a plan that matches the problem of a snapshot, given that `calls` calls were
+    // accepted besides the records.
     pub(crate) fn publish_behind(
         &mut self,
         calls: usize,
@@ -251,7 +251,7 @@ impl Runtime {
         self.book.publish_for(calls, snapshot, plan)
     }
 
-    // Adds the hits of a worker since its last flush to the totals, where `calls` calls were
+    // Adds the hits of a worker since its last flush to the totals, given that `calls` calls were
     // accepted besides the records.
     pub(crate) fn flush_behind(&mut self, calls: usize, worker: u32) -> Result<(), Refusal>
         ensures known { OnOk result (worker < length self.old.ledgers) }

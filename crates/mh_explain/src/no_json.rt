@@ -30,7 +30,7 @@ pub(crate) struct Text<'a> {
     /// The column of the byte that is not allowed there, from 1, or the length of the line if the
     /// text ends there.
     pub(crate) column: usize,
-    /// Whether more bytes could make it JSON.
+    /// True if more bytes could make it valid JSON.
     pub(crate) is_cut: bool,
 }
 

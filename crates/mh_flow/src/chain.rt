@@ -7,8 +7,8 @@ ghost use Rattle.mh_flow.specs.Chains.{IsChained};
 use mh_base::NoMemory;
 use std::alloc::Global;
 
-/// The indices of each key, from the last to the first. An index is stored plus one, and 0 stands
-/// for none.
+/// The indices of each key, from the last to the first. An index is stored plus one, and 0 means
+/// that there is none.
 #[derive(Drop)]
 pub(crate) struct Chain {
     /// For each key, its last index.

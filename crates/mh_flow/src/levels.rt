@@ -32,7 +32,8 @@ fn lower(levels: &mut [u32], at: usize, from: u32) -> bool
     }
 }
 
-/// Lowers the level of the point of a row, if the row leads to it, and returns whether it did.
+/// Lowers the level of the point of a row to one more than that of its link, if it is above that,
+/// and returns whether it did.
 fn settle_point(
     rows: &[NeedRow],
     at: usize,
@@ -54,7 +55,8 @@ fn settle_point(
     lower(points, row.point as usize, links[row.link as usize])
 }
 
-/// Lowers the level of the link of a row, if the row leads back to it, and returns whether it did.
+/// Lowers the level of the link of a row that carries something to one more than that of its point,
+/// if it is above that, and returns whether it did.
 fn settle_link(
     rows: &[NeedRow],
     at: usize,

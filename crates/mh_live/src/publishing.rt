@@ -16,7 +16,7 @@ use mh_site::Control;
 use std::alloc::AllocError;
 use std::sync::Wait;
 
-// How far a control got whose publication failed.
+// The progress of a control whose publication failed.
 #[derive(Clone, Copy, PartialEq, Eq)]
 pub(crate) enum Halt {
     // No part of it remains.

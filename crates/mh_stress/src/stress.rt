@@ -36,7 +36,7 @@ pub struct StressOptions {
     pub workers: Option<u32>,
     /// The number of times that each worker makes its calls, 1 to 1,000,000.
     pub rounds: u32,
-    /// Whether a line for each point, site and link follows the sums (see `push_tables` of
+    /// If true, a line for each point, site and link follows the sums (see `push_tables` of
     /// mh_text).
     pub report: bool,
 }

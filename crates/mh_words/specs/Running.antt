@@ -33,7 +33,7 @@ holds f (Less x y) = int_lt (word_at f x.place) (word_at f y.place)
 holds f (Below x n) = int_lt (word_at f x.place) n
 holds f (Above x n) = int_lt n (word_at f x.place)
 
--- goes on with a word, and stops at a throw
+-- continues with a word, and stops at a throw
 abbrev pub and_then : Option ℤ → (ℤ → Option ℤ) → Option ℤ
 and_then (Some w) go = go w
 and_then None go = None

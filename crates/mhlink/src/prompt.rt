@@ -9,7 +9,7 @@ use std::io::{Read, Write};
 pub(crate) struct Prompt<R, W> {
     reader: R,
     terminal: W,
-    /// Whether that is still to be said.
+    /// True if that is still to be said.
     waits: bool,
 }
 

@@ -37,7 +37,7 @@ pub world_push : (d : DefinitionData) (r older : List Record) (c : Control) → 
     → world d r ≡ replay (opened d) (reverse (controls d older) ++ c ∷ [])
 world_push d r older c e = ap (λ (cs : List Control). replay (opened d) (reverse cs)) e ∙ ap (replay (opened d)) (oldest_push c (controls d older))
 
--- ---- what the controls of records say is what the records say
+-- ---- the controls of records agree with the records
 base_same : (d : DefinitionData) (r : List Record) (s : ℕ) → look.base d (controls d r) s ≡ base d r s
 base_same d [] s = refl
 base_same d (Flushed w hits ∷ r) s = base_same d r s
@@ -234,7 +234,7 @@ bases_are d r = trees_are (λ x. x.base) (base d r) d r (λ s h. ap (λ (x : Sit
 pub linkeds_are : (d : DefinitionData) (r : List Record) → worlds.linkeds (world d r) ≡ linkeds d r
 linkeds_are d r = trees_are (λ x. x.linked) (linked d r) d r (λ s h. ap (λ (x : SiteState). x.linked) (read d r s h))
 
--- ---- a base tree has its site's type, names declared points alone, and invokes lower sites with their types
+-- ---- a base tree has its site's type, names only declared points, and invokes lower sites with their types
 pub record Suits (d : DefinitionData) (s : ℕ) (t : TypedTree) : Type 0 where
   pub signature : t.signature ≡ (site_at d s).method_type
   pub points : point_bound t.tree ≤ length d.points

@@ -74,7 +74,7 @@ impl PendingChange {
 }
 
 impl Book {
-    /// Prepares a change, where `calls` calls were accepted besides the records: runs all its
+    /// Prepares a change, given that `calls` calls were accepted besides the records: runs all its
     /// tests, and then makes all allocations. A flush is not such a change, since it moves the hits
     /// of a ledger.
     ///

@@ -1,4 +1,4 @@
-//! The tests of a record, where `calls` calls were accepted besides the records of a book.
+//! The tests of a record, given that `calls` calls were accepted besides the records of a book.
 
 ghost use Rattle.std.specs.Prelude.{◌≡◌, ◌⊎◌, ◌<◌, ◌≤◌, ◌+◌, ◌↔◌, length, OnOk, IfErr, IsTrue};
 ghost use Rattle.std.specs.List.{All};
@@ -27,8 +27,8 @@ use mh_tree::Declared;
 use std::alloc::Global;
 
 impl Book {
-    /// Returns whether the limit of events is reached, where `calls` calls were accepted besides
-    /// the records.
+    /// Returns whether the limit of events is reached, given that `calls` calls were accepted
+    /// besides the records.
     pub fn is_full(&self, calls: usize) -> bool
         ensures decides { IsTrue result
             ↔ (self.now.limits.history ≤ length self.now.records + calls) }

@@ -6,7 +6,7 @@ use std::alloc::Global;
 #[derive(Clone, Copy)]
 pub(crate) struct Level {
     pub(crate) is_list: bool,
-    /// Whether there is a colon after its last comma.
+    /// True if there is a colon after its last comma.
     pub(crate) has_colon: bool,
 }
 

@@ -178,7 +178,7 @@ fn operation_meant(word: &str) -> Option<&str> {
     }
 }
 
-/// Explains why a tree cannot begin with what a list begins with.
+/// Explains why the first item of a list is not a word with which trees begin.
 fn why_no_tree_word(alloc: Global, value: &Value) -> Result<String, NoMemory> {
     let Some(word) = head_of(value) else {
         return why_no_head(alloc, "a tree", TREE_WORDS, value);
@@ -200,8 +200,8 @@ fn why_no_tree_word(alloc: Global, value: &Value) -> Result<String, NoMemory> {
     }
 }
 
-/// Explains why nothing begins with what a list begins with. The explanation is of the list if it
-/// begins with a word, and otherwise of the value in place of the word.
+/// Explains why the first item of a list is not one of these words. The explanation is of the list
+/// if the item is a word, and otherwise of the item in place of a word.
 fn why_no_head(alloc: Global, noun: &str, words: &str, value: &Value) -> Result<String, NoMemory> {
     let known = words_of(alloc, words)?;
     match head_of(value) {

@@ -29,9 +29,9 @@ use std::thread::Threads;
 pub struct PlanOptions {
     /// The number of workers that plan, 1 to 64. The plan does not depend on it.
     pub workers: usize,
-    /// Whether the plan is also written as JSON, with the flow that proves it best.
+    /// If true, the plan is also written as JSON, with the flow that proves it best.
     pub certificate: bool,
-    /// Whether the number of phases of its flow is written, too.
+    /// If true, the number of phases of its flow is written, too.
     pub phases: bool,
 }
 

@@ -31,7 +31,7 @@ use std::thread::Threads;
 /// Options of a run, besides the lines of its replies.
 #[derive(Clone, Copy, Debug, PartialEq, Eq)]
 pub struct RunOptions {
-    /// Whether a report of the machine follows them (see `report_lines`).
+    /// If true, a report of the machine follows them (see `report_lines`).
     pub report: bool,
 }
 
