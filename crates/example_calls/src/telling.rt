@@ -1,10 +1,10 @@
-//! Printing the results of calls.
+//! What a call gives, in words.
 
 use crate::definition::F;
 use crate::events::call;
 use mh_core::Runtime;
 
-/// Calls a site, and prints the int that it returns.
+/// Calls a site, and prints the int that it gives.
 pub(crate) fn tell_call(
     rt: &impl Print,
     runtime: &mut Runtime,
