@@ -39,8 +39,7 @@ level_of a (link j) = number_at a.links j
 level_of a (point p) = number_at a.points p
 level_of a sink = a.sink
 
--- the level of each node is its distance from the source; a node that is not reached has the level `far`, which is greater than each
--- distance
+-- the level of each node is its distance from the source; that of a node that is not reached is `far`, greater than each distance
 pub record AreDistances (a : LayerData) : Type 0 where
   pub least : (n : ℕ) (v : Node) → Reaches a n v → (level_of a v ≤ n) × (level_of a v < far)
   pub reached : (v : Node) → IsNode a v → level_of a v < far → Reaches a (level_of a v) v

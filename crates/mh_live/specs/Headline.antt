@@ -46,8 +46,9 @@ EachAnswerMeansItsTree d r published now =
     → IsEarlier before r → IsPrefix (reverse (controls d before)) seen
     → IsAnsweredIn d r before seen s a answer.outcome
 
--- the snapshot of this number was taken after the records `past`; for the totals of their flushes, and the points that were valid then, the
--- plan carries a flow of matching value, which the checker accepts, and no set of eligible links has a greater gain less cost
+-- the snapshot of this number was taken after the records `past`; for the totals of their flushes, and the points that were
+-- valid then, the plan carries a flow of matching value, which the checker accepts, and no set of eligible links has
+-- a greater gain less cost
 pub record IsBestOf (d : DefinitionData) (before : List Record) (n : ℕ) (plan : Plan) : Type 0 where
   pub since : List Record
   pub past : List Record

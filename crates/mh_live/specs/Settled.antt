@@ -58,8 +58,7 @@ pub record IsSettled (d : DefinitionData) (l : LimitsData) (workers : ℕ) (s : 
   pub within : All (λ n. n ≤ most_hits_of_all) s.unflushed
   pub shows : s.front ≡ list_of s.book
 
--- an opening for this many workers, within the limits of a book, and the points that its office is to invalidate first: each call then
--- means what it meant by the book
+-- an opening for this many workers, within a book's limits, and the points that its office invalidates first: calls keep their meaning
 pub record Reopens (again : List ℕ) (workers : ℕ) (b : BookState) (o : OpeningState) (invalid : List ℕ) : Type 0 where
   pub definition : o.definition ≡ renewed b.definition b.records again
   pub workers_are : o.workers ≡ workers

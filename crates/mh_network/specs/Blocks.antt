@@ -82,8 +82,7 @@ pub record BlocksSolve (P : ProblemData) : Type 0 where
   -- all of them
   pub whole : (most : ℕ) (until : ℕ → ℕ) → ((j : ℕ) → gaining_links P j ≡ false → until j ≡ 0) → IsSolved P 0 (most + 1) (gaining_links P) (λ _. false) until → IsUntil P most until
 
--- how blocks begin and split: at the links in between, into those of the block's links and the others, which do not pay for the points of
--- the former
+-- how blocks begin and split: at the links in between, into those links and the others, which do not pay for the points of the former
 pub record BlocksSplit (P : ProblemData) : Type 0 where
   pub first : (part : Part) → IsStrictlyIncreasing part.links → IsStrictlyIncreasing part.points → ((j : ℕ) → member part.links j ≡ gaining_links P j) →
       ((p : ℕ) → member part.points p ≡ nat_lt p (length P.costs)) → IsBlock P (gaining_links P) (λ _. false) part

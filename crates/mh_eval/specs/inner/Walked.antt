@@ -17,9 +17,8 @@ use Rattle.mh_type.specs.Limits.{most_parameters}
 use Rattle.mh_eval.specs.inner.Limits.{level_room}
 use Rattle.mh_tree.specs.Sites.{Setting, env, most_at}
 
--- The outcome and the steps, or memory was refused. With n values on the stack and a capacity of c it is not refused if no node that is
--- evaluated has String in its type and each level of the tree, and of 96 of each tree that is invoked below it, has room for 32 more,
--- whatever further arguments e there are.
+-- The outcome and the steps, or memory was refused. With n values on a stack of capacity c, it is not refused if no node evaluated has
+-- String in its type and each level of the tree, and 96 of each tree invoked below it, has room for 32 more, for all further arguments e.
 pub record Walked (r : Answer) (k : ℕ) (v : Setting) (t : Tree) (a : List Value) (n c : ℕ) : Type 0 where
   pub ran : Ran r k (mean (env v) t a) (steps (env v) t a)
   pub few : k ≤ most_steps (most_at v.level) t

@@ -26,8 +26,7 @@ pub record IsRelabelled (needs old new : List ℕ) : Type 0 where
       (label_of old p ≡ label_of old q)
       ⊎ ((a : ℕ) × (b : ℕ) × (member needs a ≡ true) × (member needs b ≡ true) × (label_of old p ≡ label_of old a) × (label_of old q ≡ label_of old b))
 
--- a table that leads down to labels: each point leads to one that is not greater, with the same label, and one that leads to itself is its
--- own label
+-- a table that leads down to labels: each point leads to none greater, of the same label, and one leading to itself is its own label
 pub record LeadsDown (table labels : List ℕ) : Type 0 where
   pub count : length table ≡ length labels
   pub down : (p : ℕ) → label_of table p ≤ p
