@@ -1,4 +1,4 @@
--- When a tree may run.
+-- The conditions under which a tree may run.
 use Rattle.std.specs.Prelude.{◌≤◌, length, All}
 use Rattle.bench.specs.declared.called.Called.{Called}
 use Rattle.mh_type.specs.Fits.{Fits}

@@ -20,7 +20,7 @@ pub record IsGreatestValue (P : ProblemData) (value : ℕ) : Type 0 where
   pub carried : value_of rows charges ≡ value
   pub greatest : (others : List Row) → (more : List Charge) → IsFlow P others more → value_of others more ≤ value
 
--- the number of the parts, the value of a maximum flow, or the least best plan with what shows that it is best
+-- the number of the parts, the value of a maximum flow, or the least best plan with the flow that proves it best
 abbrev pub IsFound : ProblemData → Task → Found → Type 0
 IsFound P task.Parts (found.Parts count) = (parts : List Part) × AreParts P parts × (length parts ≡ count)
 IsFound P task.Flow (found.Flow flow) = IsGreatestValue P flow.value

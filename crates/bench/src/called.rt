@@ -11,7 +11,7 @@ use mh_type::Value;
 /// A tree and the arguments of its calls.
 #[derive(Clone, Copy, Debug)]
 pub(crate) struct Called<'a> {
-    /// Which points are valid.
+    /// The validity of the points.
     pub(crate) valid: &'a [bool],
     /// The level of each site.
     pub(crate) levels: &'a [u8],

@@ -61,8 +61,8 @@ pub(crate) fn eval_once(
     eval(stack, valid, levels, targets, handle, arguments)
 }
 
-/// Makes this many calls of a prepared handle. The loop is alone in its function, so that its sums
-/// stay in registers.
+/// Makes this many calls of a prepared handle. The function contains only the loop, so that its
+/// sums stay in registers.
 #[inline(never)]
 pub(crate) fn run_rounds(
     stack: &mut Stack,

@@ -1,4 +1,4 @@
-//! What is found of a problem.
+//! The results of the tasks.
 
 ghost use Rattle.std.specs.Prelude.{◌≤◌, IfOk, IfSome};
 ghost use Rattle.bench.specs.Found.{IsFound, IsGreatestValue};
@@ -32,8 +32,8 @@ pub(crate) enum Found {
     Sweep(Sweep),
 }
 
-/// `parts 2`, `flow 16 phases 3`, the plan, or `scales 1000000 links 3`: the greatest scale, and how
-/// many links are chosen at some scale.
+/// Writes `parts 2`, `flow 16 phases 3`, the plan, or `scales 1000000 links 3`: the greatest scale,
+/// and how many links are chosen at some scale.
 impl fmt::Display for Found {
     fn fmt<W: fmt::Write>(&self, f: &mut fmt::Formatter<W>) -> fmt::Result {
         match self {

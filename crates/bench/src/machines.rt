@@ -25,7 +25,7 @@ fn open(alloc: Global, definition: &Definition) -> anyhow::Result<Machine> {
     Ok(machine)
 }
 
-/// Why a call of a machine has no outcome. It is small, so that a call copies little.
+/// The reason why a call of a machine has no outcome. It is small, so that a call copies little.
 #[derive(Clone, Copy, Debug, PartialEq, Eq, Error)]
 enum Unanswered {
     /// Memory for the arguments was refused.

@@ -3,16 +3,16 @@
 use crate::task::Task;
 use anyhow::Context;
 
-/// How a call is made.
+/// A way to make a call.
 #[derive(Clone, Copy, Debug, PartialEq, Eq)]
 pub(crate) enum Way {
-    /// By `run` of mh_run, on a tree that was prepared before.
+    /// `run` of mh_run, on a tree that was prepared before.
     Run,
-    /// By `eval` of mh_eval, on the plain handle.
+    /// `eval` of mh_eval, on the plain handle.
     Eval,
-    /// By `Machine::step`.
+    /// `Machine::step`.
     Step,
-    /// By `Machine::step`, with a flush after each 1,000 calls.
+    /// `Machine::step`, with a flush after each 1,000 calls.
     Flush,
 }
 
@@ -39,17 +39,17 @@ impl Way {
 /// Calls of one kind.
 #[derive(Clone, Copy)]
 pub(crate) struct Calls {
-    /// How each is made.
+    /// The way in which each is made.
     pub(crate) way: Way,
     /// The place of the call in the script, from 0.
     pub(crate) place: usize,
     /// The number of calls.
     pub(crate) rounds: u64,
-    /// Whether the nanoseconds are printed.
+    /// If true, the nanoseconds are printed.
     pub(crate) timed: bool,
 }
 
-/// What is to be done.
+/// The work that the command line asks for.
 #[derive(Drop)]
 pub(crate) enum Request {
     /// Calls of one kind.

@@ -1,15 +1,15 @@
 //! Tasks of the planner.
 
-/// What is found of a problem.
+/// A task: what to compute for a problem.
 #[derive(Clone, Copy, PartialEq, Eq)]
 pub(crate) enum Task {
-    /// Its parts.
+    /// Computes its parts.
     Parts,
-    /// A maximum flow of the whole.
+    /// Computes a maximum flow of the whole.
     Flow,
-    /// Its best plan, part by part, on one worker.
+    /// Computes its best plan, part by part, on one worker.
     Plan,
-    /// The scale of costs up to which each link is chosen.
+    /// Computes the scale of costs up to which each link is chosen.
     Sweep,
 }
 

@@ -1,17 +1,17 @@
--- Tests in lists: decided ones, where the first that fails is reported, and those of each element.
+-- Tests in lists: decided ones, of which the first that fails is reported, and those of each element.
 use Rattle.std.specs.Prelude.{Bool, cond, List, [], ◌∷◌, Option, Some, None, Result, Ok, Err}
 use Rattle.mh_base.specs.Tests.{Tests}
 
--- each with whether it holds, and what is reported where it does not
+-- each test with whether it holds, and the fault if it does not
 abbrev pub Decided : Type 0 → Type 0
 Decided E = List (Bool × E)
 
--- what the first that does not hold reports
+-- the fault of the first test that does not hold
 abbrev pub first_failing : {E : Type 0} → Decided E → Option E
 first_failing [] = None
 first_failing (t ∷ more) = cond t.0 (first_failing more) (Some t.1)
 
--- what is made where no test fails, and else the fault that is reported
+-- the value if no test fails, and otherwise the fault that is reported
 abbrev pub made_unless : {X E : Type 0} → X → Option E → Result X E
 made_unless x None = Ok x
 made_unless x (Some fault) = Err fault

@@ -7,7 +7,7 @@ ghost use Rattle.mh_base.specs.Display.{numbers_text};
 
 use std::fmt;
 
-/// Numbers, written with commas between them, as `0,1,5`, and as `-` where there are none.
+/// Numbers, written with commas between them, as `0,1,5`, or as `-` if there are none.
 #[derive(Clone, Copy, Debug)]
 pub struct Numbers<'a> {
     /// The numbers.
@@ -28,7 +28,7 @@ impl<'a> fmt::Display for Numbers<'a> {
     }
 }
 
-// A comma and the number for each.
+// Writes a comma and the number, for each number.
 fn write_others<W: fmt::Write>(numbers: &[u32], f: &mut fmt::Formatter<W>) -> fmt::Result
     ensures text { WritesOnOk W.write_str_gives f.old result
         (flat_map (λ n. codes "," ++ decimal n) numbers.now) f.new }

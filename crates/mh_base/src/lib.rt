@@ -1,7 +1,7 @@
-//! What all crates of a runtime for dynamic calls stand on: lists that contracts see as the list of
-//! their items, the out-of-memory error, tests in an order, and tests of lists of numbers.
+//! The foundation of all crates: lists that contracts see as the list of their items, the
+//! out-of-memory error, tests in an order, and tests of lists of numbers.
 //!
-//! Where a value is refused, its tests stand in an order, and the first that fails is reported:
+//! If a value is refused, its tests run in an order, and the first that fails is reported:
 //!
 //! ```
 //! use mh_base::{are_below, demand, is_ascending};

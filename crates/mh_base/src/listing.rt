@@ -6,7 +6,7 @@ use crate::memory::NoMemory;
 use std::alloc::AllocFailed;
 use std::marker::Model;
 
-/// Values in order. It is made of a `Vec` and gives it back without memory.
+/// Values in order. It is made from a `Vec`, and can be converted back without allocating.
 #[derive(Debug, Drop)]
 pub struct Listing<T> {
     /// The items.
@@ -22,14 +22,14 @@ impl<T> Model for Listing<T> {
 }
 
 impl<T> Listing<T> {
-    /// The items, with no copy.
+    /// Returns the listing of the items. It copies nothing.
     pub fn from_vec(items: Vec<T>) -> Listing<T>
         ensures value { result ≡ items.items }
     {
         Listing { items }
     }
 
-    /// The items, with no copy.
+    /// Returns the items. It copies nothing.
     pub fn into_vec(self) -> Vec<T>
         ensures value { result.items ≡ self }
     {
@@ -37,7 +37,7 @@ impl<T> Listing<T> {
         items
     }
 
-    /// Puts an item last.
+    /// Appends an item.
     pub fn push(&mut self, item: T) -> Result<(), AllocFailed<T>>
         ensures value { OnOk result (self.new ≡ self.old ++ item ∷ []) }
         ensures refused { OnErr result (self.new ≡ self.old) }
@@ -45,14 +45,14 @@ impl<T> Listing<T> {
         self.items.push(item)
     }
 
-    /// The items.
+    /// Returns the items.
     pub fn as_slice(&self) -> &[T]
         ensures value { result.now ≡ self.now }
     {
         self.items.as_slice()
     }
 
-    /// The number of items.
+    /// Returns the number of items.
     pub fn len(&self) -> usize
         ensures value { result ≡ length self.now }
     {
@@ -61,7 +61,7 @@ impl<T> Listing<T> {
 }
 
 impl Listing<u32> {
-    /// A copy of the numbers, in new memory.
+    /// Returns a copy of the numbers, in new memory.
     pub fn copy(&self) -> Result<Listing<u32>, NoMemory>
         ensures value { IfOk result (λ copied. copied ≡ self.now) }
     {

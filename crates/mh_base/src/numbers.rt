@@ -4,7 +4,7 @@ ghost use Rattle.std.specs.Prelude.{◌≡◌, ◌↔◌, ◌<◌, All, IsTrue, 
 ghost use Rattle.std.specs.List.Sorted.{IsStrictlyIncreasing};
 ghost use Rattle.std.specs.List.{list_all};
 
-/// Whether each number is greater than the one before it. O(numbers).
+/// Returns whether each number is greater than the one before it. O(numbers).
 pub fn is_ascending(numbers: &[u32]) -> bool
     ensures value { IsTrue result ↔ IsStrictlyIncreasing numbers.now }
 {
@@ -16,7 +16,7 @@ pub fn is_ascending(numbers: &[u32]) -> bool
     true
 }
 
-/// Whether all numbers are below a bound. O(numbers).
+/// Returns whether all numbers are below a bound. O(numbers).
 pub fn are_below(numbers: &[u32], bound: usize) -> bool
     ensures value { result ≡ list_all (λ p. nat_lt p bound) numbers.now }
     ensures all { IsTrue result ↔ All (λ p. p < bound) numbers.now }

@@ -2,7 +2,7 @@
 
 ghost use Rattle.std.specs.Prelude.{◌≡◌, MatchResult, true, false};
 
-/// A test, and the fault that is reported where it fails.
+/// Returns `Ok` if a test passes, and otherwise its fault.
 pub fn demand<E: Drop>(passes: bool, fault: E) -> Result<(), E>
     ensures value { MatchResult result (λ _. passes ≡ true) (λ e. (passes ≡ false) × (e ≡ fault)) }
 {

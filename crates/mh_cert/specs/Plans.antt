@@ -1,4 +1,4 @@
--- Which plans match a problem, and why others are refused.
+-- The plans that match a problem, and the reasons to refuse others.
 use Rattle.std.specs.Prelude.{ℕ, ◌+◌, ◌≡◌, ◌≤◌, ◌<◌, List, All, AllPairs, length, true, pos, ◌-ℤ◌, codes}
 use Rattle.std.specs.List.Sorted.{IsStrictlyIncreasing}
 use Rattle.mh_network.specs.Problems.{ProblemData, link_at, gain_of, charge_of, cost_of, needs_point, sum_of_gains}
@@ -50,8 +50,8 @@ pub record AreCharges (P : ProblemData) (charges : List Charge) : Type 0 where
   pub positive : All (λ r. 0 < r.1) charges
   pub ordered : AllPairs IsChargeBefore charges
 
--- eligible links, the points that they need, a flow, and the worth of the links, which is also what the flow
--- leaves of all gains: the parts of a matching plan, in the order in which they are tested
+-- eligible links, the points that they need, a flow, and the worth of the links, which is also what the flow leaves of all gains: the parts
+-- of a matching plan, in the order in which they are tested
 abbrev pub plan_tests : ProblemData → Plan → Tests CheckFault
 plan_tests P plan =
     test (All (λ j. (link_at P j).eligible ≡ true) plan.links) (only LinkNotEligible)

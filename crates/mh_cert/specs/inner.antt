@@ -1,2 +1,2 @@
--- Definitions that the clauses of private functions alone use: no promise asks for them to be read.
+-- Definitions that only the clauses of private functions use: no promise asks for them to be read.
 pub mod Ends

@@ -1,4 +1,4 @@
-//! The bounds that gains and costs set to a flow.
+//! The bounds that gains, charges and costs set on a flow.
 
 ghost use Rattle.std.specs.Prelude.{◌≡◌, ◌≤◌, ◌<◌, ◌+◌, ◌↔◌, ℕ, All, IfOk, IfErr, IsTrue, length, slice_index, true};
 ghost use Rattle.mh_cert.specs.inner.Ends.{end_of};
@@ -17,7 +17,7 @@ pub(crate) enum End {
     Point,
 }
 
-// Whether the amounts of each link, that of its charge included, are at most its gain.
+// Returns whether the amounts of each link, including that of its charge, are at most its gain.
 pub(crate) fn keeps_gains(
     alloc: Global,
     problem: &Problem,
@@ -34,7 +34,7 @@ pub(crate) fn keeps_gains(
     Ok(pays(&mut left, charges) && covers(&mut left, flow, End::Link))
 }
 
-// Whether the amounts of each charge are at most the charge.
+// Returns whether the amounts of each charge are at most the charge.
 pub(crate) fn keeps_charges(
     alloc: Global,
     problem: &Problem,
@@ -49,7 +49,7 @@ pub(crate) fn keeps_charges(
     Ok(pays(&mut left, charges))
 }
 
-// Whether the amounts of each point are at most its cost.
+// Returns whether the amounts of each point are at most its cost.
 pub(crate) fn keeps_costs(
     alloc: Global,
     problem: &Problem,
@@ -65,8 +65,8 @@ pub(crate) fn keeps_costs(
     Ok(covers(&mut left, flow, End::Point))
 }
 
-// Whether the amounts at each end are at most what is left there. Each is taken from what is left,
-// so that no sum wraps.
+// Returns whether the amounts at each end are at most what is left there. Each is subtracted from
+// what is left, so that no sum wraps.
 fn covers(left: &mut Vec<u64>, flow: &[(u32, u32, u64)], end: End) -> bool
     requires inside { All (λ r. end_of end r < length left.old.items) flow.now }
     ensures value { IsTrue result ↔ ((k : ℕ) → amount_at (end_of end) (λ r. r.2) flow.now k
@@ -83,8 +83,8 @@ fn covers(left: &mut Vec<u64>, flow: &[(u32, u32, u64)], end: End) -> bool
     true
 }
 
-// Takes the amounts of the charges from what is left of each link, and returns whether that was
-// enough.
+// Subtracts the amounts of the charges from what is left of each link, and returns whether enough
+// was left.
 fn pays(left: &mut Vec<u64>, charges: &[(u32, u64)]) -> bool
     requires inside { All (λ r. r.0 < length left.old.items) charges.now }
     ensures count { length left.new.items ≡ length left.old.items }

@@ -1,4 +1,4 @@
-//! What links pay of their charges.
+//! The charges that a plan pays.
 
 ghost use Rattle.std.specs.Prelude.{◌≡◌, ◌<◌, ◌↔◌, AllPairs, IsTrue, length};
 ghost use Rattle.mh_cert.specs.Plans.{AreCharges};
@@ -6,7 +6,7 @@ ghost use Rattle.mh_network.specs.Selection.{IsChargeBefore};
 
 use mh_network::Problem;
 
-// Whether each is a link and a positive amount, ascending by link.
+// Returns whether each row is a link and a positive amount, ascending by link.
 pub(crate) fn are_charges(problem: &Problem, charges: &[(u32, u64)]) -> bool
     ensures value { IsTrue result ↔ AreCharges problem.now charges.now }
 {

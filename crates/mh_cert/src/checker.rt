@@ -1,4 +1,4 @@
-//! The check of a plan.
+//! Checking a plan.
 
 ghost use Rattle.std.specs.Prelude.{◌≡◌, ◌⊎◌, ◌↔◌, All, IfErr, IsTrue, MatchResult, OnOk, true, false};
 ghost use Rattle.std.specs.List.Sorted.{IsStrictlyIncreasing};
@@ -19,14 +19,14 @@ use mh_base::{demand, is_ascending};
 use mh_network::Problem;
 use std::alloc::Global;
 
-/// Tests that a plan matches its problem: that its links are eligible and ascending, its points are
-/// the ascending union of their needs, its rows and charges are a flow of positive amounts in order,
-/// and its value is both what the links are worth and what the flow leaves of all gains. The links
+/// Tests that a plan matches its problem: its links are eligible and ascending, its points are the
+/// ascending union of their needs, its rows and charges are a flow of positive amounts in order,
+/// and its value is both the worth of the links and what the flow leaves of all gains. The links
 /// are then best: no set of eligible links is worth more. O(links + points + rows).
 ///
-/// Refused with the first part that fails, as `CheckFault` names them, or with `NoMemory`, only if
-/// an allocation is refused, and only where the links are eligible and ascending. A plan that
-/// matches is refused with nothing but `NoMemory`.
+/// Fails with the first part that is wrong, as `CheckFault` names them. Fails with `NoMemory` only
+/// if an allocation is refused, and only if the links are eligible and ascending. If the plan
+/// matches, it can only fail with `NoMemory`.
 pub fn check(alloc: Global, problem: &Problem, plan: &Plan) -> Result<(), CheckFault>
     ensures matching { OnOk result (Matches problem.now plan.now) }
     ensures best { OnOk result (IsBest problem.now (member plan.now.links)) }
@@ -42,7 +42,7 @@ pub fn check(alloc: Global, problem: &Problem, plan: &Plan) -> Result<(), CheckF
     test(alloc, problem, plan)
 }
 
-// The tests of the parts, in order.
+// Runs the tests of the parts, in order.
 fn test(alloc: Global, problem: &Problem, plan: &Plan) -> Result<(), CheckFault>
     requires problem { IsProblem problem.now }
     ensures value { MatchResult result (λ _. Passes (plan_tests problem.now plan.now))
@@ -82,7 +82,7 @@ fn all_eligible(problem: &Problem, links: &[u32]) -> bool
     links.iter().all(|link| is_eligible(problem, *link))
 }
 
-// Whether the rows and the charges are positive amounts, in order.
+// Returns whether the rows and the charges are positive amounts, in order.
 fn are_amounts(problem: &Problem, flow: &[(u32, u32, u64)], charges: &[(u32, u64)]) -> bool
     ensures value { IsTrue result ↔ (AreRows problem.now flow.now
         × AreCharges problem.now charges.now) }

@@ -1,4 +1,4 @@
-//! What the checker refuses.
+//! Faults of plans.
 
 ghost use Rattle.std.specs.Prelude.{◌≡◌};
 ghost use Rattle.mh_cert.specs.Plans.{fault_number};
@@ -9,32 +9,35 @@ use std::fmt;
 /// The first part of a plan that is wrong. The tests run in the order 1, 2, 3, 4, 5, 6, 10, 7, 8.
 #[derive(Clone, Copy, Debug, PartialEq, Eq)]
 pub enum CheckFault {
-    /// A link that is not eligible, or past the last.
+    /// A link is not eligible, or does not exist.
     LinkNotEligible,
     /// The links are not strictly ascending.
     LinksNotAscending,
     /// The points are not the ascending union of the links' needs.
     PointsNotUnion,
-    /// A row of the flow with a link or point past the last, a point that its link does not need,
-    /// or the amount 0; or the rows are not strictly ascending by link and then point. Or a row of the
-    /// charges with a link past the last or the amount 0; or these rows are not strictly ascending.
+    /// A row of the flow has a link or a point that does not exist, a point that its link does not
+    /// need, or the amount 0; or the rows are not strictly ascending by link and then point. Or a
+    /// row of the charges has a link that does not exist or the amount 0; or these rows are not
+    /// strictly ascending.
     BadFlowRow,
-    /// The amounts of a link, that of its charge included, pass its gain.
+    /// The amounts of a link, including that of its charge, exceed its gain.
     GainExceeded,
-    /// The amounts of a point pass its cost.
+    /// The amounts of a point exceed its cost.
     CostExceeded,
     /// The value is not the worth of the links.
     ValueWrong,
-    /// The value is not the sum of all gains less the sum of the amounts, those of charges included.
+    /// The value is not the sum of all gains less the sum of the amounts, including those of
+    /// charges.
     FlowNotMatching,
-    /// Out of memory: an allocation was refused. It may stand in place of any other answer.
+    /// Out of memory: an allocation was refused. It may be reported in place of any result other
+    /// than `LinkNotEligible` and `LinksNotAscending`.
     NoMemory,
-    /// An amount passes the charge of its link.
+    /// An amount exceeds the charge of its link.
     ChargeExceeded,
 }
 
 impl CheckFault {
-    /// The fault's number, from 1 to 10.
+    /// Returns the fault's number, 1 to 10.
     pub fn number(self) -> u8
         ensures value { result ≡ fault_number self }
     {

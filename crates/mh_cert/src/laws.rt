@@ -7,9 +7,9 @@ ghost use Rattle.mh_network.specs.Selection.{IsBest, member};
 
 use mh_network::Problem;
 
-/// The law that the checker rests on: the links of a plan that matches are best, that is, no set of
-/// eligible links is worth more (weak duality of flows and cuts: Ford and Fulkerson 1956, Picard
-/// 1976).
+/// Proves the law that the checker depends on: the links of a matching plan are best, that is, no
+/// set of eligible links is worth more (weak duality of flows and cuts: Ford and Fulkerson 1956,
+/// Picard 1976).
 pub fn matching_is_best(problem: &Problem)
     ensures problem { IsProblem problem.now }
     ensures best { (plan : Plan) → Matches problem.now plan

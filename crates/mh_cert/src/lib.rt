@@ -1,4 +1,5 @@
-//! The checker of a stranger's plan: whether it matches its problem, and so is best.
+//! The checker of a plan from any source: it tests whether the plan matches its problem, and so is
+//! best.
 //!
 //! ```
 //! match check(alloc, &problem, &plan) {

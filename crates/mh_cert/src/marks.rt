@@ -15,7 +15,7 @@ pub(crate) fn mark(marks: &mut Vec<bool>, numbers: &[u32])
     }
 }
 
-// Whether both mark the same numbers.
+// Returns whether both mark the same numbers.
 pub(crate) fn mark_the_same(one: &[bool], other: &[bool]) -> bool
     requires lengths { length one.now ≡ length other.now }
     ensures value { IsTrue result ↔ ((p : ℕ) → slice_index_or one.now p false

@@ -8,8 +8,8 @@ ghost use Rattle.mh_network.specs.Selection.{IsBefore};
 
 use mh_network::Problem;
 
-// Whether each row is a link, a point that it needs, and a positive amount, ascending by link and
-// then point.
+// Returns whether each row is a link, a point that it needs, and a positive amount, ascending by
+// link and then point.
 pub(crate) fn are_rows(problem: &Problem, flow: &[(u32, u32, u64)]) -> bool
     ensures value { IsTrue result ↔ AreRows problem.now flow.now }
 {

@@ -1,4 +1,4 @@
-//! What a plan is worth, and what its flow leaves of all gains.
+//! The worth of a plan's links, and what its flow leaves of all gains.
 
 ghost use Rattle.std.specs.Prelude.{◌≡◌, ◌≤◌, ◌<◌, ◌+◌, ◌^◌, ◌↔◌, ℕ, All, IsTrue, length, pos, ◌-ℤ◌, true};
 ghost use Rattle.std.specs.List.Sorted.{IsStrictlyIncreasing};
@@ -9,7 +9,7 @@ ghost use Rattle.mh_network.specs.Limits.{greatest_sum};
 
 use mh_network::{Problem, all_gains, amounts_are_within_gains, carried, lists_add_up};
 
-// Whether the value is what the links are worth.
+// Returns whether the value is the worth of the links.
 pub(crate) fn is_worth(value: i64, problem: &Problem, links: &[u32], points: &[u32]) -> bool
     requires problem { IsProblem problem.now }
     requires eligible { All (λ j. (link_at problem.now j).eligible ≡ true) links.now }
@@ -21,7 +21,7 @@ pub(crate) fn is_worth(value: i64, problem: &Problem, links: &[u32], points: &[u
     is_difference(value, gain, price)
 }
 
-// What the links gain, and what they pay: the costs of the points and their charges.
+// Returns the gains of the links, and their price: the costs of the points and their charges.
 fn gain_and_price(problem: &Problem, links: &[u32], points: &[u32]) -> (u64, u64)
     requires problem { IsProblem problem.now }
     requires eligible { All (λ j. (link_at problem.now j).eligible ≡ true) links.now }
@@ -38,7 +38,7 @@ fn gain_and_price(problem: &Problem, links: &[u32], points: &[u32]) -> (u64, u64
     )
 }
 
-// Whether the value is what the flow leaves of all gains.
+// Returns whether the value is what the flow leaves of all gains.
 pub(crate) fn balances(
     value: i64,
     problem: &Problem,

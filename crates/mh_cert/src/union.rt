@@ -11,7 +11,7 @@ use mh_base::{are_below, is_ascending};
 use mh_network::{Problem, lists_add_up};
 use std::alloc::Global;
 
-// Whether the points are the ascending union of the links' needs.
+// Returns whether the points are the ascending union of the links' needs.
 pub(crate) fn is_union(
     alloc: Global,
     problem: &Problem,
@@ -28,7 +28,7 @@ pub(crate) fn is_union(
     Ok(listed && is_ascending(points))
 }
 
-// Whether these numbers and no others are marked.
+// Returns whether exactly these numbers are marked.
 #[tactic(auto, using(crate::proofs::Within::marked_below))]
 fn are_marked(alloc: Global, numbers: &[u32], marks: &[bool]) -> Result<bool, CheckFault>
     ensures value { IfOk result (λ are. IsTrue are
@@ -43,7 +43,7 @@ fn are_marked(alloc: Global, numbers: &[u32], marks: &[bool]) -> Result<bool, Ch
     Ok(mark_the_same(&listed, marks))
 }
 
-// The marks of the points that the links need.
+// Returns the marks of the points that the links need.
 fn needed_points(alloc: Global, problem: &Problem, links: &[u32]) -> Result<Vec<bool>, CheckFault>
     requires problem { IsProblem problem.now }
     requires eligible { All (λ j. (link_at problem.now j).eligible ≡ true) links.now }

@@ -1,4 +1,4 @@
--- The height of a piece and of code: the pieces on the longest way through them.
+-- The height of a piece and of code: the number of pieces on the longest way through them.
 use Rattle.std.specs.Prelude.{ℕ, ◌+◌, max, List, [], ◌∷◌, map}
 use Rattle.mh_code.specs.declared.code.Code.{Code, fold-Code}
 use Rattle.mh_code.specs.declared.code.Piece.{Piece}

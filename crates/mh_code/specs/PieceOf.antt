@@ -21,8 +21,8 @@ use Rattle.mh_code.specs.declared.code.Piece.TheFolds.{fold-Piece}
 abbrev pub key_source : KeyTest → Source
 key_source t = operation Op.Ieq (Argument t.place) (Constant (Int t.key))
 
--- A chain of tests of one argument, each with the target of its place. Where that is none, and behind all tests, the target behind them is
--- left, or at last another routine.
+-- A chain of tests of one argument, each with the target at its index. If there is none, and after all tests, the next target follows, or
+-- otherwise another routine.
 abbrev pub chain : ℕ → List Row → List Routine → Routine → Routine
 chain place [] ts o = get_or ts 0 o
 chain place (r ∷ rs) ts o = pick r.steps (key_source (record { place = place; key = r.key })) (get_or ts 0 o) (chain place rs (drop 1 ts) o)

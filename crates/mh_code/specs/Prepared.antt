@@ -1,4 +1,4 @@
--- What is kept beside a prepared handle.
+-- The invariant of a prepared handle.
 use Rattle.std.specs.Prelude.{◌≡◌}
 use Rattle.std.specs.Arc.{arc_value}
 use Rattle.mh_code.specs.PieceOf.{routine_of_code}

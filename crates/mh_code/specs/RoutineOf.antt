@@ -1,4 +1,4 @@
--- The routine of prepared code: each part of it knows what its value is for.
+-- The routine of prepared code: each part of it knows the use of its value.
 use Rattle.std.specs.Prelude.{ℕ, ◌+◌, ◌==◌, Bool, true, false, ◌&&◌, Option, Some, None, if◌then◌else◌}
 use Rattle.std.specs.Option.{unwrap_or}
 use Rattle.mh_type.specs.Kinds.{kind_eq}
@@ -13,11 +13,11 @@ use Rattle.mh_tree.specs.declared.operand.Operand.{Operand}
 use Rattle.mh_tree.specs.declared.operand.Operand.TheVariants.{Local}
 use Rattle.mh_code.specs.Routine.{Source, operand, operation, invocation, Routine, give, keep, pick, point, Purpose, answer, local, truth, untruth}
 
--- whether an operation gives a truth, which it does on any values
+-- whether an operation returns a truth, which it does for any values
 abbrev pub gives_truth : Op → Bool
 gives_truth op = kind_eq (op_signature op).ret kind.Boolean
 
--- A source whose truth chooses, below d locals. The value of an invocation is kept before it chooses.
+-- A source whose truth chooses, below d locals. The value of an invocation is stored before it chooses.
 abbrev pub tested : ℕ → ℕ → Source → Routine → Routine → Routine
 tested d s (operand o) r q = pick s (operand o) r q
 tested d s (operation op x y) r q = pick s (operation op x y) r q
@@ -27,14 +27,14 @@ tested d s (invocation site os) r q = keep s (invocation site os) d (pick 0 (ope
 abbrev pub negated_local : ℕ → Routine → Routine → Routine
 negated_local i r q = pick 1 (operation Not (Local i) (Local i)) r q
 
--- A source whose `not` chooses. An operation that gives a truth chooses the other one itself; any other value is kept and then negated.
+-- A source whose `not` chooses. An operation that returns a truth chooses the other one itself; any other value is stored and then negated.
 abbrev pub negated : ℕ → ℕ → Source → Routine → Routine → Routine
 negated d s (operand o) r q = keep s (operand o) d (negated_local d r q)
 negated d s (operation op x y) r q =
     if gives_truth op then pick (s + 1) (operation op x y) q r else keep s (operation op x y) d (negated_local d r q)
 negated d s (invocation site os) r q = keep s (invocation site os) d (negated_local d r q)
 
--- a source, and what its value is for
+-- a source, and the use of its value
 abbrev pub used : ℕ → ℕ → Source → Purpose → Routine
 used d s x answer = give s x
 used d s x (local i r) = keep s x i r
@@ -54,16 +54,16 @@ abbrev pub negates : ℕ → Code → Bool
 negates i (apply n op x y) = ((n == 1) && is_not op) && is_local i x
 negates i _ = false
 
--- what a value is for, where code c that follows only negates it, as the local i, and its `not` chooses
+-- the use of a value, if the following code c only negates it, as the local i, and its `not` chooses
 abbrev pub purpose_before : ℕ → Code → Purpose → Option Purpose
 purpose_before i c (truth r q) = if negates i c then Some (untruth r q) else None
 purpose_before i c _ = None
 
--- what the first of two parts is for: in general a local, which the second part c with the routine r reads
+-- the use of the first of two parts: in general a local, which the second part c with the routine r reads
 abbrev pub bound : ℕ → Code → Purpose → Routine → Purpose
 bound d c u r = unwrap_or (purpose_before d c u) (local d r)
 
--- code below d locals, with s steps before it, and what its value is for
+-- code below d locals, with s steps before it, and the use of its value
 abbrev pub routine : Code → ℕ → ℕ → Purpose → Routine
 routine (leaf n o) d s u = used d (s + n) (operand o) u
 routine (apply n op x y) d s u = used d (s + n) (operation op x y) u

@@ -10,12 +10,12 @@ abbrev pub is_key : Value → ℤ → Bool
 is_key (Int n) k = int_eq n k
 is_key _ k = false
 
--- the place of the first row whose int the value is, and the number of rows where it is none's
+-- the index of the first row whose int the value equals, or the number of rows if there is none
 abbrev pub row_of : Value → List Row → ℕ
 row_of x [] = 0
 row_of x (r ∷ rs) = if is_key x r.key then 0 else 1 + row_of x rs
 
--- the steps of the tests down to that row, with its own, and of all where it is none's
+-- the steps of the tests up to and including that row, or of all if there is none
 abbrev pub steps_to : Value → List Row → ℕ
 steps_to x [] = 0
 steps_to x (r ∷ rs) = if is_key x r.key then r.steps else r.steps + steps_to x rs
@@ -25,10 +25,10 @@ abbrev pub all_steps : List Row → ℕ
 all_steps [] = 0
 all_steps (r ∷ rs) = r.steps + all_steps rs
 
--- the most rows of an index
+-- the greatest number of rows of an index
 abbrev pub most_rows : ℕ
 most_rows = 64
 
--- the tests in a row that become one piece
+-- the number of consecutive tests that become one piece
 abbrev pub run_length : ℕ
 run_length = 4

@@ -13,45 +13,45 @@ use mh_type::{Op, Value};
 use std::alloc::Global;
 use std::sync::Arc;
 
-/// A piece of prepared code: what is done first, and the pieces that go on, which it owns together
-/// with others. Each counts the nodes of the tree that are entered with it, the nodes above it that
-/// only move arguments included.
+/// A piece of prepared code: an action, and the pieces that follow it, of which it is one of
+/// several owners. Each piece counts the nodes of the tree that are evaluated with it, including
+/// the nodes above it that only move arguments.
 #[derive(Drop)]
 #[cycle(code)]
 pub enum Piece {
-    /// The value of an operand is the answer.
+    /// Answers with the value of an operand.
     Leaf {
         operand: Operand,
         steps: u32,
     },
-    /// The result of an operation on two operands is the answer; one of a single parameter reads
-    /// the first.
+    /// Answers with the result of an operation on two operands; an operation with one parameter
+    /// reads only the first.
     Apply {
         op: Op,
         first: Operand,
         second: Operand,
         steps: u32,
     },
-    /// What a site gives on operands, at most 16 of them, is the answer.
+    /// Answers with the result of a site on operands, at most 16 of them.
     Invoke {
         site: u32,
         operands: Vec<Operand>,
         steps: u32,
     },
-    /// What a site gives on so many of the leading arguments is the answer.
+    /// Answers with the result of a site on `count` leading arguments.
     Forward {
         site: u32,
         count: u32,
         steps: u32,
     },
-    /// The value of an operand becomes a local.
+    /// Stores the value of an operand as a local.
     Put {
         operand: Operand,
         local: u32,
         then: Arc<Piece>,
         steps: u32,
     },
-    /// The result of an operation becomes a local.
+    /// Stores the result of an operation as a local.
     Let {
         op: Op,
         first: Operand,
@@ -60,7 +60,7 @@ pub enum Piece {
         then: Arc<Piece>,
         steps: u32,
     },
-    /// The value that a site gives on operands, at most 16 of them, becomes a local.
+    /// Stores the value that a site returns for operands, at most 16 of them, as a local.
     Call {
         site: u32,
         operands: Vec<Operand>,
@@ -68,14 +68,14 @@ pub enum Piece {
         then: Arc<Piece>,
         steps: u32,
     },
-    /// One of two pieces, by an operand's truth.
+    /// Chooses one of two pieces by the truth of an operand.
     Truth {
         operand: Operand,
         target: Arc<Piece>,
         fallback: Arc<Piece>,
         steps: u32,
     },
-    /// One of two pieces, by the truth that an operation gives.
+    /// Chooses one of two pieces by the truth of an operation's result.
     Test {
         op: Op,
         first: Operand,
@@ -84,47 +84,48 @@ pub enum Piece {
         fallback: Arc<Piece>,
         steps: u32,
     },
-    /// One of two pieces, by whether an int argument is one number: the operation `ieq` on both.
+    /// Chooses one of two pieces by whether an int argument equals a number: the operation `ieq` on
+    /// both.
     Case {
         test: KeyTest,
         target: Arc<Piece>,
         fallback: Arc<Piece>,
         steps: u32,
     },
-    /// One of several pieces, by the first test of an index that holds of an int argument: the chain
-    /// of those tests, each the operation `ieq`, and of their targets, with the steps of each test.
-    /// Where no test holds, the piece behind them is `otherwise`.
+    /// Chooses one of several pieces by the first test of an index that an int argument passes. It
+    /// is the chain of those tests, each the operation `ieq`, and of their targets, with the steps
+    /// of each test. If the argument passes no test, `otherwise` follows.
     Switch {
         place: u32,
         index: Arc<Index>,
         targets: Vec<Arc<Piece>>,
         otherwise: Arc<Piece>,
     },
-    /// The target while the point is valid, and else the fallback.
+    /// Chooses the target while the point is valid, and otherwise the fallback.
     Point {
         point: u32,
         target: Arc<Piece>,
         fallback: Arc<Piece>,
         steps: u32,
     },
-    /// Other code gives the answer.
+    /// Answers with the result of other code.
     Go {
         code: Arc<Code>,
         steps: u32,
     },
 }
 
-/// A test whether an int argument is one number, the test of most inline caches.
+/// A test of whether an int argument equals a number, which is the test of most inline caches.
 #[derive(Clone, Copy, Debug)]
 pub struct KeyTest {
-    /// The argument's place.
+    /// The argument's index.
     pub place: u32,
     /// The number.
     pub key: i32,
 }
 
 impl KeyTest {
-    // The test that an operation on two operands is, where it is one.
+    // Returns the key test that an operation on two operands computes, if it computes one.
     pub(crate) fn of(op: Op, first: &Operand, second: &Operand) -> Option<KeyTest>
         ensures value { IfSome result (λ t. operation op first.now second.now ≡ key_source t) }
     {
@@ -140,8 +141,9 @@ impl KeyTest {
     }
 }
 
-/// The pieces of a tree's code. Where they are many it has further owners of all of them, those of
-/// the last to run last, so that none is dropped by another: dropping it takes no deeper stack.
+/// The pieces of a tree's code. If there are many, the code has further owners of all of them, with
+/// the last piece to run last, so that no piece is dropped by another, and dropping the code takes
+/// no deeper stack.
 #[derive(Drop)]
 #[cycle(code)]
 pub struct Code {
@@ -150,7 +152,7 @@ pub struct Code {
 }
 
 impl Code {
-    // Code that begins with a piece, and further owners of its pieces.
+    // Returns the code that begins with a piece, with further owners of its pieces.
     pub(crate) fn with_owners(
         alloc: Global,
         entry: Arc<Piece>,
@@ -162,7 +164,7 @@ impl Code {
         Arc::new(alloc, Code { entry, owners }).map_err(|_| NoMemory)
     }
 
-    // The first piece with its owner, where there are no further owners of the pieces.
+    // Returns the first piece with its owner, if there are no further owners of the pieces.
     pub(crate) fn lone_entry(&self) -> Option<&Arc<Piece>>
         ensures value { IfSome result (λ a. routine_of (arc_value a.now)
             ≡ routine_of_code self.now) }
@@ -174,7 +176,7 @@ impl Code {
         }
     }
 
-    /// The piece that is the first to run.
+    /// Returns the first piece to run.
     #[inline(always)]
     pub fn entry(&self) -> &Piece
         ensures value { routine_of result.now ≡ routine_of_code self.now }

@@ -1,4 +1,4 @@
-//! Code that was made lately.
+//! Sharing code that was made recently.
 
 ghost use Rattle.std.specs.Prelude.{◌≡◌, IfOk, IfSome};
 
@@ -9,11 +9,11 @@ use mh_tree::Handle;
 use std::alloc::Global;
 use std::fmt;
 
-/// How many handles a cache keeps.
+/// The number of handles that a cache keeps.
 const MOST_KEPT: usize = 32;
 
-/// The handles that were prepared last: equal ones that are prepared by one cache share their code.
-/// It keeps the last 32, and finds one in time linear in its tree's size.
+/// The handles prepared last: equal handles that are prepared by one cache share their code. It
+/// keeps the last 32, and finds one in time linear in the size of its tree.
 #[derive(Drop)]
 pub struct CodeCache {
     alloc: Global,
@@ -21,7 +21,7 @@ pub struct CodeCache {
     next: usize,
 }
 
-/// How many handles it keeps.
+/// Shows the number of handles kept.
 impl fmt::Debug for CodeCache {
     fn fmt<W: fmt::Write>(&self, f: &mut fmt::Formatter<W>) -> fmt::Result {
         write!(f, "CodeCache({} kept)", self.kept.len())
@@ -29,7 +29,7 @@ impl fmt::Debug for CodeCache {
 }
 
 impl CodeCache {
-    /// An empty cache, whose code will stand in this allocator's room.
+    /// Returns an empty cache, whose code will be in this allocator's memory.
     pub fn new(alloc: Global) -> CodeCache {
         CodeCache {
             alloc,
@@ -38,8 +38,8 @@ impl CodeCache {
         }
     }
 
-    /// The handle with its code: that of an equal handle, where the cache keeps one, and else made
-    /// as by `Prepared::new`, and kept. Fails only with `NoMemory`.
+    /// Returns the handle with its code: that of an equal handle, if the cache keeps one; otherwise
+    /// new code as by `Prepared::new`, which it keeps. Fails only with `NoMemory`.
     pub fn prepare(&mut self, handle: &Handle) -> Result<Prepared, NoMemory>
         ensures value { IfOk result (λ p. p ≡ handle.now) }
     {
@@ -51,8 +51,8 @@ impl CodeCache {
         Ok(prepared)
     }
 
-    /// Does what `prepare` does where the code of another handle is at hand, which serves for an
-    /// equal one. It takes time linear in the trees' size. Fails only with `NoMemory`.
+    /// Does what `prepare` does, given another handle with its code, which is shared if the handles
+    /// are equal. Linear in the size of the trees. Fails only with `NoMemory`.
     pub fn prepare_again(&mut self, other: &Prepared, handle: &Handle) -> Result<Prepared, NoMemory>
         ensures value { IfOk result (λ p. p ≡ handle.now) }
     {
@@ -62,7 +62,7 @@ impl CodeCache {
         self.prepare(handle)
     }
 
-    // Another owner of an equal handle with its code, where it is kept and can be shared.
+    // Returns another owner of an equal handle with its code, if one is kept and can be shared.
     fn find(&self, handle: &Handle) -> Option<Prepared>
         ensures value { IfSome result (λ p. p ≡ handle.now) }
     {
@@ -74,8 +74,8 @@ impl CodeCache {
         None
     }
 
-    // Keeps a handle, in the room of the oldest where there is no more. Where there is no memory to
-    // keep it, it is not kept.
+    // Keeps a handle, in place of the oldest if the cache is full. If there is no memory to keep
+    // it, it is not kept.
     fn keep(&mut self, prepared: &Prepared) {
         let Ok(kept) = prepared.share() else {
             return;

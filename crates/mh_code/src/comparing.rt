@@ -1,4 +1,4 @@
-//! Whether two handles are one, by the nodes of their trees.
+//! Comparing two handles by the nodes of their trees.
 
 ghost use Rattle.std.specs.Prelude.{◌≡◌, IsTrue};
 ghost use Rattle.mh_tree.specs.TreeOf.{tree_of, filter_trees};
@@ -7,14 +7,14 @@ use mh_tree::{Handle, Node};
 use mh_type::{Value, same_kinds, same_value};
 use std::sync::Arc;
 
-// Whether two handles have one tree and one type, in time linear in the tree's size.
+// Returns whether two handles have equal trees and types. Linear in the size of the tree.
 pub(crate) fn same_handle(one: &Handle, other: &Handle) -> bool
     ensures same { IsTrue result → one.now ≡ other.now }
 {
     one.method_type().equals(other.method_type()) && same_tree(one.root(), other.root())
 }
 
-// Whether two nodes have one tree, in time linear in its size.
+// Returns whether two nodes have equal trees. Linear in the size of the tree.
 #[cycle(same)]
 fn same_tree(one: &Node, other: &Node) -> bool
     ensures same { IsTrue result → tree_of one.now ≡ tree_of other.now }
@@ -30,7 +30,7 @@ fn same_tree(one: &Node, other: &Node) -> bool
     }
 }
 
-// Whether two nodes have one tree, where the first is a leaf.
+// Returns whether two nodes have equal trees, given that the first is a leaf.
 fn same_leaf(one: &Node, other: &Node) -> bool
     ensures same { IsTrue result → tree_of one.now ≡ tree_of other.now }
 {
@@ -49,7 +49,8 @@ fn same_leaf(one: &Node, other: &Node) -> bool
     }
 }
 
-// Whether two nodes have one tree, where the first is a combinator that moves arguments.
+// Returns whether two nodes have equal trees, given that the first is a combinator that moves
+// arguments.
 #[cycle(same)]
 fn same_moved(one: &Node, other: &Node) -> bool
     ensures same { IsTrue result → tree_of one.now ≡ tree_of other.now }
@@ -97,7 +98,8 @@ fn same_moved(one: &Node, other: &Node) -> bool
     }
 }
 
-// Whether two nodes have one tree, where the first is a combinator that joins trees.
+// Returns whether two nodes have equal trees, given that the first is a combinator that joins
+// trees.
 #[cycle(same)]
 fn same_composed(one: &Node, other: &Node) -> bool
     ensures same { IsTrue result → tree_of one.now ≡ tree_of other.now }
@@ -133,7 +135,8 @@ fn same_composed(one: &Node, other: &Node) -> bool
     }
 }
 
-// Whether two nodes have one tree, where the first is a combinator that chooses a tree.
+// Returns whether two nodes have equal trees, given that the first is a combinator that chooses a
+// tree.
 #[cycle(same)]
 fn same_chosen(one: &Node, other: &Node) -> bool
     ensures same { IsTrue result → tree_of one.now ≡ tree_of other.now }
@@ -167,7 +170,7 @@ fn same_chosen(one: &Node, other: &Node) -> bool
     }
 }
 
-// Whether two lists of filters have the same trees in the same places.
+// Returns whether two lists of filters have equal trees in the same places.
 #[cycle(same)]
 fn same_filters(some: &[Option<Arc<Node>>], others: &[Option<Arc<Node>>]) -> bool
     ensures same { IsTrue result → filter_trees some.now ≡ filter_trees others.now }
@@ -185,7 +188,7 @@ fn same_filters(some: &[Option<Arc<Node>>], others: &[Option<Arc<Node>>]) -> boo
     }
 }
 
-// Whether two lists of values are one.
+// Returns whether two lists of values are equal.
 fn same_values(some: &[Value], others: &[Value]) -> bool
     ensures same { IsTrue result → some.now ≡ others.now }
 {
@@ -200,7 +203,7 @@ fn same_values(some: &[Value], others: &[Value]) -> bool
     true
 }
 
-// Whether two lists of places are one.
+// Returns whether two lists of places are equal.
 fn same_places(some: &[usize], others: &[usize]) -> bool
     ensures same { IsTrue result → some.now ≡ others.now }
 {

@@ -1,4 +1,4 @@
-//! Finding the test of a chain that holds: at once by a guess, or else by halving.
+//! Finding the test of a chain that an int passes, by a guess or by binary search.
 
 ghost use Rattle.std.specs.Prelude.{◌≡◌, ◌+◌, ◌<◌, ◌≤◌, ◌++◌, ◌∷◌, [], length, IfOk};
 ghost use Rattle.mh_code.specs.inner.Entries.{AreEntries, AreRising, IsFound, guess_count};
@@ -26,21 +26,22 @@ struct Entry {
     steps: u64,
 }
 
-// How many guesses an index has: twice its most tests.
+// The number of guesses of an index: twice its greatest number of tests.
 const GUESSES: usize = 128;
 
-// 2^32 by the golden ratio, which spreads numbers that follow one another as evenly as can be.
+// 2^32 divided by the golden ratio, which spreads consecutive numbers as evenly as possible.
 const GOLDEN: u32 = 2_654_435_769;
 
-/// The tests of a chain, at most 64 of them in its order, and where to find the first that holds of
-/// an int: by a guess, which is right of all numbers that lie in a row and of most others, and else
-/// in as many comparisons as the number of tests has binary digits.
+/// The tests of a chain, at most 64, in its order, and a way to find the first that an int passes:
+/// by a guess, which is right for all consecutive numbers and for most others, and otherwise in as
+/// many comparisons as the number of tests has binary digits.
 #[derive(Drop)]
 pub struct Index {
     rows: Vec<Row>,
     entries: Vec<Entry>,
     total: u64,
-    // Where the numbers of a guess may stand among the entries. It is tested when it is used.
+    // The index, among the entries, at which the numbers of a guess may be found. It is checked
+    // when it is used.
     guesses: [u8; GUESSES],
 }
 
@@ -60,7 +61,7 @@ impl Model for Index {
 }
 
 impl Index {
-    // No tests yet.
+    // Returns an index without tests.
     #[tactic(auto, using(crate::proofs::Entries::entries_empty))]
     pub(crate) fn new(alloc: Global) -> Index
         ensures value { result ≡ [] }
@@ -73,7 +74,7 @@ impl Index {
         }
     }
 
-    // With one more test at the end.
+    // Returns the index with one more test at the end.
     pub(crate) fn with(self, row: Row) -> Result<Index, NoMemory>
         requires few { length self < most_rows }
         ensures value { IfOk result (λ i. i ≡ self ++ row ∷ []) }
@@ -95,7 +96,7 @@ impl Index {
         })
     }
 
-    // With more tests at the end.
+    // Returns the index with more tests at the end.
     pub(crate) fn with_all(self, rows: &[Row]) -> Result<Index, NoMemory>
         requires few { length self + length rows.now ≤ most_rows }
         ensures value { IfOk result (λ i. i ≡ self ++ rows.now) }
@@ -107,7 +108,8 @@ impl Index {
         Ok(index)
     }
 
-    // With guesses for its numbers, where several have one for the greatest.
+    // Returns the index with guesses for its numbers. If several numbers share a guess, it is for
+    // the greatest.
     pub(crate) fn guessing(self) -> Index
         ensures value { result ≡ self }
     {
@@ -118,7 +120,7 @@ impl Index {
         Index { guesses, ..self }
     }
 
-    /// The tests, in the order of the chain.
+    /// Returns the tests, in the order of the chain.
     #[inline(always)]
     pub fn rows(&self) -> &[Row]
         ensures value { result.now ≡ self.now }
@@ -126,7 +128,7 @@ impl Index {
         &self.rows
     }
 
-    /// The steps of all tests.
+    /// Returns the steps of all tests.
     #[inline(always)]
     pub fn steps(&self) -> u64
         ensures value { result ≡ all_steps self.now }
@@ -134,8 +136,8 @@ impl Index {
         self.total
     }
 
-    /// The place of the first test that holds of an int, and the steps of the tests down to it, with
-    /// its own. Where none holds, the number of tests, and the steps of all.
+    /// Returns the index of the first test that an int passes, and the steps of the tests up to and
+    /// including it. If it passes none, returns the number of tests, and the steps of all.
     #[inline(never)]
     pub fn find(&self, number: i32) -> (usize, u64)
         ensures row { result.0 ≡ row_of (Int number) self.now }
@@ -152,7 +154,7 @@ impl Index {
     }
 }
 
-// The entries of rows and of one more behind them, where all take so many steps.
+// Returns the entries of some rows and one more after them, given the steps of all of them.
 fn with_entry(
     entries: Vec<Entry>,
     rows: &[Row],
@@ -178,8 +180,8 @@ fn with_entry(
     }
 }
 
-// Which guess is a number's: the highest seven binary digits of its hash. Up to 89 numbers in a row
-// have guesses of their own.
+// Returns the guess of a number: the highest seven binary digits of its hash. Up to 89 consecutive
+// numbers have different guesses.
 #[inline(always)]
 fn guess_of(number: i32) -> usize
     ensures inside { result < guess_count }
@@ -187,7 +189,7 @@ fn guess_of(number: i32) -> usize
     (number.cast_unsigned().wrapping_mul(GOLDEN) >> 25) as usize
 }
 
-// Where a number stands among rising ones: at the guess, or where it is found.
+// Returns the index of a number among ascending ones, either at the guess, or by binary search.
 #[inline(always)]
 fn locate(entries: &[Entry], guess: usize, key: i32) -> Result<usize, usize>
     requires rising { AreRising entries.now }
@@ -199,8 +201,8 @@ fn locate(entries: &[Entry], guess: usize, key: i32) -> Result<usize, usize>
     }
 }
 
-// Where a number stands among rising ones, and else between which two. How often it halves depends on
-// how many they are alone.
+// Returns the index of a number among ascending ones, or the index at which it would be inserted.
+// The number of halvings depends only on how many there are.
 #[inline(never)]
 fn search(entries: &[Entry], key: i32) -> Result<usize, usize>
     requires rising { AreRising entries.now }

@@ -1,4 +1,4 @@
-//! Code of handle trees.
+//! Prepared code of handle trees.
 #![tactic(auto)]
 
 mod code;

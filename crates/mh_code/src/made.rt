@@ -1,4 +1,4 @@
-//! Code that is being made.
+//! Code under construction.
 
 ghost use Rattle.std.specs.Prelude.{◌≡◌, IfOk};
 ghost use Rattle.std.specs.Arc.{arc_value};
@@ -9,11 +9,11 @@ use mh_base::NoMemory;
 use std::alloc::Global;
 use std::sync::Arc;
 
-// How many pieces of one code may be dropped by one another. Code may stand on other code, at most
-// as deep as a handle is.
+// The number of pieces of one code that may be dropped by one another. Code may contain other code,
+// at most as deeply as a handle is.
 const FEW: usize = 256;
 
-/// The pieces that were made so far, the last one last.
+/// The pieces that were made so far, in order.
 #[derive(Drop)]
 pub(crate) struct Made {
     alloc: Global,
@@ -21,7 +21,7 @@ pub(crate) struct Made {
 }
 
 impl Made {
-    // No pieces yet.
+    // Returns an empty list of pieces.
     pub(crate) fn new(alloc: Global) -> Made {
         Made {
             alloc,
@@ -29,12 +29,12 @@ impl Made {
         }
     }
 
-    // The allocator.
+    // Returns the allocator.
     pub(crate) fn alloc(&self) -> Global {
         self.alloc
     }
 
-    // One more piece.
+    // Adds a piece, and returns an owner of it.
     pub(crate) fn add(&mut self, piece: Piece) -> Result<Arc<Piece>, NoMemory>
         ensures value { IfOk result (λ a. arc_value a ≡ piece) }
     {
@@ -44,7 +44,7 @@ impl Made {
         Ok(made)
     }
 
-    // The code that begins with a piece.
+    // Returns the code that begins with a piece.
     pub(crate) fn finish(self, entry: Arc<Piece>) -> Result<Arc<Code>, NoMemory>
         ensures value { IfOk result (λ c. routine_of_code (arc_value c)
             ≡ routine_of (arc_value entry)) }
@@ -59,14 +59,14 @@ impl Made {
     }
 }
 
-// A piece with an owner.
+// Returns an owner of a piece.
 pub(crate) fn own(alloc: Global, piece: Piece) -> Result<Arc<Piece>, NoMemory>
     ensures value { IfOk result (λ a. arc_value a ≡ piece) }
 {
     Arc::new(alloc, piece).map_err(|_| NoMemory)
 }
 
-// The pieces in reverse order.
+// Returns the pieces in reverse order.
 fn last_first(alloc: Global, mut pieces: Vec<Arc<Piece>>) -> Result<Vec<Arc<Piece>>, NoMemory> {
     let mut turned = Vec::with_capacity(alloc, pieces.len()).map_err(|_| NoMemory)?;
     while let Some(piece) = pieces.pop() {

@@ -1,4 +1,4 @@
-//! Parts that follow a first one, and those that only negate its value.
+//! Parts that follow a first one, and parts that only negate its value.
 
 ghost use Rattle.std.specs.Prelude.{◌≡◌, ℕ};
 ghost use Rattle.std.specs.Arc.{arc_value};
@@ -15,14 +15,14 @@ use mh_tree::{Node, Operand};
 use mh_type::Op;
 use std::sync::Arc;
 
-/// The filters that are left, from a place of the operands on.
+/// The remaining filters, which begin at an index of the operands.
 #[derive(Clone, Copy)]
 pub(crate) struct Filters<'a> {
     pub(crate) position: usize,
     pub(crate) filters: &'a [Option<Arc<Node>>],
 }
 
-/// What is left to run below one more local: filters, and then the target.
+/// The parts that remain to run below one more local: filters, and then the target.
 #[derive(Clone, Copy)]
 pub(crate) struct Rest<'a> {
     pub(crate) filters: Filters<'a>,
@@ -30,7 +30,8 @@ pub(crate) struct Rest<'a> {
     pub(crate) operands: &'a [Operand],
 }
 
-// What a first part's value is for where what is left only has its `not` choose.
+// Returns the purpose of a first part's value, if the remaining parts only use the `not` of it to
+// choose.
 pub(crate) fn purpose_before<'a>(
     rest: &Rest<'_>,
     local: u32,
@@ -50,7 +51,7 @@ pub(crate) fn purpose_before<'a>(
     }
 }
 
-// Whether what is left is the operation `not` on a local.
+// Returns whether the remaining parts are the operation `not` on a local.
 #[tactic(auto, using(crate::proofs::NegatedLocals::negates_filters))]
 fn negates(rest: &Rest<'_>, local: u32) -> bool
     ensures value { (d : ℕ) → result ≡ negates_local local (prepared_filters
@@ -60,7 +61,7 @@ fn negates(rest: &Rest<'_>, local: u32) -> bool
     are_absent(rest.filters.filters) && is_not(rest.target) && is_local(rest.operands, local)
 }
 
-// Whether filters are those of no place.
+// Returns whether all filters are absent.
 fn are_absent(filters: &[Option<Arc<Node>>]) -> bool
     ensures value { result ≡ no_filters (filters_of (filter_trees filters.now)) }
 {
@@ -74,7 +75,7 @@ fn are_absent(filters: &[Option<Arc<Node>>]) -> bool
     true
 }
 
-// Whether a tree is the operation `not`.
+// Returns whether a tree is the operation `not`.
 fn is_not(node: &Node) -> bool
     ensures value { result ≡ is_not_tree (tree_of node.now) }
 {
@@ -84,7 +85,7 @@ fn is_not(node: &Node) -> bool
     matches!(op, Op::Not)
 }
 
-// Whether the first operand is a local.
+// Returns whether the first operand is a local.
 fn is_local(operands: &[Operand], local: u32) -> bool
     ensures value { result ≡ first_is_local local (operand_at operands.now 0) }
 {

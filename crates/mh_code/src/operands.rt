@@ -10,10 +10,10 @@ use mh_tree::Operand;
 use mh_type::{Value, same_value};
 use std::alloc::Global;
 
-// The most arguments that a call has.
+// The greatest number of arguments of a call.
 const WIDEST: u32 = 16;
 
-// Another operand of the same place.
+// Returns a copy of an operand.
 pub(crate) fn same(operand: &Operand) -> Result<Operand, NoMemory>
     ensures value { IfOk result (λ o. o ≡ operand.now) }
 {
@@ -24,7 +24,7 @@ pub(crate) fn same(operand: &Operand) -> Result<Operand, NoMemory>
     })
 }
 
-// Whether two operands are one.
+// Returns whether two operands are equal.
 fn is_same(one: &Operand, other: &Operand) -> bool
     ensures same { IsTrue result → one.now ≡ other.now }
 {
@@ -36,7 +36,7 @@ fn is_same(one: &Operand, other: &Operand) -> bool
     }
 }
 
-// Whether two lists of operands are one.
+// Returns whether two lists of operands are equal.
 pub(crate) fn same_operands(some: &[Operand], others: &[Operand]) -> bool
     ensures same { IsTrue result → some.now ≡ others.now }
 {
@@ -51,7 +51,7 @@ pub(crate) fn same_operands(some: &[Operand], others: &[Operand]) -> bool
     true
 }
 
-// The operand at a place.
+// Returns the operand at an index.
 pub(crate) fn at(operands: &[Operand], place: usize) -> Result<Operand, NoMemory>
     ensures value { IfOk result (λ o. o ≡ operand_at operands.now place) }
 {
@@ -61,7 +61,7 @@ pub(crate) fn at(operands: &[Operand], place: usize) -> Result<Operand, NoMemory
     }
 }
 
-// More operands at the end of a list.
+// Appends operands to a list.
 fn append(list: &mut Vec<Operand>, operands: &[Operand]) -> Result<(), NoMemory>
     ensures value { OnOk result (list.new.items ≡ list.old.items ++ operands.now) }
 {
@@ -71,7 +71,7 @@ fn append(list: &mut Vec<Operand>, operands: &[Operand]) -> Result<(), NoMemory>
     Ok(())
 }
 
-// A copy of the operands.
+// Returns a copy of the operands.
 pub(crate) fn copied(alloc: Global, operands: &[Operand]) -> Result<Vec<Operand>, NoMemory>
     ensures value { IfOk result (λ v. v.items ≡ operands.now) }
 {
@@ -80,7 +80,7 @@ pub(crate) fn copied(alloc: Global, operands: &[Operand]) -> Result<Vec<Operand>
     Ok(list)
 }
 
-// Constants at the end of a list.
+// Appends constants to a list.
 fn append_constants(list: &mut Vec<Operand>, values: &[Value]) -> Result<(), NoMemory>
     ensures value { OnOk result (list.new.items ≡ list.old.items ++ map Constant values.now) }
 {
@@ -91,7 +91,7 @@ fn append_constants(list: &mut Vec<Operand>, values: &[Value]) -> Result<(), NoM
     Ok(())
 }
 
-// As many arguments.
+// Returns `count` leading arguments as operands.
 pub(crate) fn arguments(alloc: Global, count: u32) -> Result<Vec<Operand>, NoMemory>
     ensures value { IfOk result (λ v. v.items ≡ map Argument (range_with_len 0 count)) }
 {
@@ -102,7 +102,7 @@ pub(crate) fn arguments(alloc: Global, count: u32) -> Result<Vec<Operand>, NoMem
     Ok(list)
 }
 
-// The operands with constants put in.
+// Returns the operands with constants inserted.
 pub(crate) fn put_in(
     alloc: Global,
     operands: &[Operand],
@@ -120,7 +120,7 @@ pub(crate) fn put_in(
     Ok(list)
 }
 
-// The operands without so many from a place on.
+// Returns the operands without `count` of them from an index on.
 pub(crate) fn taken_out(
     alloc: Global,
     operands: &[Operand],
@@ -136,7 +136,7 @@ pub(crate) fn taken_out(
     Ok(list)
 }
 
-// The operands at these places.
+// Returns the operands at these indices.
 pub(crate) fn reordered(
     alloc: Global,
     operands: &[Operand],
@@ -151,7 +151,7 @@ pub(crate) fn reordered(
     Ok(list)
 }
 
-// A local before the operands.
+// Returns a local followed by the operands.
 pub(crate) fn local_first(
     alloc: Global,
     local: u32,
@@ -165,7 +165,7 @@ pub(crate) fn local_first(
     Ok(list)
 }
 
-// The operands with a local at a place.
+// Returns the operands with a local in place of one of them.
 pub(crate) fn with_local(
     alloc: Global,
     operands: &[Operand],
@@ -182,7 +182,7 @@ pub(crate) fn with_local(
     Ok(list)
 }
 
-// How many operands there are, where they are the leading arguments in their order.
+// Returns the number of operands, if they are the leading arguments in order.
 pub(crate) fn leading(operands: &[Operand]) -> Option<u32>
     ensures value { IfSome result (λ n. operands.now ≡ leading_arguments n) }
 {
@@ -196,7 +196,7 @@ pub(crate) fn leading(operands: &[Operand]) -> Option<u32>
     Some(count)
 }
 
-// The operands before a place, and the others.
+// Returns the operands before an index, and the others.
 pub(crate) fn parts(operands: &[Operand], place: usize) -> (&[Operand], &[Operand])
     ensures before { result.0.now ≡ take place operands.now }
     ensures after { result.1.now ≡ drop place operands.now }
@@ -205,7 +205,7 @@ pub(crate) fn parts(operands: &[Operand], place: usize) -> (&[Operand], &[Operan
     (&operands[..place], &operands[place..])
 }
 
-// The operands behind so many from a place on.
+// Returns the operands after `count` of them from an index on.
 fn behind(operands: &[Operand], position: usize, count: usize) -> &[Operand]
     ensures value { result.now ≡ drop (position + count) operands.now }
 {

@@ -23,10 +23,11 @@ use std::fmt;
 use std::marker::Model;
 use std::sync::Arc;
 
-/// A handle and its prepared code, in which moved arguments vanish and each piece says what comes
-/// next. A clone of it is `share`, which copies no code.
+/// A handle and its prepared code, in which nodes that move arguments disappear and each piece says
+/// what comes next. To copy it, use `share`, which copies no code.
 ///
-/// A contract sees the handle's tree and type. That the code is the tree's is the invariant.
+/// A contract sees the handle's tree and type. The invariant says that the code does what the tree
+/// does.
 #[derive(Drop)]
 pub struct Prepared {
     handle: Handle,
@@ -57,7 +58,8 @@ impl fmt::Debug for Prepared {
 }
 
 impl Prepared {
-    /// The handle with its code, in time linear in the tree's size. Fails only with `NoMemory`.
+    /// Returns the handle with its code. Linear in the size of the tree. Fails only with
+    /// `NoMemory`.
     pub fn new(alloc: Global, handle: &Handle) -> Result<Prepared, NoMemory>
         ensures value { IfOk result (λ p. p ≡ handle.now) }
     {
@@ -66,9 +68,9 @@ impl Prepared {
         Ok(Prepared { handle, code })
     }
 
-    /// The target where the test gives true, and else the fallback: what `Handle::guard` makes of
-    /// the three handles, with its refusals. It takes the code of target and fallback as it is, in
-    /// time linear in the size of the test.
+    /// Returns the handle that runs the target if the test returns true, and otherwise the
+    /// fallback: the result of `Handle::guard` for the three handles, with the same faults. It
+    /// reuses the code of the target and the fallback, in time linear in the size of the test.
     pub fn guard(
         alloc: Global,
         test: &Prepared,
@@ -86,8 +88,9 @@ impl Prepared {
         Ok(Prepared { handle, code })
     }
 
-    /// The target while a point is valid, and else the fallback: what `Handle::point` makes of the
-    /// two handles, with its refusals. It takes the code of its parts as it is, in constant time.
+    /// Returns the handle that runs the target while a point is valid, and otherwise the fallback:
+    /// the result of `Handle::point` for the two handles, with the same faults. It reuses the code
+    /// of its parts, in constant time.
     pub fn point(
         alloc: Global,
         point: u32,
@@ -105,7 +108,7 @@ impl Prepared {
         Ok(Prepared { handle, code })
     }
 
-    /// Another owner of the handle and of its code. Fails only with `NoMemory`.
+    /// Returns another owner of the handle and of its code. Fails only with `NoMemory`.
     pub fn share(&self) -> Result<Prepared, NoMemory>
         ensures value { IfOk result (λ p. p ≡ self.now) }
     {
@@ -114,21 +117,21 @@ impl Prepared {
         Ok(Prepared { handle, code })
     }
 
-    // Another owner of the code.
+    // Returns another owner of the code.
     fn code_owner(&self) -> Result<Arc<Code>, NoMemory>
         ensures value { IfOk result (λ a. routine_of_code (arc_value a) ≡ handle_routine self.now) }
     {
         Arc::try_clone(&self.code).map_err(|_| NoMemory)
     }
 
-    /// The handle.
+    /// Returns the handle.
     pub fn handle(&self) -> &Handle
         ensures value { result.now ≡ self.now }
     {
         &self.handle
     }
 
-    /// The code.
+    /// Returns the code.
     pub fn code(&self) -> &Code
         ensures value { routine_of_code result.now ≡ handle_routine self.now }
         ensures sound { IsSound self.now.tree self.now.signature }
@@ -137,7 +140,7 @@ impl Prepared {
     }
 }
 
-// The operands of a handle's calls: its parameters are the arguments.
+// Returns the operands of a handle's calls: its parameters are the arguments.
 fn parameters(alloc: Global, handle: &Handle) -> Result<Vec<Operand>, NoMemory>
     ensures value { IfOk result (λ v. v.items
         ≡ leading_arguments (length handle.now.signature.parameters)) }
@@ -146,7 +149,7 @@ fn parameters(alloc: Global, handle: &Handle) -> Result<Vec<Operand>, NoMemory>
     arguments(alloc, count as u32)
 }
 
-// The code of a handle's calls.
+// Returns the code of a handle's calls.
 fn call_code(alloc: Global, handle: &Handle) -> Result<Arc<Code>, NoMemory>
     ensures value { IfOk result (λ c. routine_of_code (arc_value c) ≡ handle_routine handle.now) }
 {
@@ -160,7 +163,7 @@ fn call_code(alloc: Global, handle: &Handle) -> Result<Arc<Code>, NoMemory>
     made.finish(entry)
 }
 
-// The code of a guard over other code.
+// Returns the code of a guard over other code.
 fn guard_code(
     alloc: Global,
     test: &Handle,
@@ -188,7 +191,7 @@ fn guard_code(
     made.finish(entry)
 }
 
-// The code of a point over other code.
+// Returns the code of a point over other code.
 fn point_code(
     alloc: Global,
     point: u32,

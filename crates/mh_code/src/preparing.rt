@@ -25,7 +25,7 @@ use mh_tree::{Node, Operand};
 use mh_type::{Op, Value};
 use std::sync::Arc;
 
-/// Where the parameters of a part stand, and how many locals there are.
+/// The operands that the parameters of a part refer to, and the number of locals.
 #[derive(Clone, Copy)]
 pub(crate) struct Place<'a> {
     pub(crate) operands: &'a [Operand],
@@ -39,7 +39,8 @@ struct Branches<'a> {
     fallback: &'a Arc<Node>,
 }
 
-// The code of a part of a tree, with so many steps before it, and of what its value is for.
+// Returns the code of a part of a tree, with `before` steps before it, followed by the use of its
+// value.
 #[cycle(prepare)]
 pub(crate) fn prepare(
     made: &mut Made,
@@ -126,7 +127,7 @@ pub(crate) fn prepare(
     }
 }
 
-// The code of a part below moved operands.
+// Returns the code of a part below moved operands.
 #[cycle(prepare)]
 fn prepare_moved(
     made: &mut Made,
@@ -146,7 +147,7 @@ fn prepare_moved(
     prepare(made, target, &place, steps, purpose)
 }
 
-// A value, and what it is for.
+// Returns the code of a value and its use.
 fn constant(
     made: &mut Made,
     value: &Value,
@@ -161,7 +162,8 @@ fn constant(
     use_operand(made, Operand::Constant(value), depth, steps, purpose)
 }
 
-// An operation on as many of the operands as it has parameters, and what its result is for.
+// Returns the code of an operation on as many of the operands as it has parameters, and of the use
+// of its result.
 fn operation(
     made: &mut Made,
     op: Op,
@@ -188,7 +190,7 @@ fn operation(
     )
 }
 
-// The filters, and then the target.
+// Returns the code of the filters, followed by the target.
 #[cycle(prepare)]
 fn prepare_filters(
     made: &mut Made,
@@ -230,7 +232,7 @@ fn prepare_filters(
     prepare_two(made, node, &argument, &rest, steps, purpose)
 }
 
-// The code of a first part, and of what is left below its value, the next local.
+// Returns the code of a first part, and of the parts that remain below its value, the next local.
 #[cycle(prepare)]
 fn prepare_two(
     made: &mut Made,
@@ -267,7 +269,7 @@ fn prepare_two(
     prepare_for(made, first, place, steps, &purpose)
 }
 
-// The code of a part, and of what its value is for.
+// Returns the code of a part, and of the use of its value.
 #[cycle(prepare)]
 fn prepare_for(
     made: &mut Made,
@@ -285,7 +287,8 @@ fn prepare_for(
     prepare(made, node, place, steps, purpose)
 }
 
-// The next place. Behind the last operand one place is as another: none has an operand there.
+// Returns the next index. After the last operand all indices are alike: there is no operand at any
+// of them.
 fn after(operands: &[Operand], place: usize) -> usize
     ensures value { (fs : FiltersData) → (d s : ℕ) → (go : List OperandData → ℕ → ℕ → CodeData)
         → (env : List OperandData) → length env ≡ length operands.now
@@ -297,7 +300,7 @@ fn after(operands: &[Operand], place: usize) -> usize
     place
 }
 
-// The filter, on the target's result.
+// Returns the code of the filter, applied to the target's result.
 #[cycle(prepare)]
 fn prepare_return(
     made: &mut Made,
@@ -327,7 +330,7 @@ fn prepare_return(
     prepare_two(made, target, place, &rest, steps, purpose)
 }
 
-// The target, on the combiner's result and the operands.
+// Returns the code of the target, applied to the combiner's result and the operands.
 #[cycle(prepare)]
 fn prepare_fold(
     made: &mut Made,
@@ -358,7 +361,7 @@ fn prepare_fold(
     prepare_two(made, combiner, place, &rest, steps, purpose)
 }
 
-// The branches, and their test.
+// Returns the code of the branches and of their test.
 #[cycle(prepare)]
 fn prepare_guard(
     made: &mut Made,
@@ -390,7 +393,7 @@ fn prepare_guard(
     prepare(made, test, place, steps, &truth)
 }
 
-// The branches of a point.
+// Returns the code of the branches of a point.
 #[cycle(prepare)]
 fn prepare_point(
     made: &mut Made,

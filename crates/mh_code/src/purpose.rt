@@ -1,4 +1,4 @@
-//! What the value of a part is for.
+//! Uses of the value of a part.
 
 ghost use Rattle.std.specs.Prelude.{◌≡◌, ◌≤◌, IfOk};
 ghost use Rattle.std.specs.Arc.{arc_value};
@@ -19,8 +19,8 @@ use mh_type::{Kind, Op};
 use std::alloc::Global;
 use std::sync::Arc;
 
-/// What the value of a part is for: it is the answer, a local that a piece reads, the truth that
-/// chooses one of two pieces, or one whose `not`, which takes a step, chooses.
+/// The use of the value of a part: it is the answer, a local that a piece reads, the truth that
+/// chooses one of two pieces, or a truth whose `not`, which takes a step, chooses.
 #[derive(Clone, Copy)]
 pub(crate) enum Purpose<'a> {
     Answer,
@@ -38,14 +38,15 @@ pub(crate) enum Purpose<'a> {
     },
 }
 
-// Another owner of a piece.
+// Returns another owner of a piece.
 pub(crate) fn owner(piece: &Arc<Piece>) -> Result<Arc<Piece>, NoMemory>
     ensures value { IfOk result (λ a. arc_value a ≡ arc_value piece.now) }
 {
     Arc::try_clone(piece).map_err(|_| NoMemory)
 }
 
-// An operand's value, below so many locals, and what it is for. It is kept before it is negated.
+// Returns the piece of an operand's value, below `depth` locals, and of its use. It is stored as a
+// local before it is negated.
 pub(crate) fn use_operand(
     made: &mut Made,
     operand: Operand,
@@ -80,7 +81,7 @@ pub(crate) fn use_operand(
     made.add(piece)
 }
 
-// One of two pieces, by the `not` of a local.
+// Returns the piece that chooses one of two pieces by the `not` of a local.
 fn negated_local(
     made: &mut Made,
     place: u32,
@@ -100,15 +101,16 @@ fn negated_local(
     })
 }
 
-// Whether an operation gives a truth, which it then does on any operands.
+// Returns whether an operation returns a truth, which it then does for any operands.
 fn gives_truth(op: Op) -> bool
     ensures value { result ≡ op_gives_truth op }
 {
     op.op_type().ret().is(Kind::Boolean)
 }
 
-// The result of an operation on two operands, below so many locals, and what it is for. One that
-// gives a truth throws nothing, and chooses the other piece where its `not` chooses one.
+// Returns the piece of the result of an operation on two operands, below `depth` locals, and of its
+// use. An operation that returns a truth never throws, and chooses the other piece if its `not` is
+// to choose.
 pub(crate) fn use_operation(
     made: &mut Made,
     op: Op,
@@ -173,7 +175,7 @@ pub(crate) fn use_operation(
     made.add(piece)
 }
 
-// One of two pieces, by the truth that an operation gives.
+// Returns the piece that chooses one of two pieces by the truth of an operation's result.
 fn test(
     alloc: Global,
     op: Op,
@@ -199,8 +201,8 @@ fn test(
     }
 }
 
-// What a site gives on operands, below so many locals, and what it is for. A truth is kept before it
-// or its `not` chooses.
+// Returns the piece of a site's result on operands, below `depth` locals, and of its use. A truth
+// is stored as a local before it or its `not` chooses.
 pub(crate) fn use_invocation(
     made: &mut Made,
     site: u32,
@@ -233,7 +235,7 @@ pub(crate) fn use_invocation(
     })
 }
 
-// What a site gives on operands, as the answer.
+// Returns the piece that answers with a site's result on operands.
 fn answer_invocation(
     made: &mut Made,
     site: u32,
@@ -254,7 +256,8 @@ fn answer_invocation(
     })
 }
 
-// Other code as the answer: its first piece itself, where it has no further owners of its pieces.
+// Returns the piece that answers with the result of other code: the first piece of that code, if
+// the code has no further owners of its pieces.
 pub(crate) fn use_code(alloc: Global, code: Arc<Code>) -> Result<Arc<Piece>, NoMemory>
     ensures value { IfOk result (λ p. routine_of (arc_value p)
         ≡ routine_of_code (arc_value code)) }

@@ -1,4 +1,4 @@
-//! Tests of one argument that follow one another, as one piece.
+//! Consecutive tests of one argument, as one piece.
 
 ghost use Rattle.std.specs.Prelude.{◌≡◌, ◌+◌, ◌≤◌, ◌++◌, ◌<◌, ◌∷◌, [], length, IfOk, OnOk};
 ghost use Rattle.std.specs.Arc.{arc_value};
@@ -13,21 +13,22 @@ use mh_base::NoMemory;
 use std::alloc::Global;
 use std::sync::Arc;
 
-// How many tests of one argument become one piece, and the most tests of a piece behind them that
-// become part of it.
+// The number of consecutive tests of one argument that become one piece, and the greatest number of
+// tests of a following piece that become part of it.
 const RUN: usize = 4;
 
 const MOST_BEHIND: usize = 60;
 
-// Tests of one argument and their targets.
+// Tests of one argument, and their targets.
 #[derive(Drop)]
 struct Chain {
     index: Index,
     targets: Vec<Arc<Piece>>,
 }
 
-// One of two pieces, by whether an int argument is a key. Where that is the fourth test of the
-// argument before a piece of another kind, all are one piece, with those of a switch behind them.
+// Returns the piece that chooses one of two pieces by whether an int argument is a key. If this is
+// the fourth test of the argument before a piece of another kind, they all become one piece,
+// together with those of a switch that follows.
 pub(crate) fn key_test(
     alloc: Global,
     test: KeyTest,
@@ -49,7 +50,7 @@ pub(crate) fn key_test(
     })
 }
 
-// Whether three tests of one argument follow one another.
+// Returns whether three consecutive tests are of one argument.
 fn is_run(first: &Piece, place: u32) -> bool {
     let mut piece = first;
     for _ in 1..RUN {
@@ -61,7 +62,7 @@ fn is_run(first: &Piece, place: u32) -> bool {
     true
 }
 
-// The tests of an argument that follow one another, as one piece.
+// Returns consecutive tests of an argument as one piece.
 fn run(
     alloc: Global,
     test: KeyTest,
@@ -77,8 +78,8 @@ fn run(
     switch(alloc, test.place, chain, behind)
 }
 
-// The tests of an argument that follow one another, at most three of them, behind those of a chain,
-// and what is behind them.
+// Appends consecutive tests of an argument, at most three, to a chain, and returns the chain and
+// the piece that follows.
 fn gather<'a>(
     first: Chain,
     place: u32,
@@ -111,7 +112,7 @@ fn gather<'a>(
     Ok((chain, behind))
 }
 
-// The piece of a chain, with the tests of a switch behind it.
+// Returns the piece of a chain, with the tests of a switch that follows it.
 fn switch(alloc: Global, place: u32, chain: Chain, behind: &Arc<Piece>) -> Result<Piece, NoMemory>
     requires few { length chain.index ≤ run_length }
     requires even { length chain.index ≡ length chain.targets.items }
@@ -143,7 +144,7 @@ impl Chain {
         }
     }
 
-    // With one more test.
+    // Returns the chain with one more test.
     fn with(self, key: i32, steps: u32, target: Arc<Piece>) -> Result<Chain, NoMemory>
         requires few { length self.index < most_rows }
         ensures index { IfOk result (λ c. c.index ≡ self.index
@@ -156,7 +157,7 @@ impl Chain {
         Ok(Chain { index, targets })
     }
 
-    // With the tests of an index.
+    // Returns the chain with the tests of an index.
     fn with_all(self, more: &Index, further: &[Arc<Piece>]) -> Result<Chain, NoMemory>
         requires few { length self.index + length more.now ≤ most_rows }
         ensures index { IfOk result (λ c. c.index ≡ self.index ++ more.now) }
@@ -169,7 +170,7 @@ impl Chain {
         Ok(Chain { index, targets })
     }
 
-    // The piece of the tests, and of what is behind them.
+    // Returns the piece of the tests and of the piece that follows them.
     fn finish(self, alloc: Global, place: u32, otherwise: Arc<Piece>) -> Result<Piece, NoMemory>
         ensures value { IfOk result (λ p. routine_of p ≡ chain_of place self.index
             (routines self.targets.items) (routine_of (arc_value otherwise))) }
@@ -185,7 +186,7 @@ impl Chain {
     }
 }
 
-// Other owners of pieces, at the end of a list.
+// Appends other owners of pieces to a list.
 fn append(list: &mut Vec<Arc<Piece>>, pieces: &[Arc<Piece>]) -> Result<(), NoMemory>
     ensures value { OnOk result (routines list.new.items ≡ routines list.old.items
         ++ routines pieces.now) }

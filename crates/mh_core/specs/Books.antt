@@ -1,4 +1,4 @@
--- What contracts see of a book, and what books and machines keep.
+-- The view of a book that contracts use, and the invariants of books.
 use Rattle.std.specs.Prelude.{◌≡◌, ℕ, ◌+◌, ◌<◌, ◌≤◌, ◌&&◌, Bool, false, nat_lt, List, [], ◌∷◌, length, reverse, vec_len, refl}
 use Rattle.std.specs.Coded.{Coded, code_by, coded×, coded_bool, coded_list}
 use Rattle.std.specs.Vec.{vec_capacity}
@@ -24,8 +24,8 @@ use Rattle.mh_core.specs.Rows.{tests_of_record}
 use Rattle.mh_core.specs.Snapshots.{SnapshotState, coded_snapshot, snapshots_of}
 use Rattle.mh_base.specs.Tests.{Passes, Refuses}
 
--- its records, newest first, with what was made of them: the world, the totals, the snapshots and the plans, newest first;
--- and whether there is memory for one more of each
+-- the book's records, newest first, with the state that follows from them: the world, the totals, the snapshots and the plans, newest
+-- first; and whether there is memory for one more of each
 pub record BookState : Type 0 where
   pub definition : DefinitionData
   pub limits : LimitsData
@@ -61,12 +61,12 @@ abbrev pub opened_book : DefinitionData → ℕ → LimitsData → BookState
 opened_book d workers l =
     record { definition = d; limits = l; records = []; world = opened d; totals = opened_totals (length (links d)) workers l.total; snapshots = []; plans = []; room = false }
 
--- each record passed its tests, where as many events had been accepted as there were records, or more
+-- each record passed its tests when some number of events had been accepted, at least as many as there were records
 abbrev pub Legal : DefinitionData → LimitsData → List Record → Type 0
 Legal d l [] = Unit {0}
 Legal d l (e ∷ r) = ((accepted : ℕ) × ((length r ≤ accepted) × Passes (tests_of_record d l accepted r e))) × Legal d l r
 
--- the totals are the sums that the records give
+-- the totals are the sums of the flushes among the records
 pub record AreTotals (d : DefinitionData) (l : LimitsData) (r : List Record) (t : TotalsState) : Type 0 where
   pub count : length t.total ≡ length (links d)
   pub sums : (j : ℕ) → j < length (links d) → at t.total j ≡ total r j
@@ -83,15 +83,15 @@ pub record IsBook (b : BookState) : Type 0 where
   pub snapshots : b.snapshots ≡ snapshots_of b.definition b.records
   pub plans : b.plans ≡ plans_of b.records
 
--- a record passes its tests, where so many calls were accepted beside the records
+-- a record passes its tests, given that `calls` calls were accepted besides the records
 abbrev pub MayTake : BookState → ℕ → Record → Type 0
 MayTake b calls e = Passes (tests_of_record b.definition b.limits (length b.records + calls) b.records e)
 
--- the refusal of the first failing test of a record, or out of memory where none fails
+-- the refusal of the first failing test of a record, or lack of memory if none fails
 abbrev pub MayRefuse : BookState → ℕ → Record → Refusal → Type 0
 MayRefuse b calls e told = Refuses (tests_of_record b.definition b.limits (length b.records + calls) b.records e) told
 
--- what a record is answered with, behind others
+-- the reply to a record after others
 abbrev pub reply_to : DefinitionData → List Record → Record → Reply
 reply_to d r (Flushed w hits) = reply.Done
 reply_to d r (Targeted s tree) = reply.Done
@@ -100,14 +100,14 @@ reply_to d r Snapped = reply.Taken (snapshots r + 1)
 reply_to d r (Published n plan) = reply.Published (plans r + 1) plan
 reply_to d r (Installed m) = reply.Installed (report d r m)
 
--- exactly this record is appended, which passes its tests, where so many calls were accepted beside the records
+-- exactly this record is appended, which passes its tests, given that `calls` calls were accepted besides the records
 pub record Takes (b : BookState) (calls : ℕ) (e : Record) (new : BookState) : Type 0 where
   pub passes : MayTake b calls e
   pub records : new.records ≡ e ∷ b.records
   pub definition : new.definition ≡ b.definition
   pub limits : new.limits ≡ b.limits
 
--- the first failing test is reported, or out of memory where none fails, and nothing changes
+-- the first failing test is reported, or lack of memory if none fails, and nothing changes
 pub record Rejects (b : BookState) (calls : ℕ) (e : Record) (told : Refusal) (new : BookState) : Type 0 where
   pub refuses : MayRefuse b calls e told
   pub same : new ≡ b

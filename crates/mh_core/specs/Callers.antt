@@ -1,4 +1,4 @@
--- Calls of a site over a definition: what stands before the answer.
+-- Calls of a site over a definition: the conditions for an answer.
 use Rattle.std.specs.Prelude.{◌≡◌, ℕ, ◌<◌, ◌≤◌, true, false, List, length}
 use Rattle.mh_type.specs.Fits.{Fits}
 use Rattle.mh_type.specs.declared.value.Value.{Value}
@@ -10,7 +10,7 @@ use Rattle.mh_core.specs.declared.caller.CalleeFault.TheVariants.{NoSite, WrongT
 use Rattle.mh_core.specs.declared.refusal.Refusal.{Refusal}
 use Rattle.mh_core.specs.declared.refusal.Refusal.TheVariants as refusal
 
--- the site is there, and the arguments fit its type
+-- the site exists, and the arguments fit its type
 pub record IsCallable (d : DefinitionData) (s : ℕ) (a : List Value) : Type 0 where
   pub inside : s < length d.sites
   pub fits : Fits (site_at d s).method_type a
@@ -24,7 +24,7 @@ abbrev pub refusal_of_callee : CalleeFault → Refusal
 refusal_of_callee NoSite = refusal.NoSite
 refusal_of_callee WrongType = refusal.WrongType
 
--- the link that is hit has one more hit, and no other
+-- the link that is hit has one more hit, and no other has
 pub record Counts (d : DefinitionData) (s : ℕ) (a : List Value) (l new : LedgerState) : Type 0 where
   pub hit : (j : ℕ) → hits d s a j ≡ true → new ≡ with_hit l j
   pub none : ((j : ℕ) → hits d s a j ≡ false) → new ≡ l

@@ -17,18 +17,18 @@ is_linked x = elim x.linkage as (λ _. Bool) [ Linked links ↦ true | Unlinked 
 abbrev pub is_skipped : SiteLinkage → Bool
 is_skipped x = elim x.linkage as (λ _. Bool) [ Linked links ↦ false | Unlinked ↦ false | Skipped ↦ true ]
 
--- the links that were left out, and nothing where there is none
+-- the links that were left out, or nothing if there are none
 abbrev pub invalid_text : List ℕ → List ℕ
 invalid_text [] = []
 invalid_text (j ∷ js) = codes " invalid " ++ numbers_text (j ∷ js)
 
--- how many sites were linked, how many skipped, and what was left out
+-- the numbers of linked and of skipped sites, and the links that were left out
 abbrev pub report_text : InstallReport → List ℕ
 report_text report =
     codes "linked " ++ (decimal (length (filter is_linked report.sites))
     ++ (codes " skipped " ++ (decimal (length (filter is_skipped report.sites)) ++ invalid_text report.left_out)))
 
--- a reply, whose points stand by number
+-- a reply, whose points are written by number
 abbrev pub reply_text : Reply → List ℕ
 reply_text (Called outcome steps) = outcome_text outcome
 reply_text Done = codes "ok"

@@ -1,4 +1,4 @@
--- The headline: what is promised of every interleaving of events, in one statement.
+-- The headline: the promise for every interleaving of events, in one statement.
 use Rattle.std.specs.Prelude.{◌≡◌, ◌⊎◌, ℕ, ◌+◌, ◌<◌, List, ◌∷◌, ◌++◌, length}
 use Rattle.mh_base.specs.Tests.{Refuses}
 use Rattle.mh_type.specs.declared.outcome.Outcome.{Outcome}
@@ -20,7 +20,7 @@ use Rattle.mh_core.specs.Legal.{Setting, tests}
 use Rattle.mh_core.specs.Problems.{problem_after}
 use Rattle.mh_core.specs.Records.{base, environment_of_bases, snapshots, total}
 
--- the history after events that were answered so: those that were not refused, newest first, and then what there was
+-- the history after events with these replies: the events that were not refused, newest first, and then the earlier history
 abbrev pub history_after : List Event → List Event → List Reply → List Event
 history_after h (e ∷ events) (Refused told ∷ replies) = history_after h events replies
 history_after h (e ∷ events) (reply ∷ replies) = history_after (e ∷ h) events replies
@@ -37,12 +37,12 @@ pub record IsStep (start events : List Event) (replies : List Reply) (e : Event)
   pub level : length earlier ≡ length told
   pub history : before ≡ history_after start earlier told
 
--- what a site's unspeculated tree means after a history: that of its last retargeting, with the points that are valid then,
--- where an invocation means the unspeculated tree of the site that it invokes; what is installed does not count
+-- the meaning of a site's unspecialised tree after a history: that of its last retargeting, with the points that are valid then, where an
+-- invocation means the unspecialised tree of the site that it invokes; installed links do not count
 abbrev pub meaning : DefinitionData → List Event → ℕ → List Value → Outcome
 meaning d h s a = mean (environment_of_bases d (records d h)) (base d (records d h) s).tree a
 
--- a call returns what its site's unspeculated tree means at that step, or is refused by its first failing test or for want of memory
+-- a call returns what its site's unspecialised tree means at that step, or is refused by its first failing test or for lack of memory
 abbrev pub EachCallMeansItsTree : Setting → List Event → List Event → List Reply → Type 0
 EachCallMeansItsTree x start events replies =
     (w s : ℕ) → (a : List Value) → (reply : Reply) → (before : List Event) → IsStep start events replies (Call w s a) reply before
@@ -65,7 +65,7 @@ pub record IsBestAt (d : DefinitionData) (before : List Event) (n : ℕ) (plan :
 abbrev pub EachPlanIsBest : DefinitionData → List Event → Type 0
 EachPlanIsBest d h = (after before : List Event) → (n : ℕ) → (plan : Plan) → h ≡ after ++ Publish n plan ∷ before → IsBestAt d before n plan
 
--- the events were answered after the history `start`, one by one, and `h` is the history then
+-- the events were answered after the history `start`, one by one, and `h` is the history afterwards
 pub record IsHeadline (x : Setting) (start events : List Event) (replies : List Reply) (h : List Event) : Type 0 where
   pub answered : length replies ≡ length events
   pub history : h ≡ history_after start events replies

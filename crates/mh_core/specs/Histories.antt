@@ -9,7 +9,7 @@ use Rattle.mh_core.specs.declared.record.Record.{Record}
 use Rattle.mh_core.specs.declared.record.Record.TheVariants.{Flushed, Targeted, Invalidated, Snapped, Published, Installed}
 use Rattle.mh_core.specs.Hits.{moved}
 
--- the records of a history: its events but the calls, a flush with what it moves
+-- the records of a history: its events other than calls, a flush with the hits that it moves
 abbrev pub records : DefinitionData → List Event → List Record
 records d [] = []
 records d (Call w s a ∷ h) = records d h
@@ -20,7 +20,7 @@ records d (Snapshot ∷ h) = Snapped ∷ records d h
 records d (Publish n plan ∷ h) = Published n plan ∷ records d h
 records d (Install m ∷ h) = Installed m ∷ records d h
 
--- the event that a record is of
+-- the event of a record
 abbrev pub event_of : Record → Event
 event_of (Flushed w hits) = Flush w
 event_of (Targeted s tree) = Target s tree

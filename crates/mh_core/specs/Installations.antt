@@ -20,7 +20,7 @@ use Rattle.mh_core.specs.declared.record.Record.TheVariants.{Flushed, Targeted, 
 use Rattle.mh_core.specs.Problems.{is_eligible}
 use Rattle.mh_core.specs.Records.{numbers, base, valid_points, version, past, plans}
 
--- a plan, and the number of the snapshot that it was published for
+-- a plan, and the number of its snapshot
 pub record PublishedPlan : Type 0 where
   pub snapshot : ℕ
   pub plan : Plan
@@ -50,7 +50,7 @@ is_current r m s = version (past r (plan_at r m).snapshot) s == version r s
 abbrev pub own_links : DefinitionData → ℕ → List ℕ
 own_links d s = range_with_len (first_link d s) (length (site_at d s).links)
 
--- the links of a site that a plan has, in link order
+-- the links of a site that a plan selects, in link order
 abbrev pub chosen : DefinitionData → List Record → ℕ → ℕ → List ℕ
 chosen d r m s = filter (member (plan_at r m).plan.links) (own_links d s)
 
@@ -68,7 +68,7 @@ kept d (Snapped ∷ r) s = kept d r s
 kept d (Published n plan ∷ r) s = kept d r s
 kept d (Installed m ∷ r) s = if is_current r m s then usable d r m s else kept d r s
 
--- the kinds of the parameters before the key place
+-- the kinds of the parameters before the key position
 abbrev pub before_key : Site → List Kind
 before_key x = elim x.key as (λ _. List Kind) [ None ↦ [] | Some q ↦ take q x.method_type.parameters ]
 
@@ -87,34 +87,34 @@ linked d r s = cached d s (base d r s) (kept d r s)
 abbrev pub linkeds : DefinitionData → List Record → List TypedTree
 linkeds d r = map (linked d r) (numbers (length d.sites))
 
--- the valid points, and the linked trees, which run in the place of the base trees
+-- the valid points, and the linked trees, which run in place of the base trees
 abbrev pub linked_sites : DefinitionData → List Record → Setting
 linked_sites d r = sites (valid_points d r) (linkeds d r)
 
--- what trees do after the records, and in which steps: an invocation runs the linked tree of its site
+-- what trees do after the records, and in how many steps: an invocation runs the linked tree of its site
 abbrev pub environment_of_links : DefinitionData → List Record → Environment
 environment_of_links d r = env (linked_sites d r)
 
--- an installation concerns the sites that have a link in the plan, and those that hold links now
+-- an installation concerns the sites that have a link in the plan, and those that currently hold links
 abbrev pub is_concerned : DefinitionData → List Record → ℕ → ℕ → Bool
 is_concerned d r m s = nat_lt 0 (length (chosen d r m s)) || nat_lt 0 (length (kept d r s))
 
 abbrev pub concerned : DefinitionData → List Record → ℕ → List ℕ
 concerned d r m = filter (is_concerned d r m) (numbers (length d.sites))
 
--- what a site has with these links
+-- the linkage of a site with these links
 abbrev pub linkage_of : List ℕ → Linkage
 linkage_of [] = Unlinked
 linkage_of (j ∷ js) = Linked (length (j ∷ js))
 
--- a site that was retargeted since the snapshot is left as it is
+-- a site that was retargeted since the snapshot is skipped
 abbrev pub site_linkage : DefinitionData → List Record → ℕ → ℕ → SiteLinkage
 site_linkage d r m s = record { site = s; linkage = if is_current r m s then linkage_of (usable d r m s) else Skipped }
 
--- the plan's links, at sites that are not skipped, of which a need is invalid
+-- the plan's links, at sites that are not skipped, of which a needed point is invalid
 abbrev pub left_out : DefinitionData → List Record → ℕ → List ℕ
 left_out d r m = filter (λ j. is_current r m (site_of d j) && not (is_eligible d r j)) (plan_at r m).plan.links
 
--- what the installation of a plan is answered with
+-- the reply to the installation of a plan
 abbrev pub report : DefinitionData → List Record → ℕ → InstallReport
 report d r m = record { sites = map (site_linkage d r m) (concerned d r m); left_out = left_out d r m }

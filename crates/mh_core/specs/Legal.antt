@@ -23,13 +23,13 @@ use Rattle.mh_core.specs.Rows.{tests_of_record}
 use Rattle.mh_base.specs.Tests.{Tests, test, only, Refuses, Passes}
 use Rattle.mh_core.specs.Refusals.{memory_last}
 
--- what does not change: the definition, how many workers, the limits
+-- the constant parts: the definition, the number of workers, the limits
 pub record Setting : Type 0 where
   pub definition : DefinitionData
   pub workers : ℕ
   pub limits : LimitsData
 
--- what contracts see of a machine
+-- the view of a machine that contracts use
 pub record MachineState : Type 0 where
   pub setting : Setting
   pub history : List Event
@@ -38,15 +38,15 @@ pub record MachineState : Type 0 where
 abbrev pub opened_machine : DefinitionData → ℕ → LimitsData → MachineState
 opened_machine d workers limits = record { setting = record { definition = d; workers = workers; limits = limits }; history = [] }
 
--- one event more
+-- the machine after one more event
 abbrev pub extended : MachineState → Event → MachineState
 extended m e = record { setting = m.setting; history = e ∷ m.history }
 
--- what the site's base tree means, where invocations mean base trees, in the steps of its linked tree, where they run linked trees
+-- the meaning of the site's base tree, over base trees, with the steps of its linked tree, over linked trees
 abbrev pub answer_of_call : DefinitionData → List Record → ℕ → List Value → Reply
 answer_of_call d r s a = answers.Called (mean (environment_of_bases d r) (base d r s).tree a) (steps (environment_of_links d r) (linked d r s).tree a)
 
--- the tests of a call that no history decides: the worker, the site, the arguments
+-- the tests of a call that do not depend on the history: the worker, the site, the arguments
 abbrev pub callee_tests : DefinitionData → ℕ → ℕ → ℕ → List Value → Tests Refusal → Tests Refusal
 callee_tests d workers w s a later =
     test (w < workers) (only NoWorker)
@@ -58,7 +58,7 @@ module _ (x : Setting) where
   abbrev pub HasRoom : List Event → ℕ → ℕ → List Value → Type 0
   HasRoom h w s a = (j : ℕ) → j < length (links x.definition) → hits x.definition s a j ≡ true → unflushed x.definition h w j < x.limits.ledger
 
-  -- the tests of a record behind those of a history
+  -- the tests of a record after those of a history
   abbrev pub record_tests : List Event → Record → Tests Refusal
   record_tests h e = tests_of_record x.definition x.limits (length h) (records x.definition h) e
 
@@ -75,7 +75,7 @@ module _ (x : Setting) where
   tests h (Publish n plan) = record_tests h (Published n plan)
   tests h (Install m) = record_tests h (Installed m)
 
-  -- what an accepted event is answered with
+  -- the reply to an accepted event
   abbrev pub answer : List Event → Event → Reply
   answer h (Call w s a) = answer_of_call x.definition (records x.definition h) s a
   answer h (Flush w) = answers.Done
@@ -85,12 +85,12 @@ module _ (x : Setting) where
   answer h (Publish n plan) = answers.Published (plans (records x.definition h) + 1) plan
   answer h (Install m) = answers.Installed (report x.definition (records x.definition h) m)
 
-  -- a call that enters no node, of invoked trees too, that has String in its type, so that it asks for no memory
+  -- a call that evaluates no node with String in its type, also in invoked trees, so that it does not allocate
   abbrev pub TakesNoMemory : List Event → Event → Type 0
   TakesNoMemory h (Call w s a) = let r = records x.definition h in EntersPlain (linked_sites x.definition r) (linked x.definition r s).tree a
   TakesNoMemory h _ = ⊥
 
-  -- the event passes its tests, is answered and is in the history; or it is refused, and is not
+  -- the event passes its tests, has its reply and is added to the history; or it is refused, and is not added
   abbrev pub Step : List Event → Event → Reply → List Event → Type 0
   Step h e reply new =
       (Passes (tests h e) × (reply ≡ answer h e) × (new ≡ e ∷ h))

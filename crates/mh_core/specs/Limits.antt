@@ -2,11 +2,11 @@
 use Rattle.std.specs.Prelude.{ℕ, ◌≤◌, ◌^◌, refl}
 use Rattle.std.specs.Coded.{Coded, code_by, coded×, coded_ℕ}
 
--- the most events of a history
+-- the greatest number of events of a history
 abbrev pub most_events : ℕ
 most_events = 2 ^ 20
 
--- the most hits of a link that a worker may hold, and that the totals may hold
+-- the greatest number of hits of a link that a worker may hold, and that the totals may hold
 abbrev pub most_held : ℕ
 most_held = 2 ^ 20
 
@@ -28,7 +28,7 @@ pub record IsLimits (l : LimitsData) : Type 0 where
   pub ledger : l.ledger ≤ most_held
   pub total : l.total ≤ most_hits
 
--- the most snapshots, and the most plans, of a history
+-- the greatest number of snapshots, and of plans, of a history
 abbrev pub most_snapshots : ℕ
 most_snapshots = 1024
 

@@ -1,4 +1,4 @@
--- What a machine keeps: a runtime that its history has led to.
+-- The invariant of a machine: a runtime in the state that its history has led to.
 use Rattle.std.specs.Prelude.{◌≡◌, ℕ, ◌<◌, ◌≤◌, List, length, refl}
 use Rattle.std.specs.Coded.{Coded, code_by, coded×, coded_ℕ}
 use Rattle.mh_ledger.specs.Ledgers.{LedgerState, ledger_at}

@@ -1,4 +1,4 @@
--- Changes that a book has made ready: all tests and growths are behind them.
+-- Changes that a book has prepared: all tests passed, and all memory is allocated.
 use Rattle.std.specs.Prelude.{◌≡◌, ℕ, true, Option, Some, None, refl}
 use Rattle.std.specs.Coded.{Coded, code_by, coded×, coded_ℕ}
 use Rattle.mh_site.specs.declared.control.Control.{Control}
@@ -15,14 +15,14 @@ use Rattle.mh_core.specs.Books.{BookState, MayTake, reply_to}
 use Rattle.mh_core.specs.Replayed.{changes}
 use Rattle.mh_core.specs.Snapshots.{snapshot_of}
 
--- the record that will be appended, what it changes beside the records, its answer, and how many calls were accepted beside the records
+-- the record to append, its effect besides the record, its reply, and the number of calls that were accepted besides the records
 pub record PendingState : Type 0 where
   pub entry : Record
   pub effect : Effect
   pub reply : Reply
   pub calls : ℕ
 
--- a record that is no flush: a flush moves the hits of a ledger
+-- a record other than a flush: a flush moves the hits of a ledger
 abbrev pub IsNoFlush : Record → Type 0
 IsNoFlush (Flushed w hits) = ⊥
 IsNoFlush (Targeted s tree) = Unit {0}
@@ -31,7 +31,7 @@ IsNoFlush Snapped = Unit {0}
 IsNoFlush (Published n plan) = Unit {0}
 IsNoFlush (Installed m) = Unit {0}
 
--- what a record that is no flush changes beside the records: the world, the snapshots or the plans
+-- the effect of a record other than a flush, besides the record: on the world, the snapshots or the plans
 abbrev pub HasEffect : BookState → Record → Effect → Type 0
 HasEffect b (Flushed w hits) x = ⊥
 HasEffect b (Targeted s tree) x = x ≡ effect.World (control.Target record { site = s; tree = tree })
@@ -40,20 +40,20 @@ HasEffect b Snapped x = x ≡ effect.Snapshot (snapshot_of b.definition b.record
 HasEffect b (Published n plan) x = x ≡ effect.Plan record { snapshot = n; plan = plan }
 HasEffect b (Installed m) x = x ≡ effect.World (control.Install (changes b.definition b.records m))
 
--- the record passes its tests, its effect and its answer are its own, and there is memory for it
+-- the record passes its tests, the effect and the reply are those of the record, and there is memory for it
 pub record IsReady (b : BookState) (p : PendingState) : Type 0 where
   pub passes : MayTake b p.calls p.entry
   pub effect : HasEffect b p.entry p.effect
   pub reply : p.reply ≡ reply_to b.definition b.records p.entry
   pub room : b.room ≡ true
 
--- what it changes in a world, where it changes one
+-- the change of a world, if it changes one
 abbrev pub control_of : Effect → Option Control
 control_of (effect.World c) = Some c
 control_of (effect.Snapshot s) = None
 control_of (effect.Plan p) = None
 
--- a book with perhaps more memory
+-- the same book, perhaps with more memory
 abbrev pub SameBook : BookState → BookState → Type 0
 SameBook old new = new ≡ record old { room = new.room }
 

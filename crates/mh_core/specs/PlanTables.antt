@@ -1,4 +1,4 @@
--- What a book keeps of its plans.
+-- The plans that a book stores.
 use Rattle.std.specs.Prelude.{ℕ, List, [], ◌∷◌, refl}
 use Rattle.std.specs.Coded.{Coded, code_by, coded×, coded_ℕ}
 use Rattle.mh_cert.specs.contracts.plan.Plan as plan

@@ -1,4 +1,4 @@
--- The problem of a snapshot: which links were eligible then, and what each had gained (Rhys 1970).
+-- The problem of a snapshot: the links that were eligible then, and the gain of each (Rhys 1970).
 use Rattle.std.specs.Prelude.{ℕ, ◌*◌, ◌≤◌, ◌<◌, Bool, List, map, length}
 use Rattle.std.specs.List.{list_all}
 use Rattle.mh_network.specs.Problems.{ProblemData, problem_of}
@@ -12,7 +12,7 @@ use Rattle.mh_core.specs.Records.{numbers, is_valid, total, past, snapshots}
 abbrev pub is_eligible : DefinitionData → List Record → ℕ → Bool
 is_eligible d r j = list_all (is_valid r) (link_at d j).1.needs
 
--- a link gains its weight for each hit that was flushed, and has the charge that is declared
+-- a link gains its weight for each flushed hit, and has its declared charge
 abbrev pub row : DefinitionData → List Record → ℕ → LinkRow
 row d r j = record { gain = (link_at d j).1.weight * total r j; eligible = is_eligible d r j; needs = (link_at d j).1.needs; charge = (link_at d j).1.charge }
 

@@ -1,4 +1,4 @@
--- What holds after a list of records, newest first: found by looking back for the last record that decides it.
+-- The state after a list of records, newest first: found by looking back for the last record that decides it.
 use Rattle.std.specs.Prelude.{ℕ, ◌+◌, ◌==◌, Bool, not, List, [], ◌∷◌, map, filter, length, if◌then◌else◌}
 use Rattle.std.specs.List.{range_with_len}
 use Rattle.mh_tree.specs.Handle.{TypedTree}
@@ -27,11 +27,11 @@ plain_controls (Snapped ∷ r) = plain_controls r
 plain_controls (Published n plan ∷ r) = plain_controls r
 plain_controls (Installed m ∷ r) = plain_controls r
 
--- the tree of the site's last retargeting, else the opening one (`MutableCallSite.getTarget`)
+-- the tree of the site's last retargeting, otherwise the opening one (`MutableCallSite.getTarget`)
 abbrev pub base : DefinitionData → List Record → ℕ → TypedTree
 base d r s = look_back.base d (plain_controls r) s
 
--- how often a site was retargeted
+-- the number of times that a site was retargeted
 abbrev pub version : List Record → ℕ → ℕ
 version r s = look_back.version (plain_controls r) s
 
@@ -39,7 +39,7 @@ version r s = look_back.version (plain_controls r) s
 abbrev pub is_valid : List Record → ℕ → Bool
 is_valid r p = look_back.is_valid (plain_controls r) p
 
--- which points are valid, by number
+-- for each point, by number, whether it is valid
 abbrev pub valid_points : DefinitionData → List Record → List Bool
 valid_points d r = map (is_valid r) (numbers (length d.points))
 
@@ -47,15 +47,15 @@ valid_points d r = map (is_valid r) (numbers (length d.points))
 abbrev pub bases : DefinitionData → List Record → List TypedTree
 bases d r = map (base d r) (numbers (length d.sites))
 
--- what trees mean after the records: an invocation means the base tree of its site
+-- the meaning of trees after the records: an invocation means the base tree of its site
 abbrev pub environment_of_bases : DefinitionData → List Record → Environment
 environment_of_bases d r = with_sites (valid_points d r) (bases d r)
 
--- the links that were hit, each with its number of hits, where each link has this number
+-- the links that were hit, each with its number of hits, given the number of hits of each link
 abbrev pub hits_in : List ℕ → List (ℕ × ℕ)
 hits_in counts = filter (λ p. not (p.1 == 0)) (map (λ j. (j, at counts j)) (numbers (length counts)))
 
--- how often a link was hit
+-- the number of hits of a link
 abbrev pub hits_of : List (ℕ × ℕ) → ℕ → ℕ
 hits_of hits j = amount_at (λ p. p.0) (λ p. p.1) hits j
 
@@ -69,7 +69,7 @@ total (Snapped ∷ r) j = total r j
 total (Published n plan ∷ r) j = total r j
 total (Installed m ∷ r) j = total r j
 
--- how many snapshots were taken
+-- the number of snapshots taken
 abbrev pub snapshots : List Record → ℕ
 snapshots [] = 0
 snapshots (Flushed w hits ∷ r) = snapshots r
@@ -79,7 +79,7 @@ snapshots (Snapped ∷ r) = snapshots r + 1
 snapshots (Published n plan ∷ r) = snapshots r
 snapshots (Installed m ∷ r) = snapshots r
 
--- how many plans were published
+-- the number of plans published
 abbrev pub plans : List Record → ℕ
 plans [] = 0
 plans (Flushed w hits ∷ r) = plans r

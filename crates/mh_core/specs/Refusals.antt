@@ -6,11 +6,11 @@ use Rattle.mh_core.specs.declared.refusal.Refusal.{Refusal}
 use Rattle.mh_core.specs.declared.refusal.Refusal.TheVariants.{NoMemory, HistoryFull, NoSite, NoPoint, WrongType, NoSnapshot, NoPlan, PlanRefused, OldPlan, TotalTooLarge, LedgerFull, GainTooLarge, NoWorker, WrongLevel}
 use Rattle.mh_base.specs.Tests.{Tests, no_more, may_tell, only}
 
--- out of memory is reported where no test fails
+-- lack of memory is reported if no test fails
 abbrev pub memory_last : Tests Refusal
 memory_last = no_more (only NoMemory)
 
--- out of memory may be reported before these tests
+-- lack of memory may be reported before these tests
 abbrev pub take_memory : Tests Refusal → Tests Refusal
 take_memory later = may_tell (only NoMemory) later
 

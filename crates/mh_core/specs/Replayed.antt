@@ -1,4 +1,4 @@
--- What records change in a world.
+-- The changes that records make to a world.
 use Rattle.std.specs.Prelude.{ℕ, List, [], ◌∷◌, map, filter, reverse}
 use Rattle.mh_site.specs.Controls.{Relinked}
 use Rattle.mh_site.specs.Defined.{DefinitionData}
@@ -17,7 +17,7 @@ relinked d r m s = record { site = s; linked = cached d s (base d r s) (usable d
 abbrev pub changes : DefinitionData → List Record → ℕ → List Relinked
 changes d r m = map (relinked d r m) (filter (is_current r m) (concerned d r m))
 
--- what the records change in a world, newest first
+-- the changes that the records make to a world, newest first
 abbrev pub controls : DefinitionData → List Record → List Control
 controls d [] = []
 controls d (Flushed w hits ∷ r) = controls d r

@@ -24,8 +24,8 @@ resumed_records points hits = Flushed 0 (hits_in hits) ∷ Invalidated points �
 abbrev pub valid_beside : DefinitionData → List ℕ → List Bool
 valid_beside d points = map (λ p. not (member points p)) (numbers (length d.points))
 
--- the tests of a resumption with so many workers, in order: who has the hits, the points are there, a number of hits for each link,
--- room for the first records, and no total past its limit
+-- the tests of a resumption with this many workers, in order: there is a worker for the hits, the points exist, there is one number of hits
+-- for each link, there is room for the first records, and no total exceeds its limit
 abbrev pub resumption_tests : DefinitionData → ℕ → LimitsData → List ℕ → List ℕ → Tests ResumptionFault
 resumption_tests d workers l points hits =
     test (0 < workers) (only NoWorker)
@@ -34,7 +34,7 @@ resumption_tests d workers l points hits =
     (test (length (resumed_records points hits) ≤ l.history) (only HistoryFull)
     (test (All (λ n. n ≤ l.total) hits) (only TotalTooLarge) (no_more (only NoMemory))))))
 
--- a book of the definition with these first records and hits, and what they make
+-- a book of the definition with these first records and hits, and the state that follows from them
 pub record IsResumedBook (d : DefinitionData) (workers : ℕ) (l : LimitsData) (points hits : List ℕ) (b : BookState) : Type 0 where
   pub definition : b.definition ≡ d
   pub limits : b.limits ≡ l
@@ -44,7 +44,7 @@ pub record IsResumedBook (d : DefinitionData) (workers : ℕ) (l : LimitsData) (
   pub snapshots : b.snapshots ≡ []
   pub plans : b.plans ≡ []
 
--- a runtime of it, with the ledger of each worker
+-- a runtime of that book, with the ledger of each worker
 pub record IsResumed (d : DefinitionData) (workers : ℕ) (l : LimitsData) (points hits : List ℕ) (r : RuntimeState) : Type 0 where
   pub book : IsResumedBook d workers l points hits r.book
   pub ledgers : r.ledgers ≡ map (resumed_ledger hits l.ledger) (range_with_len 0 workers)

@@ -21,7 +21,7 @@ use Rattle.mh_core.specs.Records.{total, snapshots, plans, hits_of}
 use Rattle.mh_base.specs.Tests.{Tests, test, only, Refuses}
 use Rattle.mh_core.specs.Refusals.{memory_last, take_memory}
 
--- no total would pass the limit
+-- no total would exceed the limit
 abbrev pub TotalsFit : DefinitionData → LimitsData → List Record → List (ℕ × ℕ) → Type 0
 TotalsFit d l r hits = (j : ℕ) → j < length (links d) → total r j + hits_of hits j ≤ l.total
 
@@ -29,11 +29,11 @@ TotalsFit d l r hits = (j : ℕ) → j < length (links d) → total r j + hits_o
 abbrev pub tells_fault : DefinitionData → List Record → ℕ → Plan → Refusal → Type 0
 tells_fault d r n plan told = (fault : CheckFault) × (told ≡ PlanRefused fault) × Refuses (plan_tests (problem_at d r n) plan) fault
 
--- there is room for one more published plan behind these records, where so many events were accepted
+-- there is room for one more published plan after these records, given that this many events were accepted
 abbrev pub HasRoomForPlan : LimitsData → ℕ → List Record → Type 0
 HasRoomForPlan l accepted r = (accepted < l.history) × (plans r < most_plans)
 
--- the tests of a record behind others, in order, where so many events were accepted
+-- the tests of a record after others, in order, given that this many events were accepted
 abbrev pub tests_of_record : DefinitionData → LimitsData → ℕ → List Record → Record → Tests Refusal
 tests_of_record d l accepted r (Flushed w hits) =
     test (accepted < l.history) (only HistoryFull)

@@ -1,4 +1,4 @@
--- What a book keeps of each snapshot.
+-- The snapshots that a book stores.
 use Rattle.std.specs.Prelude.{ℕ, Bool, List, [], ◌∷◌, map, length, refl}
 use Rattle.std.specs.Coded.{Coded, code_by, coded×, coded_ℕ, coded_bool, coded_list}
 use Rattle.mh_site.specs.Defined.{DefinitionData}
@@ -7,7 +7,7 @@ use Rattle.mh_core.specs.declared.record.Record.{Record}
 use Rattle.mh_core.specs.declared.record.Record.TheVariants.{Flushed, Targeted, Invalidated, Snapped, Published, Installed}
 use Rattle.mh_core.specs.Records.{numbers, version, valid_points, total}
 
--- the total of each link, which points are valid, and how often each site was retargeted
+-- the total of each link, the validity of the points, and the number of retargetings of each site
 pub record SnapshotState : Type 0 where
   pub totals : List ℕ
   pub valid : List Bool

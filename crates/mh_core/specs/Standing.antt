@@ -10,8 +10,8 @@ use Rattle.mh_site.specs.Lawful.{MayInvokeFrom}
 use Rattle.mh_site.specs.Worlds.{WorldState, state_at}
 use Rattle.mh_tree.specs.Environment.{Environment}
 
--- a site's level is at most 3, its trees have its type, name declared points alone and invoke sites of lower levels with their types, and the linked tree
--- is faithful to the base tree: whichever points are valid, and whatever sites give, it has the same outcome on all arguments
+-- a site's level is at most 3, its trees have its type, name only declared points and invoke lower sites with their types, and the linked
+-- tree is faithful to the base tree: whichever points are valid, and whatever sites return, both have the same outcome on all arguments
 pub record IsStanding (d : DefinitionData) (w : WorldState) (s : ℕ) : Type 0 where
   pub base_type : (state_at w s).base.signature ≡ (site_at d s).method_type
   pub linked_type : (state_at w s).linked.signature ≡ (site_at d s).method_type
@@ -26,7 +26,7 @@ pub record IsStanding (d : DefinitionData) (w : WorldState) (s : ℕ) : Type 0 w
 abbrev pub AreStanding : DefinitionData → WorldState → Type 0
 AreStanding d w = (s : ℕ) → s < length d.sites → IsStanding d w s
 
--- a world of the definition: it has its sites and its points, and calls can run its trees
+-- a world of the definition: it has the definition's sites and points, and calls can run its trees
 pub record IsWorldOf (d : DefinitionData) (w : WorldState) : Type 0 where
   pub sites : length w.sites ≡ length d.sites
   pub points : length w.valid ≡ length d.points

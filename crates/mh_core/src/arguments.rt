@@ -5,8 +5,8 @@ ghost use Rattle.std.specs.Prelude.{◌≡◌, ◌∷◌, [], length};
 use mh_type::Value;
 use std::marker::Model;
 
-/// The arguments of a call, in order. Up to two lie in place, so that a call of few takes no memory
-/// for them.
+/// The arguments of a call, in order. Up to two are stored in place, so that a call with few
+/// arguments does not allocate memory for them.
 ///
 /// A contract sees them as a list.
 #[derive(Debug, Drop)]
@@ -14,7 +14,7 @@ pub struct Arguments {
     values: Values,
 }
 
-// Where the values lie.
+// The storage of the values.
 #[derive(Debug, Drop)]
 pub(crate) enum Values {
     None,
@@ -35,7 +35,7 @@ impl Model for Arguments {
 }
 
 impl Arguments {
-    /// Of a call without arguments.
+    /// Returns the arguments of a call without arguments.
     pub fn none() -> Arguments
         ensures value { result ≡ [] }
     {
@@ -44,7 +44,7 @@ impl Arguments {
         }
     }
 
-    /// Of a call with one.
+    /// Returns the arguments of a call with one argument.
     pub fn one(value: Value) -> Arguments
         ensures value { result ≡ value ∷ [] }
     {
@@ -53,7 +53,7 @@ impl Arguments {
         }
     }
 
-    /// Of a call with two.
+    /// Returns the arguments of a call with two arguments.
     pub fn two(first: Value, second: Value) -> Arguments
         ensures value { result ≡ first ∷ second ∷ [] }
     {
@@ -62,7 +62,8 @@ impl Arguments {
         }
     }
 
-    /// Of a call with any number: more than two stay where they lie.
+    /// Returns the arguments of a call with any number of arguments. More than two stay in the
+    /// vector.
     pub fn from_vec(mut values: Vec<Value>) -> Arguments
         ensures value { result ≡ values.items }
     {
@@ -78,7 +79,7 @@ impl Arguments {
         }
     }
 
-    /// The values.
+    /// Returns the values.
     pub fn as_slice(&self) -> &[Value]
         ensures value { result.now ≡ self.now }
     {
@@ -90,7 +91,7 @@ impl Arguments {
         }
     }
 
-    /// The number of values.
+    /// Returns the number of values.
     pub fn len(&self) -> usize
         ensures value { result ≡ length self.now }
     {

@@ -1,4 +1,4 @@
-//! Books: the records of accepted events, and what was made of them.
+//! Books: the records of accepted events, and the state that follows from them.
 
 ghost use Rattle.std.specs.Prelude.{◌≡◌, ◌⊎◌, ◌+◌, ◌<◌, ℕ, List, length, map, reverse, slice_index_or, slice_set, OnOk, OnErr, IfOk, IfErr, IsTrue, ◌↔◌};
 ghost use Rattle.std.specs.List.{range_with_len};
@@ -31,12 +31,12 @@ use std::alloc::Global;
 use std::fmt;
 use std::marker::Model;
 
-/// The records of accepted events other than calls, with what was made of them: the world, the
-/// totals of all workers' hits, the snapshots, and the plans.
+/// The records of accepted events other than calls, with the state that follows from them: the
+/// world, the totals of all workers' hits, the snapshots, and the plans.
 ///
-/// A contract sees the records newest first. The world is the replay of what the records change,
-/// so, as the law `records_look_back` says, it has what looking back through the records finds; the
-/// totals are the sums of the flushes. Each record passed its tests.
+/// A contract sees the records newest first. The world is the replay of the changes that records
+/// make, so, as the law `records_look_back` says, it agrees with looking back through the records;
+/// the totals are the sums of the flushes. Each record passed its tests.
 #[derive(Drop)]
 pub struct Book {
     pub(crate) alloc: Global,
@@ -61,7 +61,7 @@ impl Model for Book {
     ghost invariant = { λ b. IsBook (book_state b) };
 }
 
-/// How many records it has, and the definition.
+/// Shows the number of records, and the definition.
 impl fmt::Debug for Book {
     fn fmt<W: fmt::Write>(&self, f: &mut fmt::Formatter<W>) -> fmt::Result {
         let (records, definition) = (self.records().len(), self.definition());
@@ -70,8 +70,8 @@ impl fmt::Debug for Book {
 }
 
 impl Book {
-    /// The book of a definition, without records, and a ledger without hits for each of so many
-    /// workers, all held. Fails only if an allocation or a reference count is refused.
+    /// Returns the book of a definition, without records, and a ledger without hits for each of
+    /// `workers` workers, all held. Fails only if an allocation or a reference count is refused.
     pub fn open(
         alloc: Global,
         definition: &Definition,
@@ -109,14 +109,15 @@ impl Book {
         Ok((book, ledgers))
     }
 
-    /// What every book keeps. It runs no code: a caller calls it for what it says.
+    /// States the invariant of every book. It does nothing at run time: a caller calls it for its
+    /// clause.
     pub fn kept(&self)
         ensures book { IsBook self.now }
     {
         let _records = &self.records;
     }
 
-    /// What is declared.
+    /// Returns the definition.
     pub fn definition(&self) -> &Definition
         ensures value { result.now ≡ self.now.definition }
         ensures book { IsBook self.now }
@@ -124,14 +125,14 @@ impl Book {
         &self.definition
     }
 
-    /// The limits.
+    /// Returns the limits.
     pub fn limits(&self) -> &Limits
         ensures value { result.now ≡ self.now.limits }
     {
         &self.limits
     }
 
-    /// The records, oldest first.
+    /// Returns the records, oldest first.
     pub fn records(&self) -> &[Record]
         ensures value { reverse result.now ≡ self.now.records }
         ensures book { IsBook self.now }
@@ -139,7 +140,7 @@ impl Book {
         self.records.as_slice()
     }
 
-    // The record that was taken last.
+    // Returns the newest record.
     pub(crate) fn newest(&self) -> &Record
         requires some { 0 < length self.now.records }
         ensures value { result.now ≡ slice_index_or self.now.records 0 result.now }
@@ -148,7 +149,7 @@ impl Book {
         &records[records.len() - 1]
     }
 
-    /// The world after the records.
+    /// Returns the world after the records.
     pub fn world(&self) -> &World
         ensures value { result.now ≡ self.now.world }
         ensures book { IsBook self.now }
@@ -156,7 +157,7 @@ impl Book {
         &self.world
     }
 
-    /// The hits of all workers, as far as they have flushed.
+    /// Returns the totals: the flushed hits of all workers.
     pub fn totals(&self) -> &Totals
         ensures value { result.now ≡ self.now.totals }
         ensures book { IsBook self.now }
@@ -164,17 +165,17 @@ impl Book {
         &self.totals
     }
 
-    /// Whether the totals hold a ledger: they keep for its worker just the hits that it has
-    /// flushed.
+    /// Returns whether the totals hold a ledger, that is, whether they keep for its worker exactly
+    /// the hits that it has flushed.
     pub fn holds(&self, ledger: &Ledger) -> bool
         ensures decides { IsTrue result ↔ Holds self.now.totals ledger.now }
     {
         self.totals.holds(ledger)
     }
 
-    /// The problem of the snapshot of this number, from 1. O(links + points).
+    /// Returns the problem of the snapshot with this number, from 1. O(links + points).
     ///
-    /// Refused with `NoSnapshot` where it was not taken, and then with `NoMemory`.
+    /// Fails with `NoSnapshot` if there is no such snapshot, and otherwise only with `NoMemory`.
     pub fn problem(&self, snapshot: usize) -> Result<Problem, Refusal>
         ensures value { IfOk result (λ p. p
             ≡ problem_at self.now.definition self.now.records snapshot) }
@@ -190,7 +191,7 @@ impl Book {
             .map_err(|_| Refusal::NoMemory)
     }
 
-    // The problem of a snapshot that was taken.
+    // Returns the problem of a snapshot that was taken.
     fn problem_of_taken(&self, snapshot: usize) -> Result<Problem, NoMemory>
         requires taken { IsTaken self.now.records snapshot }
         ensures value { IfOk result (λ p. p
@@ -201,11 +202,11 @@ impl Book {
         make_problem(self.alloc, &self.definition, kept.totals(), kept.valid())
     }
 
-    /// Adds the hits that a ledger has not flushed to the totals. The ledger stays held, and so do
-    /// those of the other workers. O(links).
+    /// Adds the unflushed hits of a ledger to the totals. The ledger stays held, and so do those of
+    /// the other workers. O(links).
     ///
-    /// Refused with `HistoryFull`, with `TotalTooLarge` where some total would pass its limit, and
-    /// then with `NoMemory`; nothing changes.
+    /// Fails with `HistoryFull`, with `TotalTooLarge` if some total would exceed its limit, and
+    /// otherwise only with `NoMemory`; then nothing changes.
     pub fn flush(&mut self, ledger: &mut Ledger) -> Result<(), Refusal>
         requires held { Holds self.old.totals ledger.old }
         ensures taken { OnOk result (Takes self.old 0
@@ -224,11 +225,11 @@ impl Book {
 
     /// Gives a site another tree (`MutableCallSite.setTarget`).
     ///
-    /// Refused with `NoSite`, also where the tree invokes a site past the last; with `WrongType`
-    /// where the tree is of another type than the site, or invokes a site with another type than
-    /// that site's; with `NoPoint` where it names a point past the last; with `WrongLevel` where it
-    /// invokes a site whose level is not below the site's; with `HistoryFull`, and then with
-    /// `NoMemory`; nothing changes.
+    /// Fails with `NoSite` if the site, or a site that the tree invokes, does not exist; with
+    /// `WrongType` if the tree is not of the site's type, or invokes a site with a type other than
+    /// that site's; with `NoPoint` if it names a point that does not exist; with `WrongLevel` if it
+    /// invokes a site whose level is not below the site's; with `HistoryFull`; and otherwise only
+    /// with `NoMemory`. Then nothing changes.
     pub fn target(&mut self, site: usize, tree: Declared) -> Result<(), Refusal>
         ensures taken { OnOk result (Takes self.old 0 (Targeted site tree) self.new) }
         ensures totals { self.new.totals ≡ self.old.totals }
@@ -239,11 +240,11 @@ impl Book {
         Ok(())
     }
 
-    /// Invalidates points (`SwitchPoint.invalidateAll`); they may be none, and may be invalid
-    /// already.
+    /// Invalidates points (`SwitchPoint.invalidateAll`). The list may be empty, and points may be
+    /// invalid already.
     ///
-    /// Refused with `NoPoint` where a number is past the last point, with `HistoryFull`, and then
-    /// with `NoMemory`; nothing changes.
+    /// Fails with `NoPoint` if one of the points does not exist, with `HistoryFull`, and otherwise
+    /// only with `NoMemory`; then nothing changes.
     pub fn invalidate(&mut self, points: Listing<u32>) -> Result<(), Refusal>
         ensures taken { OnOk result (Takes self.old 0 (Invalidated points) self.new) }
         ensures totals { self.new.totals ≡ self.old.totals }
@@ -254,12 +255,12 @@ impl Book {
         Ok(())
     }
 
-    /// Takes a snapshot of the totals, of which points are valid and of how often each site was
-    /// retargeted, and gives its number, from 1. O(links + points + sites).
+    /// Takes a snapshot of the totals, of the validity of the points and of the number of
+    /// retargetings of each site, and returns its number, from 1. O(links + points + sites).
     ///
-    /// Refused with `HistoryFull` also where there are 1,024 snapshots, with `GainTooLarge` where
-    /// the gains of its problem would add up to more than 2^62, and then with `NoMemory`; nothing
-    /// changes.
+    /// Fails with `HistoryFull`, also if there are 1,024 snapshots, with `GainTooLarge` if the sum
+    /// of the gains of its problem would exceed 2^62, and otherwise only with `NoMemory`; then
+    /// nothing changes.
     pub fn snapshot(&mut self) -> Result<usize, Refusal>
         ensures taken { OnOk result (Takes self.old 0 Snapped self.new) }
         ensures number { IfOk result (λ number. number ≡ length self.old.snapshots + 1) }
@@ -271,12 +272,13 @@ impl Book {
         Ok(self.snapshots.len())
     }
 
-    /// Publishes a plan for the problem of a snapshot, and gives the plan's number, from 1.
+    /// Publishes a plan for the problem of a snapshot, and returns the plan's number, from 1.
     /// O(links + points + rows).
     ///
-    /// Refused with `NoSnapshot`, with `PlanRefused` where the checker refuses the plan, with
-    /// `HistoryFull` also where there are 1,024 plans, and then with `NoMemory`; where the checker
-    /// finds no memory, `NoMemory` stands in place of the last two. Nothing changes.
+    /// Fails with `NoSnapshot`, with `PlanRefused` if the checker rejects the plan, with
+    /// `HistoryFull`, also if there are 1,024 plans, and otherwise with `NoMemory`. If the checker
+    /// finds no memory, `NoMemory` is reported in place of `PlanRefused` and `HistoryFull`. On
+    /// failure, nothing changes.
     pub fn publish(&mut self, snapshot: usize, plan: SharedPlan) -> Result<usize, Refusal>
         ensures taken { OnOk result (Takes self.old 0 (Published snapshot plan) self.new) }
         ensures number { IfOk result (λ number. number ≡ length self.old.plans + 1) }
@@ -290,14 +292,15 @@ impl Book {
     }
 
     /// Installs the newest plan (Hölzle, Chambers and Ungar, Optimizing Dynamically-Typed
-    /// Object-Oriented Languages With Polymorphic Inline Caches, 1991), and reports what became of
-    /// each site that has a link in the plan or holds links now. A site that was retargeted since
-    /// the plan's snapshot is left as it is. Any other runs from now on the inline cache of those
-    /// of its links in the plan whose needs are all valid, or its base tree where there are none.
-    /// O(sites + links of the plan), and for each cache linear in its site's base tree.
+    /// Object-Oriented Languages With Polymorphic Inline Caches, 1991), and reports the result for
+    /// each site that has a link in the plan or currently holds links. A site that was retargeted
+    /// since the plan's snapshot is skipped. Any other site from now on runs the inline cache of
+    /// those of its links in the plan whose needs are all valid, or its base tree if there are
+    /// none. O(sites + links of the plan), plus, for each cache, time linear in the size of its
+    /// site's base tree.
     ///
-    /// Refused with `NoPlan`, with `OldPlan` where a newer plan was published, with `HistoryFull`,
-    /// and then with `NoMemory`; nothing changes.
+    /// Fails with `NoPlan`, with `OldPlan` if a newer plan was published, with `HistoryFull`, and
+    /// otherwise only with `NoMemory`; then nothing changes.
     pub fn install(&mut self, plan: usize) -> Result<InstallReport, Refusal>
         ensures taken { OnOk result (Takes self.old 0 (Installed plan) self.new) }
         ensures report { IfOk result (λ told. told

@@ -1,4 +1,4 @@
-//! Calls of a site: the tests, the answer and the hit that all callers of a world have in common.
+//! Calls of a site: the tests, the answer and the hit, as all callers of a world share them.
 
 ghost use Rattle.std.specs.Prelude.{◌≡◌, ◌<◌, ◌↔◌, List, length, slice_set, IfErr, IfOk, IfSome, IfNone, IsOk, IsTrue, OnOk};
 ghost use Rattle.mh_eval.specs.Entered.{EntersPlain};
@@ -19,21 +19,21 @@ use mh_site::{Definition, World};
 use mh_type::{Outcome, Value};
 use thiserror::Error;
 
-/// Why a call cannot be made of a site with some arguments.
+/// The reason why a site cannot be called with some arguments.
 #[derive(Clone, Copy, Debug, PartialEq, Eq, Error)]
 pub enum CalleeFault {
-    /// A site that is not there.
+    /// The site does not exist.
     #[error("NoSite")]
     NoSite,
-    /// Arguments that do not fit the site's type.
+    /// The arguments do not fit the site's type.
     #[error("WrongType")]
     WrongType,
 }
 
-/// The link that a call hits, where the site is there and the arguments fit its type. At most four
-/// keys are compared.
+/// Returns the link that a call hits, or `None` if it hits none. At most four keys are compared.
 ///
-/// Refused with `NoSite`, and then with `WrongType`.
+/// Fails with `NoSite` if there is no such site, and with `WrongType` if the arguments do not fit
+/// its type.
 #[inline(always)]
 pub fn test_callee(
     definition: &Definition,
@@ -53,7 +53,7 @@ pub fn test_callee(
     Ok(hit_link(definition, site, arguments))
 }
 
-/// Whether a ledger has room for the hit of a call, which it has where the call hits no link.
+/// Returns whether a ledger has room for the hit of a call. It always has if the call hits no link.
 #[inline(always)]
 pub fn has_room(ledger: &Ledger, link: Option<usize>) -> bool
     requires inside { IfSome link (λ j. j < length ledger.now.unflushed) }
@@ -68,8 +68,8 @@ pub fn has_room(ledger: &Ledger, link: Option<usize>) -> bool
     }
 }
 
-/// Counts the hit of a call for which a ledger has room: one hit more of the link, and of no other.
-/// A ledger that totals hold is held as before.
+/// Counts the hit of a call for which a ledger has room: one more hit of the link, and of no other.
+/// A ledger that totals hold remains held.
 #[inline(always)]
 pub fn count(ledger: &mut Ledger, link: Option<usize>)
     requires room { IfSome link (λ j. (j < length ledger.old.unflushed)
@@ -81,16 +81,16 @@ pub fn count(ledger: &mut Ledger, link: Option<usize>)
         → AreHeld t (slice_set ledgers ledger.old.worker ledger.new)) }
 {
     if let Some(link) = link {
-        // The ledger has room, so this is not refused.
+        // The ledger has room, so this does not fail.
         let _counted = ledger.hit(link);
     }
 }
 
-/// What a site gives by a world of a definition, and the number of nodes that were entered
-/// (`MutableCallSite.dynamicInvoker`): its linked tree runs, over the linked trees. The outcome is
-/// what its base tree means over the base trees.
+/// Returns the outcome of a call of a site in a world of a definition, and the number of nodes
+/// evaluated (`MutableCallSite.dynamicInvoker`). It runs the site's linked tree, over the linked
+/// trees. The outcome is what the site's base tree means over the base trees.
 ///
-/// Refused with `NoMemory` alone, and not where no node that is entered has String in its type.
+/// Fails only with `NoMemory`, and never if no node that is evaluated has String in its type.
 #[inline(always)]
 pub fn evaluate(
     stack: &mut Stack,

@@ -1,4 +1,4 @@
-//! Laws of what crosses threads.
+//! Laws about types that cross threads.
 
 ghost use Rattle.mh_core.specs.Laws.Crossing.{RuntimesCross};
 
@@ -6,7 +6,7 @@ use mh_run::stacks_cross_threads;
 use mh_site::worlds_cross_threads;
 use mh_tree::trees_cross_threads;
 
-/// A book, a ledger and a runtime may each go to another thread.
+/// Proves that a book, a ledger and a runtime can each be sent to another thread.
 pub fn runtimes_cross_threads()
     ensures runtimes { RuntimesCross }
 {

@@ -1,4 +1,4 @@
-//! What a machine is asked.
+//! Events that a machine can be asked to apply.
 
 use crate::arguments::Arguments;
 use crate::shared_plan::SharedPlan;
@@ -6,39 +6,39 @@ use mh_site::Listing;
 use mh_tree::Declared;
 
 /// One step of one actor. Workers, sites and points are given by number, from 0; a number past the
-/// last is one that is not there. Snapshots and plans have the numbers from 1 in the order in which
+/// last is one that does not exist. Snapshots and plans are numbered from 1, in the order in which
 /// they are taken and published.
 #[derive(Debug, Drop)]
 pub enum Event {
-    /// A worker calls a site (`MutableCallSite.dynamicInvoker`). Where the argument at the site's
-    /// key place is the key of one of its links, the worker's ledger counts a hit of that link.
+    /// A worker calls a site (`MutableCallSite.dynamicInvoker`). If the argument at the site's key
+    /// position is the key of one of its links, the worker's ledger counts a hit of that link.
     Call {
         worker: u32,
         site: usize,
         arguments: Arguments,
     },
-    /// A worker's hits since its last flush are added to the totals.
+    /// Adds a worker's hits since its last flush to the totals.
     Flush {
         worker: u32,
     },
-    /// A site gets another tree (`MutableCallSite.setTarget`).
+    /// Gives a site another tree (`MutableCallSite.setTarget`).
     Target {
         site: usize,
         tree: Declared,
     },
-    /// Points become invalid, for good (`SwitchPoint.invalidateAll`).
+    /// Invalidates points, for good (`SwitchPoint.invalidateAll`).
     Invalidate {
         points: Listing<u32>,
     },
-    /// The totals, which points are valid and how often each site was retargeted are kept, under
-    /// the next number.
+    /// Stores the totals, the validity of the points and the number of retargetings of each site,
+    /// under the next number.
     Snapshot,
-    /// A plan for the problem of a snapshot is offered, and published where it matches.
+    /// Offers a plan for the problem of a snapshot. It is published if it matches.
     Publish {
         snapshot: usize,
         plan: SharedPlan,
     },
-    /// The newest plan, by its number, is installed: its links become the inline caches of their
+    /// Installs the newest plan, given by its number: its links become the inline caches of their
     /// sites.
     Install {
         plan: usize,

@@ -1,4 +1,4 @@
-//! How a book and a runtime begin a new history over a longer definition.
+//! Extending a book and a runtime, which begin a new history over a longer definition.
 
 ghost use Rattle.std.specs.Prelude.{◌≡◌, ◌<◌, ◌≤◌, length, map, take, IfErr, IfOk, OnErr, OnOk};
 ghost use Rattle.mh_base.specs.Tests.{Refuses};
@@ -20,13 +20,14 @@ use mh_site::{Definition, DefinitionFault, Listing, Point, Site, World};
 use mh_tree::Declared;
 use thiserror::Error;
 
-/// Why a definition was not extended.
+/// The reason why a definition was not extended.
 #[derive(Clone, Copy, Debug, PartialEq, Eq, Error)]
 pub enum ExtensionFault {
-    /// The limit of events is not above the number of workers.
+    /// The limit of events does not exceed the number of workers.
     #[error("HistoryFull")]
     HistoryFull,
-    /// The fault of the longer definition, with `NoMemory` for the new history too.
+    /// The longer definition has this fault; `NoMemory` also reports lack of memory for the new
+    /// history.
     #[error("{0}")]
     Definition(DefinitionFault),
 }
@@ -41,7 +42,7 @@ impl From<DefinitionFault> for ExtensionFault {
     }
 }
 
-// What a new history begins with.
+// The contents of a book at the beginning of a new history.
 #[derive(Drop)]
 pub(crate) struct Extension {
     definition: Definition,
@@ -81,7 +82,7 @@ impl Book {
         Ok(())
     }
 
-    // All growths of an extension.
+    // Makes all allocations of an extension.
     fn extension(
         &self,
         ledgers: &[Ledger],
@@ -101,7 +102,7 @@ impl Book {
         Ok(first)
     }
 
-    // The definition of now with more points and sites.
+    // Returns the current definition with more points and sites.
     fn extended(
         &self,
         points: Listing<Point>,
@@ -119,7 +120,7 @@ impl Book {
         Ok(definition)
     }
 
-    // The base tree of each site, by number.
+    // Returns the base tree of each site, by number.
     fn base_trees(&self) -> Result<Vec<Declared>, NoMemory>
         ensures value { IfOk result (λ v. v.items
             ≡ bases self.now.definition self.now.records) }
@@ -131,7 +132,7 @@ impl Book {
         Ok(trees)
     }
 
-    // Another owner of a site's base tree.
+    // Returns another owner of a site's base tree.
     fn base_tree(&self, site: usize) -> Result<Declared, NoMemory>
         requires inside { site < length self.now.definition.sites }
         ensures value { IfOk result (λ t. t ≡ base self.now.definition self.now.records site) }
@@ -140,7 +141,7 @@ impl Book {
         Ok(tree)
     }
 
-    // The points that are invalid, ascending.
+    // Returns the points that are invalid, ascending.
     fn invalid_points(&self) -> Result<Listing<u32>, NoMemory>
         ensures value { IfOk result (λ points. points
             ≡ invalid_points self.now.definition self.now.records) }
@@ -155,7 +156,7 @@ impl Book {
         Ok(Listing::from_vec(invalid))
     }
 
-    // What a new history over a longer definition begins with.
+    // Returns the beginning of a new history over a longer definition.
     fn beginning_over(
         &self,
         definition: Definition,
@@ -181,7 +182,7 @@ impl Book {
         })
     }
 
-    // Takes the beginning in. It takes no memory.
+    // Applies the beginning. It does not allocate.
     fn go_over(&mut self, first: Extension, ledgers: &mut Vec<Ledger>)
         requires room { length ledgers.old.items < self.old.limits.history }
         requires held { AreHeld self.old.totals ledgers.old.items }
@@ -215,16 +216,15 @@ impl Book {
 }
 
 impl Runtime {
-    /// Begins a new history over a definition that has these points and sites behind its own, which
-    /// are those of now, each site with its base tree as its target. Sites, points and links keep
-    /// their numbers, each site's calls mean what they meant, and points are valid that were; the
-    /// new ones are valid. All hits go on counting, and those that were not flushed stay so. No
-    /// site holds a link, and snapshots and plans are numbered from 1 again.
-    /// O(points + sites + links * workers), beside the tests of the definition and the code of each
-    /// tree.
+    /// Begins a new history over the current definition with these points and sites added after its
+    /// own, and with each site's base tree as its target. Sites, points and links keep their
+    /// numbers, each site's calls mean what they meant before, and the same points are valid; the
+    /// new ones are valid. All hits are kept, and those that were not flushed stay unflushed. No
+    /// site holds a link, and snapshots and plans are numbered from 1 again. O(points + sites +
+    /// links * workers), plus the tests of the definition and the preparation of each tree.
     ///
-    /// Refused with `HistoryFull` where the limit of events is not above the number of workers, and
-    /// then as `Definition::extended` refuses; nothing changes.
+    /// Fails with `HistoryFull` if the limit of events does not exceed the number of workers, and
+    /// otherwise as `Definition::extended` does; then nothing changes.
     pub fn extend(
         &mut self,
         points: Listing<Point>,

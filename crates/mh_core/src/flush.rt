@@ -1,4 +1,4 @@
-//! How a book takes the hits of a ledger.
+//! Flushing a ledger into a book.
 
 ghost use Rattle.std.specs.Prelude.{◌≡◌, List, slice_set, OnOk, OnErr, IfErr};
 ghost use Rattle.mh_ledger.specs.Ledgers.{AreHeld, Holds, LedgerState, settled};
@@ -14,8 +14,8 @@ use mh_base::NoMemory;
 use mh_ledger::Ledger;
 
 impl Book {
-    // Adds the hits that a ledger has not flushed to the totals, where so many calls were accepted
-    // beside the records.
+    // Adds the unflushed hits of a ledger to the totals, given that `calls` calls were accepted
+    // besides the records.
     pub(crate) fn flush_after(&mut self, calls: usize, ledger: &mut Ledger) -> Result<(), Refusal>
         requires held { Holds self.old.totals ledger.old }
         ensures taken { OnOk result (Takes self.old calls
@@ -34,7 +34,7 @@ impl Book {
             .map_err(|_| Refusal::NoMemory)
     }
 
-    // All growths come first, and then nothing can fail.
+    // Makes all allocations first, so that nothing can fail afterwards.
     fn append_flush(&mut self, calls: usize, ledger: &mut Ledger) -> Result<(), NoMemory>
         requires held { Holds self.old.totals ledger.old }
         requires passes { MayTake self.old calls
@@ -51,7 +51,7 @@ impl Book {
         let worker = ledger.worker();
         let hits = hits_of(self.alloc, ledger.unflushed_hits())?;
         self.records.reserve(1)?;
-        // The tests saw that the totals have room.
+        // The tests found that the totals have room.
         let _room = self.totals.flush(ledger);
         self.records.push_reserved(Record::Flushed { worker, hits });
         Ok(())

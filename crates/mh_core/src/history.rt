@@ -1,4 +1,5 @@
-//! The events that a machine accepted. They exist in the proofs alone: what is kept is their number.
+//! The events that a machine accepted. They exist only in the proofs: at run time only their number
+//! is stored.
 
 ghost use Rattle.std.specs.Prelude.{◌≡◌, ◌<◌, ◌∷◌, [], List, length};
 ghost use Rattle.mh_core.specs.declared.event.Event.TheVariants.{Call};
@@ -13,26 +14,26 @@ use std::marker::Model;
 use std::mem::replace;
 use std::snapshot::Snapshot;
 
-/// The event that was accepted last, and those before it.
+/// The newest accepted event, and those before it.
 #[derive(Drop)]
 pub(crate) enum Past {
     /// No event was accepted.
     Opening,
-    /// A call.
+    /// A call was accepted.
     Called {
         worker: u32,
         site: usize,
         arguments: Arguments,
         before: Snapshot<Past>,
     },
-    /// Any other event, of which a book has a record.
+    /// Any other event was accepted, of which a book has a record.
     Recorded {
         entry: Snapshot<Record>,
         before: Snapshot<Past>,
     },
 }
 
-/// The accepted events. It takes the room of a number, however many there are.
+/// The accepted events. It takes the memory of one number, however many there are.
 ///
 /// A contract sees the events, newest first.
 #[derive(Drop)]
@@ -57,7 +58,7 @@ impl Model for History {
 }
 
 impl History {
-    /// Of a machine that was just opened.
+    /// Returns the history of a machine that was just opened.
     pub(crate) fn new() -> History
         ensures value { result ≡ [] }
     {
@@ -65,7 +66,7 @@ impl History {
         History { count: 0, past }
     }
 
-    /// The number of events.
+    /// Returns the number of events.
     #[inline(always)]
     pub(crate) fn len(&self) -> usize
         ensures value { result ≡ length self.now }
@@ -73,7 +74,7 @@ impl History {
         self.count
     }
 
-    /// Takes one call more.
+    /// Adds one call.
     #[inline(always)]
     pub(crate) fn add_call(&mut self, worker: u32, site: usize, arguments: Arguments)
         requires room { length self.old < most_events }
@@ -89,7 +90,7 @@ impl History {
         self.count += 1;
     }
 
-    /// Takes one event more, of which a book has just taken the record.
+    /// Adds one event, of which a book has just taken the record.
     pub(crate) fn add_newest(&mut self, book: &Book)
         requires room { length self.old < most_events }
         requires newest { 0 < length book.now.records }
@@ -103,7 +104,7 @@ impl History {
     }
 }
 
-// The past, in whose place there is an empty one.
+// Takes the past out, and leaves an empty one.
 #[inline(always)]
 fn take(past: &mut Snapshot<Past>) -> Snapshot<Past>
     ensures value { result.value ≡ past.old.value }

@@ -15,8 +15,8 @@ use mh_site::{Definition, Link, Listing};
 use mh_type::{Value, same_value};
 use std::alloc::Global;
 
-/// The link that a call hits: the one of its site whose key is the argument at the key place. At
-/// most four keys are compared.
+/// Returns the link that a call hits: the one of its site whose key is the argument at the key
+/// position. At most four keys are compared.
 pub fn hit_link(definition: &Definition, site: usize, arguments: &[Value]) -> Option<usize>
     requires inside { site < length definition.now.sites }
     requires fits { Fits (site_at definition.now site).method_type arguments.now }
@@ -40,14 +40,15 @@ fn argument(arguments: &[Value], place: usize) -> &Value
     &arguments[place]
 }
 
-// The place of the first link with this key.
+// Returns the index of the first link with this key.
 fn place_of(links: &[Link], key: &Value) -> Option<usize>
     ensures value { result ≡ position (λ l. values_same l.when key.now) links.now }
 {
     links.iter().position(|link| same_value(&link.when, key))
 }
 
-// The links that were hit, each with its number of hits, where each link has this number.
+// Returns the links that were hit, each with its number of hits, given the number of hits of each
+// link.
 pub(crate) fn hits_of(alloc: Global, counts: &[u64]) -> Result<Listing<(usize, u64)>, NoMemory>
     ensures value { IfOk result (λ hits. hits ≡ hits_in counts.now) }
 {

@@ -1,4 +1,4 @@
-//! What an installation did.
+//! Reports of installations.
 
 ghost use Rattle.std.specs.Prelude.{◌≡◌, filter, length};
 ghost use Rattle.std.specs.Fmt.{WritesOnOk};
@@ -7,45 +7,45 @@ ghost use Rattle.mh_core.specs.Display.{is_linked, is_skipped, invalid_text};
 use mh_base::{Listing, Numbers};
 use std::fmt;
 
-/// What an installation made of a site.
+/// The result of an installation for a site.
 #[derive(Clone, Copy, Debug, PartialEq, Eq)]
 pub enum Linkage {
-    /// Its calls run an inline cache of so many links, at least one, over its base tree.
+    /// Its calls run an inline cache of this many links, at least one, over its base tree.
     Linked(usize),
     /// Its calls run its base tree.
     Unlinked,
-    /// It was retargeted since the snapshot of the plan, and is left as it is.
+    /// It was retargeted since the snapshot of the plan, so it was not changed.
     Skipped,
 }
 
-/// A site, by number, and what an installation made of it.
+/// A site, by number, and the result of an installation for it.
 #[derive(Clone, Copy, Debug, PartialEq, Eq)]
 pub struct SiteLinkage {
     /// The number of the site.
     pub site: usize,
-    /// What was made of it.
+    /// The result for the site.
     pub linkage: Linkage,
 }
 
-/// What an installation made of the sites that have a link in the plan or held links before.
+/// The result of an installation for each site that has a link in the plan or held links before.
 #[derive(Debug, Drop)]
 pub struct InstallReport {
     /// The sites, ascending.
     pub sites: Listing<SiteLinkage>,
-    /// The plan's links, by number and ascending, at sites that are not skipped, that are not
-    /// linked since a point that they need is invalid.
+    /// The links of the plan, by number and ascending, that were not linked because a point that
+    /// they need is invalid. The links of skipped sites are not among them.
     pub left_out: Listing<u32>,
 }
 
 impl InstallReport {
-    /// The number of sites that were linked.
+    /// Returns the number of sites that were linked.
     pub fn linked(&self) -> usize
         ensures value { result ≡ length (filter is_linked self.now.sites) }
     {
         count_linked(self.sites.as_slice())
     }
 
-    /// The number of sites that were skipped.
+    /// Returns the number of sites that were skipped.
     pub fn skipped(&self) -> usize
         ensures value { result ≡ length (filter is_skipped self.now.sites) }
     {
@@ -53,7 +53,7 @@ impl InstallReport {
     }
 }
 
-// How many of these sites were linked.
+// Returns how many of these sites were linked.
 fn count_linked(sites: &[SiteLinkage]) -> usize
     ensures value { result ≡ length (filter is_linked sites.now) }
 {
@@ -66,7 +66,7 @@ fn count_linked(sites: &[SiteLinkage]) -> usize
     count
 }
 
-// How many of these sites were skipped.
+// Returns how many of these sites were skipped.
 fn count_skipped(sites: &[SiteLinkage]) -> usize
     ensures value { result ≡ length (filter is_skipped sites.now) }
 {
@@ -79,8 +79,8 @@ fn count_skipped(sites: &[SiteLinkage]) -> usize
     count
 }
 
-/// The numbers of linked and of skipped sites, and the links that were left out, as
-/// `linked 2 skipped 0 invalid 3,4`.
+/// Writes the numbers of linked and of skipped sites, and the links that were left out, as `linked
+/// 2 skipped 0 invalid 3,4`.
 impl fmt::Display for InstallReport {
     ghost use Rattle.std.specs.Prelude.{Some};
     ghost use Rattle.mh_core.specs.Display.{report_text};
@@ -94,7 +94,7 @@ impl fmt::Display for InstallReport {
     }
 }
 
-// The links that were left out, and nothing where there is none.
+// Writes the links that were left out, or nothing if there are none.
 fn write_invalid<W: fmt::Write>(numbers: &[u32], f: &mut fmt::Formatter<W>) -> fmt::Result
     ensures text { WritesOnOk W.write_str_gives f.old result (invalid_text numbers.now) f.new }
 {

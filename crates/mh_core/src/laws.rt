@@ -27,14 +27,14 @@ ghost use Rattle.mh_core.specs.Standing.{AreStanding};
 use crate::book::Book;
 use crate::machine::Machine;
 
-/// The headline. Over every interleaving of calls, flushes, retargetings, invalidations, snapshots,
-/// publications and installations, each call that is not refused returns what its site's
-/// unspeculated tree means at that step, whatever caches are installed; and each published plan has
-/// the greatest gain less cost among all sets of eligible links with their points, for the totals
-/// of the snapshot that it names, and carries a flow that shows it.
+/// Proves the headline. Over every interleaving of calls, flushes, retargetings, invalidations,
+/// snapshots, publications and installations, each accepted call returns what its site's
+/// unspecialised tree means at that step, whatever caches are installed; and each published plan
+/// has the greatest gain less cost among all sets of eligible links with their points, for the
+/// totals of the snapshot that it names, and carries a flow that shows it.
 ///
-/// `run` promises such a run behind what a machine has accepted, and a machine that was just opened
-/// has accepted nothing.
+/// `run` promises such a run after the history of a machine, which is empty if the machine was just
+/// opened.
 pub fn every_run_is_right(machine: &Machine)
     ensures headline { (events : List Event) → (replies : List Reply) → (h : List Event)
         → Run machine.now.setting machine.now.history events replies h
@@ -43,8 +43,8 @@ pub fn every_run_is_right(machine: &Machine)
     machine.book().kept();
 }
 
-/// The world after any records has at each site, and of each point, what looking back through the
-/// records finds.
+/// Proves that the world after any records has, at each site and of each point, what looking back
+/// through the records finds.
 pub fn records_look_back()
     ensures sites { (d : DefinitionData) → (r : List Record) → (s : ℕ) → s < length d.sites
         → state_at (world d r) s ≡ record
@@ -53,23 +53,24 @@ pub fn records_look_back()
         → (world d r).valid ≡ valid_points d r }
 {}
 
-/// In the world after legal records the trees of each site have its type and name declared points
-/// alone, and the linked tree, which calls run, has the outcomes of the base tree.
+/// Proves that in the world after legal records, the trees of each site have its type and name only
+/// declared points, and that the linked tree, which calls run, has the outcomes of the base tree.
 pub fn legal_worlds_stand()
     ensures trees { (d : DefinitionData) → (l : LimitsData) → (r : List Record) → IsDefinition d
         → Legal d l r → AreStanding d (world d r) }
 {}
 
-/// The totals after the records of a history are its hits that a flush of the same worker follows.
+/// Proves that the totals after the records of a history are its hits that a flush of the same
+/// worker follows.
 pub fn totals_are_sums()
     ensures value { (d : DefinitionData) → (h : List Event) → (j : ℕ) → j < length (links d)
         → total_calls d h j ≡ total (records d h) j }
 {}
 
-/// Each plan that a book has published matches the problem of the snapshot that it names, and is
-/// best for it: no set of eligible links gains more, less the costs of the points that it needs
-/// (Rhys 1970, Picard 1976). The problem is that of the totals, and of the valid points, when the
-/// snapshot was taken.
+/// Proves that each plan that a book has published matches the problem of the snapshot that it
+/// names, and is best for it: no set of eligible links gains more, less the costs of the points
+/// that it needs (Rhys 1970, Picard 1976). The problem is that of the totals, and of the valid
+/// points, when the snapshot was taken.
 pub fn published_plans_are_best(book: &Book)
     ensures matching { (newer older : List Record) → (n : ℕ) → (plan : Plan)
         → book.now.records ≡ newer ++ Published n plan ∷ older

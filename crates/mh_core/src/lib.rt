@@ -1,8 +1,8 @@
-//! The core: a book of accepted records with what was made of them, and a machine that answers
-//! events by the meaning of the sites' trees and by the hits of their links.
+//! The core: a book of accepted records, with the state that follows from them, and a machine that
+//! answers events by the meaning of the sites' trees and by the hits of their links.
 //!
-//! It also exports what its calls name of the crates below, so that an embedder depends on this
-//! crate alone:
+//! It also exports the types of the crates below that its functions use, so that an embedder
+//! depends on this crate only:
 //!
 //! ```
 //! let mut machine = Machine::open(alloc, &definition, 1, limits)?;

@@ -5,23 +5,23 @@ ghost use Rattle.mh_core.specs.Limits.{IsLimits};
 
 use std::marker::Model;
 
-/// The most events of a history.
+/// The greatest number of events of a history.
 pub const LONGEST_HISTORY: u64 = 1 << 20;
 
-/// The most hits of a link that a worker may hold.
+/// The greatest number of hits of a link that a worker may hold.
 pub const LARGEST_LEDGER: u64 = 1 << 20;
 
-/// The most hits that the totals may hold for a link.
+/// The greatest number of hits of a link that the totals may hold.
 pub const LARGEST_TOTAL: u64 = 1 << 40;
 
-/// The most snapshots of a history.
+/// The greatest number of snapshots of a history.
 pub const MOST_SNAPSHOTS: usize = 1024;
 
-/// The most plans of a history.
+/// The greatest number of plans of a history.
 pub const MOST_PLANS: usize = 1024;
 
-/// How many events may be accepted, how many hits of a link a worker may hold before it hands them
-/// on, and how many the totals may hold.
+/// The limits of a runtime: how many events may be accepted, how many hits of a link a worker may
+/// hold before it flushes them, and how many the totals may hold.
 #[derive(Debug, Drop)]
 pub struct Limits {
     history: u64,
@@ -44,8 +44,8 @@ impl Model for Limits {
 }
 
 impl Limits {
-    /// The limits: `history` from 0 to 2^20 events, `ledger` from 1 to 2^20 hits, `total` from 0 to
-    /// 2^40 hits. None where one is out of its range.
+    /// Returns the limits: `history` from 0 to 2^20 events, `ledger` from 1 to 2^20 hits, `total`
+    /// from 0 to 2^40 hits; `None` if one is out of its range.
     pub fn new(history: u64, ledger: u64, total: u64) -> Option<Limits>
         ensures value { IfSome result
             (λ l. (l ≡ record { history = history; ledger = ledger; total = total }) × IsLimits l) }
@@ -65,7 +65,7 @@ impl Limits {
         })
     }
 
-    /// The same limits.
+    /// Returns the same limits.
     pub fn copy(&self) -> Limits
         ensures value { result ≡ self.now }
     {
@@ -76,7 +76,7 @@ impl Limits {
         }
     }
 
-    /// The most events of a history, at most 2^20.
+    /// Returns the greatest number of events of a history, at most 2^20.
     pub fn history(&self) -> u64
         ensures value { result ≡ self.now.history }
         ensures limits { IsLimits self.now }
@@ -84,7 +84,7 @@ impl Limits {
         self.history
     }
 
-    /// The most hits of a link that a worker may hold, 1 to 2^20.
+    /// Returns the greatest number of hits of a link that a worker may hold, 1 to 2^20.
     pub fn ledger(&self) -> u64
         ensures value { result ≡ self.now.ledger }
         ensures limits { IsLimits self.now }
@@ -92,7 +92,7 @@ impl Limits {
         self.ledger
     }
 
-    /// The most hits that the totals may hold for a link, at most 2^40.
+    /// Returns the greatest number of hits of a link that the totals may hold, at most 2^40.
     pub fn total(&self) -> u64
         ensures value { result ≡ self.now.total }
         ensures limits { IsLimits self.now }

@@ -1,4 +1,4 @@
-//! Machines: a runtime whose calls are in its history too.
+//! Machines: runtimes whose calls are in their history, too.
 
 ghost use Rattle.std.specs.Prelude.{◌≡◌, ◌<◌, ◌≤◌, ◌+◌, length, IfErr, IfOk, IsTrue, OnErr, ◌↔◌};
 ghost use Rattle.mh_cert.specs.Plans.{Matches};
@@ -29,11 +29,11 @@ use std::alloc::Global;
 use std::fmt;
 use std::marker::Model;
 
-/// A runtime with the history of its accepted events, in which its calls are.
+/// A runtime with the history of its accepted events, including its calls.
 ///
-/// A contract sees what does not change, and the history, newest first. Code keeps the book's
-/// records, and of all events their number: else they stand in the proofs alone, so that a call
-/// takes no memory that stays.
+/// A contract sees the constant parts, and the history, newest first. At run time the book stores
+/// its records, and the machine the number of all events; the other events exist only in the
+/// proofs, so that a call takes no memory that stays.
 #[derive(Drop)]
 pub struct Machine {
     pub(crate) alloc: Global,
@@ -54,7 +54,7 @@ impl Model for Machine {
     ghost invariant = { λ m. IsMachine m.runtime m.history };
 }
 
-/// How many calls it accepted, and its book.
+/// Shows the number of accepted calls, and the book.
 impl fmt::Debug for Machine {
     fn fmt<W: fmt::Write>(&self, f: &mut fmt::Formatter<W>) -> fmt::Result {
         let (calls, book) = (self.calls(), self.book());
@@ -63,8 +63,8 @@ impl fmt::Debug for Machine {
 }
 
 impl Machine {
-    /// The machine of a definition with so many workers, and with the empty history. Fails only if
-    /// an allocation or a reference count is refused.
+    /// Returns the machine of a definition with this many workers, and with the empty history.
+    /// Fails only if an allocation or a reference count is refused.
     pub fn open(
         alloc: Global,
         definition: &Definition,
@@ -83,7 +83,7 @@ impl Machine {
         })
     }
 
-    /// The book, whose records are those of the history.
+    /// Returns the book, whose records are those of the history.
     pub fn book(&self) -> &Book
         ensures definition { result.now.definition ≡ self.now.setting.definition }
         ensures limits { result.now.limits ≡ self.now.setting.limits }
@@ -93,7 +93,7 @@ impl Machine {
         self.runtime.book()
     }
 
-    /// The number of accepted calls.
+    /// Returns the number of accepted calls.
     pub fn calls(&self) -> usize
         ensures count { length (records self.now.setting.definition self.now.history) + result
             ≡ length self.now.history }
@@ -101,22 +101,23 @@ impl Machine {
         self.history.len() - self.book().records().len()
     }
 
-    /// The number of accepted events.
+    /// Returns the number of accepted events.
     pub fn accepted(&self) -> usize
         ensures count { result ≡ length self.now.history }
     {
         self.history.len()
     }
 
-    /// The number of workers.
+    /// Returns the number of workers.
     pub fn workers(&self) -> u32
         ensures value { result ≡ self.now.setting.workers }
     {
         self.runtime.workers()
     }
 
-    /// Answers one event. Where a test fails or memory is refused, nothing changes. A call of which
-    /// no node that is entered has String in its type is not refused with `NoMemory`.
+    /// Applies one event, and returns its reply. If a test fails or memory is refused, nothing
+    /// changes. A call is not refused with `NoMemory` if no node that it evaluates has String in
+    /// its type.
     pub fn step(&mut self, event: Event) -> Reply
         ensures step { Step self.old.setting self.old.history event result self.new.history }
         ensures setting { self.new.setting ≡ self.old.setting }
@@ -133,12 +134,12 @@ impl Machine {
         }
     }
 
-    /// What a worker's call of a site gives, and the number of nodes that it entered
-    /// (`MutableCallSite.dynamicInvoker`): its site's linked tree is run, and the hit of its link
-    /// is counted. It is `step` of the call.
+    /// Returns the outcome of a worker's call of a site, and the number of nodes evaluated
+    /// (`MutableCallSite.dynamicInvoker`). It runs the site's linked tree and counts the hit of the
+    /// link. It does the same as `step` of the call.
     ///
-    /// Refused with `NoWorker`, `NoSite`, `WrongType`, `HistoryFull`, `LedgerFull`, and then with
-    /// `NoMemory`; nothing changes.
+    /// Fails with the first that applies of `NoWorker`, `NoSite`, `WrongType`, `HistoryFull` and
+    /// `LedgerFull`, and otherwise only with `NoMemory`; then nothing changes.
     #[inline(always)]
     pub fn call(
         &mut self,
@@ -162,11 +163,12 @@ impl Machine {
         Ok((outcome, steps))
     }
 
-    /// Publishes a plan that is known to match the problem of a snapshot: it is `step` of the
-    /// publication, which does not check the plan anew. O(1).
+    /// Publishes a plan that is known to match the problem of a snapshot, and returns the reply of
+    /// `step`. It does the same as `step` of the publication, but does not check the plan again.
+    /// O(1).
     ///
-    /// Refused with `HistoryFull`, also where there are 1,024 plans, and then with `NoMemory`;
-    /// nothing changes. It gives the reply of `step`.
+    /// Fails with `HistoryFull`, also if there are 1,024 plans, and otherwise only with `NoMemory`;
+    /// then nothing changes.
     pub fn publish_for(&mut self, snapshot: usize, plan: SharedPlan) -> Result<Reply, Refusal>
         requires taken { IsTaken (records self.old.setting.definition self.old.history) snapshot }
         requires matching { Matches (problem_at self.old.setting.definition
@@ -185,7 +187,8 @@ impl Machine {
         Ok(reply)
     }
 
-    // Answers an event that is no call. Apart from `step`, which keeps no room for its results.
+    // Applies an event other than a call. It is a function apart from `step`, which therefore
+    // reserves no stack slots for its results.
     #[inline(never)]
     fn change(&mut self, event: Event) -> Result<Reply, Refusal>
         requires other { IsNoCall event }
@@ -215,7 +218,7 @@ impl Machine {
         Ok(Reply::Done)
     }
 
-    // Has the book take a record behind the accepted calls.
+    // Has the book take a record after the accepted calls.
     fn take(&mut self, entry: Record) -> Result<Reply, Refusal>
         requires other { IsNoFlush entry }
         ensures accepted { IfOk result (λ reply. IsAccepted self.old (event_of entry) reply
@@ -229,7 +232,7 @@ impl Machine {
         Ok(reply)
     }
 
-    // Whether as many events were accepted as may be.
+    // Returns whether the limit of events is reached.
     fn is_full(&self) -> bool
         ensures decides { IsTrue result
             ↔ (self.now.setting.limits.history ≤ length self.now.history) }
@@ -237,11 +240,12 @@ impl Machine {
         self.history.len() as u64 >= self.book().limits().history()
     }
 
-    /// Answers the events in order: each call that is not refused with what its site's unspeculated
-    /// tree means at that step, and each published plan is best for its snapshot (`headline`).
+    /// Applies the events in order, and returns their replies: each call that is not refused
+    /// returns what its site's unspecialised tree means at that step, and each published plan is
+    /// best for its snapshot (`headline`).
     ///
-    /// Where there is no memory for the replies, that is reported before the first event, and
-    /// nothing changes.
+    /// Fails only if there is no memory for the replies; this is reported before the first event,
+    /// and nothing changes.
     pub fn run(&mut self, events: Vec<Event>) -> Result<Vec<Reply>, NoMemory>
         ensures headline { IfOk result (λ replies. IsHeadline self.old.setting
             self.old.history events.items replies.items self.new.history) }
@@ -260,7 +264,7 @@ impl Machine {
     }
 }
 
-// The reply to a call.
+// Returns the reply to a call.
 #[inline(always)]
 fn called(answer: Result<(Outcome, u128), Refusal>) -> Reply
     ensures value { result ≡ call_reply answer }
@@ -271,7 +275,7 @@ fn called(answer: Result<(Outcome, u128), Refusal>) -> Reply
     }
 }
 
-// The reply to any other event.
+// Returns the reply to any other event.
 fn replied(answer: Result<Reply, Refusal>) -> Reply
     ensures value { result ≡ reply_of answer }
 {

@@ -1,4 +1,4 @@
-//! The problem of selection that a snapshot is.
+//! The selection problem of a snapshot.
 
 ghost use Rattle.std.specs.Prelude.{◌≡◌, ◌<◌, ◌≤◌, ◌^◌, ◌↔◌, length, map, false, slice_index_or, IfOk, IsTrue};
 ghost use Rattle.std.specs.List.{All, sum_by};
@@ -17,7 +17,7 @@ use mh_network::{GREATEST_SUM, LinkRow, Listing, Problem};
 use mh_site::{Definition, Link};
 use std::alloc::Global;
 
-// The problem of a definition's links, with these totals, and where these points are valid.
+// Returns the problem of a definition's links, given their totals and the validity of the points.
 pub(crate) fn make_problem(
     alloc: Global,
     definition: &Definition,
@@ -39,7 +39,7 @@ pub(crate) fn make_problem(
     Ok(Problem::of_lawful(rows, costs))
 }
 
-// A row for each link.
+// Returns a row for each link.
 fn make_rows(
     alloc: Global,
     definition: &Definition,
@@ -91,8 +91,8 @@ fn make_costs(alloc: Global, definition: &Definition) -> Result<Vec<u64>, NoMemo
     Ok(costs)
 }
 
-// Whether the gains of the eligible links add up to at most 2^62. The sum stops at 2^64 - 1, so
-// that nothing wraps.
+// Returns whether the sum of the gains of the eligible links is at most 2^62. The sum saturates at
+// 2^64 - 1, so that it does not wrap.
 pub(crate) fn gains_fit(definition: &Definition, totals: &[u64], valid: &[bool]) -> bool
     requires links { length totals.now ≡ length (links_of definition.now) }
     requires few { All (λ n. n ≤ most_hits) totals.now }
@@ -107,8 +107,7 @@ pub(crate) fn gains_fit(definition: &Definition, totals: &[u64], valid: &[bool])
     sum <= GREATEST_SUM
 }
 
-// What a link gains: its weight for each of its hits, and nothing where a point that it needs is
-// invalid.
+// Returns the gain of a link: its weight times its hits, or 0 if a point that it needs is invalid.
 fn gain(definition: &Definition, totals: &[u64], valid: &[bool], link: usize) -> u64
     requires inside { link < length (links_of definition.now) }
     requires links { length totals.now ≡ length (links_of definition.now) }
@@ -123,7 +122,7 @@ fn gain(definition: &Definition, totals: &[u64], valid: &[bool], link: usize) ->
     }
 }
 
-// Whether all these points are valid. One past the last is not.
+// Returns whether all these points are valid. A point that does not exist is not.
 pub(crate) fn all_valid(points: &[u32], valid: &[bool]) -> bool
     ensures value { result ≡ are_valid valid.now points.now }
 {
@@ -137,7 +136,7 @@ fn is_valid(valid: &[bool], point: u32) -> bool
     point < valid.len() && valid[point]
 }
 
-// The link of a number.
+// Returns the link with this number.
 pub(crate) fn link_of(definition: &Definition, link: usize) -> &Link
     requires inside { link < length (links_of definition.now) }
     ensures value { result.now ≡ (link_at definition.now link).1 }

@@ -1,14 +1,14 @@
-//! What a book records.
+//! The records of a book.
 
 use crate::shared_plan::SharedPlan;
 use mh_site::Listing;
 use mh_tree::Declared;
 
-/// An accepted event that is no call.
+/// An accepted event other than a call.
 #[derive(Debug, Drop)]
 pub enum Record {
     /// A worker's hits were added to the totals: the links that it had hit, ascending by number,
-    /// each with how often.
+    /// each with its number of hits.
     Flushed {
         worker: usize,
         hits: Listing<(usize, u64)>,
@@ -22,7 +22,7 @@ pub enum Record {
     Invalidated {
         points: Listing<u32>,
     },
-    /// A snapshot was taken: the next number, from 1.
+    /// A snapshot was taken, with the next number, from 1.
     Snapped,
     /// A plan for the snapshot of this number was published.
     Published {

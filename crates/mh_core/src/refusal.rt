@@ -1,4 +1,4 @@
-//! Why events are refused.
+//! Reasons to refuse events.
 
 ghost use Rattle.std.specs.Prelude.{◌≡◌};
 ghost use Rattle.mh_core.specs.Refusals.{refusal_number};
@@ -8,43 +8,43 @@ use mh_cert::CheckFault;
 use std::error::Error;
 use std::fmt;
 
-/// Why an event was refused. A refused event changes nothing.
+/// The reason why an event was refused. A refused event changes nothing.
 #[derive(Clone, Copy, Debug, PartialEq, Eq)]
 pub enum Refusal {
-    /// Out of memory: an allocation or a reference count was refused. It is reported only where no
-    /// test fails, and where a plan that is offered for a snapshot could not be tested.
+    /// Out of memory: an allocation or a reference count was refused. It is reported only if no
+    /// test fails, or if a plan that is offered for a snapshot could not be tested.
     NoMemory,
-    /// As many events were accepted, snapshots taken or plans published as may be.
+    /// The limit of accepted events, of snapshots or of published plans is reached.
     HistoryFull,
-    /// A site that is not there, also one that a tree invokes.
+    /// A site does not exist; it may be one that a tree invokes.
     NoSite,
-    /// A point that is not there.
+    /// A point does not exist.
     NoPoint,
-    /// Arguments that do not fit the site's type, or a tree of another type, or one that invokes a
-    /// site with another type than its own.
+    /// The arguments do not fit the site's type, or a tree is of another type, or invokes a site
+    /// with a type other than that site's.
     WrongType,
-    /// A snapshot that was not taken.
+    /// There is no such snapshot.
     NoSnapshot,
-    /// A plan that was not published.
+    /// There is no such plan.
     NoPlan,
-    /// A plan that does not match its problem, with the fault that the checker reports.
+    /// The plan does not match its problem; the checker reports this fault.
     PlanRefused(CheckFault),
-    /// A plan that is not the newest, with the number of the newest.
+    /// The plan is not the newest; the newest has this number.
     OldPlan(usize),
-    /// Some total would pass its limit.
+    /// Some total would exceed its limit.
     TotalTooLarge,
-    /// The worker holds as many hits of the link as it may.
+    /// The worker holds as many hits of the link as its limit allows.
     LedgerFull,
-    /// The gains of the links would add up to more than 2^62.
+    /// The sum of the gains of the links would exceed 2^62.
     GainTooLarge,
-    /// A worker that is not there.
+    /// The worker does not exist.
     NoWorker,
-    /// A tree that invokes a site whose level is not below that of the site that it is for.
+    /// The tree invokes a site whose level is not below that of the site to be given the tree.
     WrongLevel,
 }
 
 impl Refusal {
-    /// The refusal's number, from 1 to 14.
+    /// Returns the refusal's number, 1 to 14.
     pub fn number(self) -> u8
         ensures value { result ≡ refusal_number self }
     {

@@ -1,4 +1,4 @@
-//! How a book and a runtime begin a new history.
+//! Renewing a book and a runtime, which begin a new history.
 
 ghost use Rattle.std.specs.Prelude.{◌≡◌, ◌∷◌, ◌<◌, [], length, map, reverse, IfErr, IfOk, OnErr, OnOk};
 ghost use Rattle.mh_base.specs.Tests.{Refuses};
@@ -24,18 +24,19 @@ use mh_site::{Control, Definition, Listing, World};
 use mh_tree::Declared;
 use std::alloc::Global;
 
-/// How a new history begins: what it takes over from the old one.
+/// The parts of the old history that a new one takes over.
 #[derive(Clone, Copy, Debug)]
 pub struct Renewal<'a> {
-    /// Points that are to be valid again, by number; each may stand here more than once, and those
-    /// that are valid change nothing. In the base trees each that is invalid gives way to its
-    /// fallback, so that all calls mean what they meant; its number may then be used anew.
+    /// The points that are to be valid again, by number. A point may be listed more than once;
+    /// those that are valid are ignored. In the base trees, each that is invalid is replaced by its
+    /// fallback, so that all calls mean what they meant before; its number may then be reused.
     pub again: &'a [u32],
-    /// What becomes of the hits that were flushed.
+    /// The part of the flushed hits that is kept.
     pub hits: OldHits,
 }
 
-// What a new history begins with: its definition, the world after its first records, and these.
+// The contents of a book at the beginning of a new history: its definition, its first records, and
+// the world after them.
 #[derive(Drop)]
 pub(crate) struct Beginning {
     definition: Definition,
@@ -44,10 +45,10 @@ pub(crate) struct Beginning {
 }
 
 impl Book {
-    /// The definition of now, where each site has its base tree as its target. Of the points that
-    /// are to be valid again, each that is invalid gives way to its fallback there. Points, sites
-    /// and links keep their numbers. O(points + sites + links), where no point is to be valid
-    /// again; else as `mh_pic::retire` for each base tree.
+    /// Returns the current definition, with each site's base tree as its target. Each invalid point
+    /// in `again` is replaced in these trees by its fallback. Points, sites and links keep their
+    /// numbers. O(points + sites + links) if `again` is empty; otherwise it also takes the time of
+    /// `mh_pic::retire` for each base tree.
     ///
     /// Fails only if an allocation or a reference count is refused.
     pub fn renewed(&self, again: &[u32]) -> Result<Definition, NoMemory>
@@ -63,7 +64,7 @@ impl Book {
         Ok(definition)
     }
 
-    // Of the points that are to be valid again, the ones that are invalid.
+    // Returns the points in `again` that are invalid.
     fn given_back(&self, again: &[u32]) -> Result<Vec<u32>, NoMemory>
         requires known { AreKnown self.now.definition again.now }
         ensures value { IfOk result (λ v. v.items ≡ given_back self.now.records again.now) }
@@ -78,7 +79,7 @@ impl Book {
         Ok(points)
     }
 
-    // The base tree of each site, by number, without the points that are given back.
+    // Returns the base tree of each site, by number, without the invalid points in `again`.
     fn bases(&self, again: &[u32]) -> Result<Vec<Declared>, NoMemory>
         requires known { AreKnown self.now.definition again.now }
         ensures value { IfOk result (λ v. v.items
@@ -90,7 +91,7 @@ impl Book {
         Ok(bases)
     }
 
-    // The base tree of each site, by number, without these points.
+    // Returns the base tree of each site, by number, without these points.
     fn bases_without(&self, points: &[u32]) -> Result<Vec<Declared>, NoMemory>
         ensures value { IfOk result (λ v. v.items
             ≡ map (λ s. retired_tree points.now (base self.now.definition self.now.records s))
@@ -104,7 +105,7 @@ impl Book {
         Ok(bases)
     }
 
-    // A site's base tree, without these points.
+    // Returns a site's base tree, without these points.
     fn base(&self, site: usize, points: &[u32]) -> Result<Declared, NoMemory>
         requires inside { site < length self.now.definition.sites }
         ensures value { IfOk result (λ t. t
@@ -117,7 +118,7 @@ impl Book {
         Ok(tree)
     }
 
-    // Whether a point is valid in the new history.
+    // Returns whether a point is valid in the new history.
     fn is_valid_anew(&self, point: u32, again: &[u32]) -> bool
         requires inside { point < length self.now.definition.points }
         ensures value { result ≡ is_valid_anew self.now.records again.now point }
@@ -125,7 +126,7 @@ impl Book {
         self.is_valid(point as usize) || again.contains(&point)
     }
 
-    // The points that stay invalid, ascending.
+    // Returns the points that stay invalid, ascending.
     pub(crate) fn fallen(&self, again: &[u32]) -> Result<Listing<u32>, NoMemory>
         ensures value { IfOk result (λ points. points
             ≡ fallen self.now.definition self.now.records again.now) }
@@ -142,9 +143,9 @@ impl Book {
 
     /// Begins a new history, with one held ledger of each worker, as `Runtime::renew` does.
     ///
-    /// Refused with `HistoryFull` where the limit of events is not above the number of workers, with
-    /// `NoPoint` where a number of a point that is to be valid again is past the last point, and
-    /// then with `NoMemory`; nothing changes.
+    /// Fails with `HistoryFull` if the limit of events does not exceed the number of workers, with
+    /// `NoPoint` if a point that is to be valid again does not exist, and otherwise only with
+    /// `NoMemory`; then nothing changes.
     pub fn renew(&mut self, ledgers: &mut Vec<Ledger>, renewal: Renewal<'_>) -> Result<(), Refusal>
         requires held { AreHeld self.old.totals ledgers.old.items }
         ensures passes { OnOk result (length ledgers.old.items < self.old.limits.history) }
@@ -172,7 +173,7 @@ impl Book {
         Ok(())
     }
 
-    // The tests of a renewal with so many workers, reporting the first that fails.
+    // Runs the tests of a renewal with this many workers, and reports the first that fails.
     fn test_renewal(&self, workers: usize, again: &[u32]) -> Result<(), Refusal>
         ensures passes { OnOk result (workers < self.now.limits.history) }
         ensures known { OnOk result (AreKnown self.now.definition again.now) }
@@ -188,7 +189,7 @@ impl Book {
         Ok(())
     }
 
-    // All growths of a renewal.
+    // Makes all allocations of a renewal.
     fn beginning(
         &self,
         ledgers: &[Ledger],
@@ -210,7 +211,7 @@ impl Book {
         })
     }
 
-    // Takes the beginning in. It takes no memory.
+    // Applies the beginning. It does not allocate.
     fn begin(&mut self, first: Beginning, ledgers: &mut Vec<Ledger>, again: &[u32], hits: OldHits)
         requires held { AreHeld self.old.totals ledgers.old.items }
         requires room { length ledgers.old.items < self.old.limits.history }
@@ -237,7 +238,8 @@ impl Book {
     }
 }
 
-// The world of a definition in which these points are invalid, with the code of an earlier world.
+// Returns the world of a definition in which these points are invalid, with the code of an earlier
+// world.
 pub(crate) fn open_without(
     alloc: Global,
     earlier: Option<&World>,
@@ -252,7 +254,7 @@ pub(crate) fn open_without(
     Ok(world)
 }
 
-// The world of a definition before any control, with the code of an earlier world.
+// Returns the world of a definition before any control, with the code of an earlier world.
 fn open(alloc: Global, earlier: Option<&World>, definition: &Definition) -> Result<World, NoMemory>
     ensures value { IfOk result (λ w. w ≡ opened definition.now) }
 {
@@ -262,8 +264,8 @@ fn open(alloc: Global, earlier: Option<&World>, definition: &Definition) -> Resu
     }
 }
 
-// An invalidation of these points, and a flush of each worker of what goes on counting of the hits
-// that its ledger has flushed.
+// Returns an invalidation of these points, and a flush for each worker of the part of its flushed
+// hits that is kept.
 pub(crate) fn first_records(
     alloc: Global,
     points: &Listing<u32>,
@@ -283,7 +285,7 @@ pub(crate) fn first_records(
     Ok(records)
 }
 
-// A flush of a worker of what goes on counting of these hits.
+// Returns a flush of a worker, of the part of these hits that is kept.
 fn left_flush(
     alloc: Global,
     worker: usize,
@@ -298,7 +300,7 @@ fn left_flush(
     Ok(Record::Flushed { worker, hits })
 }
 
-// What goes on counting of each number of hits.
+// Returns the part that is kept of each number of hits.
 fn left_hits(alloc: Global, flushed: &[u64], hits: OldHits) -> Result<Vec<u64>, NoMemory>
     ensures value { IfOk result (λ v. v.items ≡ map (left_of hits) flushed.now) }
 {

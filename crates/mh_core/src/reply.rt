@@ -1,4 +1,4 @@
-//! What a machine answers.
+//! Replies of a machine.
 
 use crate::install_report::InstallReport;
 use crate::refusal::Refusal;
@@ -6,10 +6,10 @@ use crate::shared_plan::SharedPlan;
 use mh_type::Outcome;
 use std::fmt;
 
-/// The answer to an event.
+/// The reply to an event.
 #[derive(Debug, Drop)]
 pub enum Reply {
-    /// What a call ended with, and the number of nodes that it entered.
+    /// A call was made: its outcome, and the number of nodes evaluated.
     Called { outcome: Outcome, steps: u128 },
     /// The change was made.
     Done,
@@ -17,13 +17,13 @@ pub enum Reply {
     Taken { snapshot: usize },
     /// The plan was published, and has this number, from 1.
     Published { number: usize, plan: SharedPlan },
-    /// The plan was installed, as the report says.
+    /// The plan was installed, with the results in the report.
     Installed(InstallReport),
-    /// The first test that failed, or out of memory.
+    /// The event was refused: the first test that failed, or lack of memory.
     Refused(Refusal),
 }
 
-/// The reply as a line of the program shows it, except for the numbers of points: `int 100`, `ok`,
+/// Writes the reply as the program prints it, but without the numbers of points: `int 100`, `ok`,
 /// `snapshot 1`, `plan 1 links 0 points 0 value 3 flow 4`, `installed linked 1 skipped 0`, `refused
 /// 3 NoSite`.
 impl fmt::Display for Reply {

@@ -1,4 +1,4 @@
-//! How a runtime goes on from what an earlier process kept: invalid points, and hits.
+//! Resuming a runtime from the invalid points and hits that an earlier process saved.
 
 ghost use Rattle.std.specs.Prelude.{◌≡◌, ◌∷◌, ◌<◌, ◌≤◌, ◌↔◌, [], length, map, reverse, IfErr, IfOk, IsTrue, OnOk};
 ghost use Rattle.std.specs.List.{All, range_with_len};
@@ -22,22 +22,22 @@ use mh_site::{Definition, Listing};
 use std::alloc::Global;
 use thiserror::Error;
 
-/// Why a runtime was not resumed, in the order of the tests.
+/// The reason why a runtime was not resumed, in the order of the tests.
 #[derive(Clone, Copy, Debug, PartialEq, Eq, Error)]
 pub enum ResumptionFault {
-    /// No worker: there is none that can have flushed the hits.
+    /// There are no workers, so none that can have flushed the hits.
     #[error("NoWorker")]
     NoWorker,
-    /// A point that is not there.
+    /// A point does not exist.
     #[error("NoPoint")]
     NoPoint,
-    /// Not one number of hits for each link.
+    /// There is not exactly one number of hits for each link.
     #[error("WrongCount")]
     WrongCount,
-    /// A limit of events below 2, which the first records take.
+    /// The limit of events is below 2, the number of the first records.
     #[error("HistoryFull")]
     HistoryFull,
-    /// A number of hits that is past the limit of totals.
+    /// A number of hits exceeds the limit of totals.
     #[error("TotalTooLarge")]
     TotalTooLarge,
     /// Out of memory: an allocation or a reference count was refused.
@@ -56,13 +56,14 @@ impl From<NoMemory> for ResumptionFault {
 }
 
 impl Runtime {
-    /// The runtime of a definition with so many workers, that goes on from what an earlier process
-    /// kept: the points that were invalid, and the total of each link. Its first two records are an
-    /// invalidation of the points, which may be none, and a flush of the hits by the first worker,
-    /// so that snapshots count them. No hit is unflushed, and no site holds a link.
+    /// Returns the runtime of a definition with this many workers, which continues from what an
+    /// earlier process saved: the points that were invalid, and the total of each link. Its first
+    /// two records are an invalidation of the points, which may be none, and a flush of the hits by
+    /// the first worker, so that snapshots count them. No hit is unflushed, and no site holds a
+    /// link.
     ///
-    /// Refused with the first test that fails, in the order of `ResumptionFault`, and then with
-    /// `NoMemory`.
+    /// Fails with the first test that fails, in the order of `ResumptionFault`, and otherwise only
+    /// with `NoMemory`.
     pub fn resume(
         alloc: Global,
         definition: &Definition,
@@ -87,7 +88,7 @@ impl Runtime {
     }
 }
 
-// The tests of a resumption: reports the first that fails.
+// Runs the tests of a resumption, and reports the first that fails.
 fn test_resumption(
     definition: &Definition,
     workers: u32,
@@ -118,14 +119,14 @@ fn test_resumption(
     Ok(())
 }
 
-// Whether no number is past the limit.
+// Returns whether no number exceeds the limit.
 fn all_within(hits: &[u64], limit: u64) -> bool
     ensures value { IsTrue result ↔ All (λ n. n ≤ limit) hits.now }
 {
     hits.iter().all(|count| *count <= limit)
 }
 
-// The runtime, where the tests passed.
+// Returns the runtime, if the tests passed.
 fn resumed(
     alloc: Global,
     definition: &Definition,
@@ -148,7 +149,7 @@ fn resumed(
 }
 
 impl Book {
-    // The book, where the tests passed, and a held ledger of each worker.
+    // Returns the book, if the tests passed, and a held ledger of each worker.
     fn resumed(
         alloc: Global,
         definition: &Definition,
@@ -192,7 +193,7 @@ impl Book {
     }
 }
 
-// An invalidation of these points, and a flush of these hits by the first worker.
+// Returns an invalidation of these points, and a flush of these hits by the first worker.
 fn first_records(
     alloc: Global,
     invalid: &Listing<u32>,

@@ -1,4 +1,5 @@
-//! Runtimes: a book with the ledgers of its workers, for one thread, whose calls are in no history.
+//! Runtimes: a book with the ledgers of its workers, for one thread. The history does not contain
+//! calls.
 
 ghost use Rattle.std.specs.Prelude.{◌≡◌, ◌⊎◌, ◌<◌, ◌+◌, false, true, length, map, slice_set, IfErr, IfOk, IfSome, IfNone, OnErr, OnOk};
 ghost use Rattle.mh_base.specs.Tests.{Passes, Refuses, no_more, nothing};
@@ -40,9 +41,9 @@ use std::marker::Model;
 
 /// A book with the ledgers of its workers, for one thread.
 ///
-/// It answers calls as a machine does, but keeps no history of them: only its records are counted
-/// against the limit of events, so that there is no bound on its calls. A contract sees the book,
-/// and the ledger of each worker in order.
+/// It answers calls as a machine does, but calls take no record, so the limit of events does not
+/// bound their number. Each worker's ledger bounds its hits until it is flushed. A contract sees
+/// the book, and the ledger of each worker in order.
 #[derive(Drop)]
 pub struct Runtime {
     pub(crate) book: Book,
@@ -64,7 +65,7 @@ impl Model for Runtime {
     ghost invariant = { λ r. IsRuntime r.book r.ledgers.items × (length r.ledgers.items ≡ r.workers) };
 }
 
-/// Its number of workers, and its book.
+/// Shows the number of workers, and the book.
 impl fmt::Debug for Runtime {
     fn fmt<W: fmt::Write>(&self, f: &mut fmt::Formatter<W>) -> fmt::Result {
         let (workers, book) = (self.workers(), self.book());
@@ -73,8 +74,8 @@ impl fmt::Debug for Runtime {
 }
 
 impl Runtime {
-    /// The runtime of a definition with so many workers, without records and hits. Fails only if an
-    /// allocation or a reference count is refused.
+    /// Returns the runtime of a definition with this many workers, without records and hits. Fails
+    /// only if an allocation or a reference count is refused.
     pub fn open(
         alloc: Global,
         definition: &Definition,
@@ -93,7 +94,7 @@ impl Runtime {
         })
     }
 
-    /// The book.
+    /// Returns the book.
     pub fn book(&self) -> &Book
         ensures value { result.now ≡ self.now.book }
         ensures runtime { IsRuntime self.now.book self.now.ledgers }
@@ -101,14 +102,14 @@ impl Runtime {
         &self.book
     }
 
-    /// The number of workers.
+    /// Returns the number of workers.
     pub fn workers(&self) -> u32
         ensures count { result ≡ length self.now.ledgers }
     {
         self.workers
     }
 
-    /// The ledger of each worker, in order.
+    /// Returns the ledger of each worker, in order.
     pub fn ledgers(&self) -> &[Ledger]
         ensures value { result.now ≡ self.now.ledgers }
         ensures runtime { IsRuntime self.now.book self.now.ledgers }
@@ -116,13 +117,14 @@ impl Runtime {
         self.ledgers.as_slice()
     }
 
-    /// What a worker's call of a site gives, and the number of nodes that it entered
-    /// (`MutableCallSite.dynamicInvoker`): the outcome is what the site's base tree means over the
+    /// Returns the outcome of a worker's call of a site, and the number of nodes evaluated
+    /// (`MutableCallSite.dynamicInvoker`). The outcome is what the site's base tree means over the
     /// base trees, the steps are those of its linked tree over the linked trees, and the hit of its
-    /// link is counted in the worker's ledger. There is no bound on calls.
+    /// link is counted in the worker's ledger. A call takes no record.
     ///
-    /// Refused with `NoWorker`, `NoSite`, `WrongType`, `LedgerFull`, and then with `NoMemory`, which
-    /// is not reported where no node that is entered has String in its type; nothing changes.
+    /// Fails with the first that applies of `NoWorker`, `NoSite`, `WrongType` and `LedgerFull`, and
+    /// otherwise only with `NoMemory`, which is not reported if no node that is evaluated has
+    /// String in its type. On failure, nothing changes.
     #[inline(always)]
     pub fn call(
         &mut self,
@@ -146,8 +148,8 @@ impl Runtime {
         self.answer(worker, site, link, arguments)
     }
 
-    // The tests of a call that no hits decide: reports the first that fails, or returns the link
-    // that the call hits. The last test is whether the history is full.
+    // Runs the tests of a call that do not depend on hits: reports the first that fails, or returns
+    // the link that the call hits. The last test is whether the history is full.
     #[inline(always)]
     pub(crate) fn test_callee(
         &self,
@@ -212,7 +214,7 @@ impl Runtime {
         Ok((outcome, steps))
     }
 
-    // Has the book take a record, where so many calls were accepted beside its records.
+    // Has the book take a record, given that `calls` calls were accepted besides its records.
     pub(crate) fn accept(&mut self, calls: usize, entry: Record) -> Result<Reply, Refusal>
         requires other { IsNoFlush entry }
         ensures taken { OnOk result (Takes self.old.book calls entry self.new.book) }
@@ -225,8 +227,8 @@ impl Runtime {
         self.book.accept(calls, entry)
     }
 
-    // Publishes a plan that matches the problem of a snapshot, where so many calls were accepted
-    // beside the records.
+    // Publishes a plan that matches the problem of a snapshot, given that `calls` calls were
+    // accepted besides the records.
     pub(crate) fn publish_behind(
         &mut self,
         calls: usize,
@@ -249,8 +251,8 @@ impl Runtime {
         self.book.publish_for(calls, snapshot, plan)
     }
 
-    // Adds the hits of a worker since its last flush to the totals, where so many calls were
-    // accepted beside the records.
+    // Adds the hits of a worker since its last flush to the totals, given that `calls` calls were
+    // accepted besides the records.
     pub(crate) fn flush_behind(&mut self, calls: usize, worker: u32) -> Result<(), Refusal>
         ensures known { OnOk result (worker < length self.old.ledgers) }
         ensures taken { OnOk result (Takes self.old.book calls (flush_of self.old worker)
@@ -270,7 +272,7 @@ impl Runtime {
 
     /// Adds the hits of a worker since its last flush to the totals. O(links).
     ///
-    /// Refused with `NoWorker`, and then as `Book::flush` is; nothing changes.
+    /// Fails with `NoWorker`, and otherwise as `Book::flush` does; then nothing changes.
     pub fn flush(&mut self, worker: u32) -> Result<(), Refusal>
         ensures known { OnOk result (worker < length self.old.ledgers) }
         ensures taken { OnOk result (Takes self.old.book 0 (flush_of self.old worker)
@@ -283,9 +285,9 @@ impl Runtime {
         self.flush_behind(0, worker)
     }
 
-    /// Gives a site another tree (`MutableCallSite.setTarget`). The ledgers stay as they are.
+    /// Gives a site another tree (`MutableCallSite.setTarget`). The ledgers are not changed.
     ///
-    /// Refused as `Book::target` is; nothing changes.
+    /// Fails as `Book::target` does; then nothing changes.
     pub fn target(&mut self, site: usize, tree: Declared) -> Result<(), Refusal>
         ensures taken { OnOk result (Takes self.old.book 0 (Targeted site tree) self.new.book) }
         ensures ledgers { self.new.ledgers ≡ self.old.ledgers }
@@ -295,10 +297,10 @@ impl Runtime {
         self.book.target(site, tree)
     }
 
-    /// Invalidates points (`SwitchPoint.invalidateAll`); they may be none, and may be invalid
-    /// already. The ledgers stay as they are.
+    /// Invalidates points (`SwitchPoint.invalidateAll`). The list may be empty, and points may be
+    /// invalid already. The ledgers are not changed.
     ///
-    /// Refused as `Book::invalidate` is; nothing changes.
+    /// Fails as `Book::invalidate` does; then nothing changes.
     pub fn invalidate(&mut self, points: Listing<u32>) -> Result<(), Refusal>
         ensures taken { OnOk result (Takes self.old.book 0 (Invalidated points) self.new.book) }
         ensures ledgers { self.new.ledgers ≡ self.old.ledgers }
@@ -308,9 +310,9 @@ impl Runtime {
         self.book.invalidate(points)
     }
 
-    /// Takes a snapshot, and gives its number, from 1. O(links + points + sites).
+    /// Takes a snapshot, and returns its number, from 1. O(links + points + sites).
     ///
-    /// Refused as `Book::snapshot` is; nothing changes.
+    /// Fails as `Book::snapshot` does; then nothing changes.
     pub fn snapshot(&mut self) -> Result<usize, Refusal>
         ensures taken { OnOk result (Takes self.old.book 0 Snapped self.new.book) }
         ensures number { IfOk result (λ number. number
@@ -322,10 +324,10 @@ impl Runtime {
         self.book.snapshot()
     }
 
-    /// Publishes a plan for the problem of a snapshot, and gives the plan's number, from 1.
+    /// Publishes a plan for the problem of a snapshot, and returns the plan's number, from 1.
     /// O(links + points + rows).
     ///
-    /// Refused as `Book::publish` is; nothing changes.
+    /// Fails as `Book::publish` does; then nothing changes.
     pub fn publish(&mut self, snapshot: usize, plan: SharedPlan) -> Result<usize, Refusal>
         ensures taken { OnOk result (Takes self.old.book 0 (Published snapshot plan)
             self.new.book) }
@@ -337,10 +339,10 @@ impl Runtime {
         self.book.publish(snapshot, plan)
     }
 
-    /// Installs the newest plan, and reports what became of each site that it or the links of now
-    /// concern.
+    /// Installs the newest plan, and reports the result for each site that has a link in the plan
+    /// or currently holds links.
     ///
-    /// Refused as `Book::install` is; nothing changes.
+    /// Fails as `Book::install` does; then nothing changes.
     pub fn install(&mut self, plan: usize) -> Result<InstallReport, Refusal>
         ensures taken { OnOk result (Takes self.old.book 0 (Installed plan) self.new.book) }
         ensures report { IfOk result (λ told. told
@@ -352,20 +354,20 @@ impl Runtime {
         self.book.install(plan)
     }
 
-    /// Begins a new history, so that nothing of a history is used up any more. Its definition is
-    /// that of now, where each site has its base tree as its target; its first records invalidate
-    /// the points that stay invalid, and flush of each worker's hits what is to go on counting.
-    /// Each site's calls mean what they meant, the same points are valid, beside those that are to
-    /// be valid again, and sites, points and links keep their numbers. Of the points that are to be
-    /// valid again, each that is invalid gives way to its fallback in the base trees. Hits that
-    /// were not flushed stay so. No site holds a link, and snapshots and plans are numbered from 1
-    /// again. O(points + sites + links * workers), beside the code of each base tree; with points
-    /// that are to be valid again, the number of these for each point, and for each node of a
-    /// point.
+    /// Begins a new history, so that records, snapshots and plans are available again. Its
+    /// definition is the current one, with each site's base tree as its target. Its first records,
+    /// one more than there are workers, invalidate the points that stay invalid, and flush the part
+    /// of each worker's flushed hits that is kept. Each site's calls mean what they meant before,
+    /// the same points are valid, and also those that are to be valid again, and sites, points and
+    /// links keep their numbers. In the base trees, each invalid point that is to be valid again is
+    /// replaced by its fallback. Hits that were not flushed stay unflushed. No site holds a link,
+    /// and snapshots and plans are numbered from 1 again. O(points + sites + links * workers), plus
+    /// the preparation of each base tree; for points that are to be valid again, also their number
+    /// for each point, and for each node that tests a point.
     ///
-    /// Refused with `HistoryFull` where the limit of events is not above the number of workers, with
-    /// `NoPoint` where a number of a point that is to be valid again is past the last point, and
-    /// then with `NoMemory`; nothing changes.
+    /// Fails with `HistoryFull` if the limit of events does not exceed the number of workers, with
+    /// `NoPoint` if a point that is to be valid again does not exist, and otherwise only with
+    /// `NoMemory`; then nothing changes.
     pub fn renew(&mut self, renewal: Renewal<'_>) -> Result<(), Refusal>
         ensures passes { OnOk result (length self.old.ledgers < self.old.book.limits.history) }
         ensures known { OnOk result (AreKnown self.old.book.definition

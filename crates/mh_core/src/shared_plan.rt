@@ -9,8 +9,7 @@ use std::alloc::Global;
 use std::marker::Model;
 use std::sync::Arc;
 
-/// A plan that an event, a record and a reply hold together: it is stored once. A clone of it is
-/// `share`.
+/// A plan that an event, a record and a reply share: it is stored once. To copy it, use `share`.
 #[derive(Debug, Drop)]
 pub struct SharedPlan {
     plan: Arc<Plan>,
@@ -26,7 +25,7 @@ impl Model for SharedPlan {
 }
 
 impl SharedPlan {
-    /// The first owner of a plan. Fails only if an allocation is refused.
+    /// Returns the first owner of a plan. Fails only if an allocation is refused.
     pub fn new(alloc: Global, plan: Plan) -> Result<SharedPlan, NoMemory>
         ensures value { IfOk result (λ p. p ≡ plan) }
     {
@@ -34,7 +33,7 @@ impl SharedPlan {
         Ok(SharedPlan { plan })
     }
 
-    /// Another owner of the plan. Refused where no more owners can be counted.
+    /// Returns another owner of the plan. Fails only if a reference count is refused.
     pub fn share(&self) -> Result<SharedPlan, NoMemory>
         ensures value { IfOk result (λ p. p ≡ self.now) }
     {
@@ -42,7 +41,7 @@ impl SharedPlan {
         Ok(SharedPlan { plan })
     }
 
-    /// The plan.
+    /// Returns the plan.
     pub fn plan(&self) -> &Plan
         ensures value { result.now ≡ self.now }
     {
@@ -50,7 +49,7 @@ impl SharedPlan {
     }
 }
 
-// A published plan, and the number of the snapshot that it was published for.
+// A published plan, and the number of its snapshot.
 #[derive(Debug, Drop)]
 pub(crate) struct PublishedPlan {
     pub(crate) snapshot: usize,

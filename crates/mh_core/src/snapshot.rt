@@ -1,4 +1,4 @@
-//! Snapshots: what a problem of selection is made of.
+//! Snapshots: the data of a selection problem.
 
 ghost use Rattle.std.specs.Prelude.{◌≡◌, ◌<◌, ◌≤◌, length, map, IfOk};
 ghost use Rattle.mh_site.specs.Worlds.{state_at};
@@ -10,7 +10,7 @@ use mh_site::World;
 use std::alloc::Global;
 use std::marker::Model;
 
-// The total of each link, which points are valid, and how often each site was retargeted.
+// The total of each link, the validity of the points, and the number of retargetings of each site.
 #[derive(Debug, Drop)]
 pub(crate) struct Snapshot {
     totals: Vec<u64>,
@@ -33,7 +33,7 @@ impl Model for Snapshot {
 }
 
 impl Snapshot {
-    // What stands now of a world with so many sites.
+    // Returns the current totals and the current state of a world with this many sites.
     pub(crate) fn take(
         alloc: Global,
         totals: &Totals,
@@ -56,21 +56,21 @@ impl Snapshot {
         })
     }
 
-    // The total of each link.
+    // Returns the total of each link.
     pub(crate) fn totals(&self) -> &[u64]
         ensures value { result.now ≡ self.now.totals }
     {
         self.totals.as_slice()
     }
 
-    // Which points were valid.
+    // Returns for each point whether it was valid.
     pub(crate) fn valid(&self) -> &[bool]
         ensures value { result.now ≡ self.now.valid }
     {
         self.valid.as_slice()
     }
 
-    // How often each site had been retargeted.
+    // Returns how often each site had been retargeted.
     pub(crate) fn versions(&self) -> &[u64]
         ensures value { result.now ≡ self.now.versions }
     {
@@ -78,7 +78,7 @@ impl Snapshot {
     }
 }
 
-// How often each site was retargeted.
+// Returns how often each site was retargeted.
 fn versions(alloc: Global, world: &World, sites: usize) -> Result<Vec<u64>, NoMemory>
     requires sites { sites ≤ length world.now.sites }
     ensures value { IfOk result (λ v. v.items

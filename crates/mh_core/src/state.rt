@@ -1,4 +1,4 @@
-//! What stands after the records of a book: of each point, each site and each link.
+//! The state of each point, each site and each link after the records of a book.
 
 ghost use Rattle.std.specs.Prelude.{◌≡◌, ◌<◌, ◌≤◌, ◌^◌, false, length, slice_index_or};
 ghost use Rattle.mh_site.specs.Links.{link_at, links as links_of};
@@ -17,7 +17,7 @@ use mh_site::Link;
 use mh_tree::Declared;
 
 impl Book {
-    /// Whether a point is valid: no record invalidated it.
+    /// Returns whether a point is valid, that is, whether no record invalidated it.
     pub fn is_valid(&self, point: usize) -> bool
         requires inside { point < length self.now.definition.points }
         ensures value { result ≡ is_valid self.now.records point }
@@ -25,8 +25,8 @@ impl Book {
         is_among(self.world().valid(), point)
     }
 
-    /// The tree of a site: that of its last retargeting, else the one that it was opened with. Each
-    /// call of the site means what it means, also where links run in its place.
+    /// Returns the base tree of a site: that of its last retargeting, or the one that it was opened
+    /// with. Each call of the site means what this tree means, also if links are installed.
     pub fn tree(&self, site: usize) -> &Declared
         requires inside { site < length self.now.definition.sites }
         ensures value { result.now ≡ base self.now.definition self.now.records site }
@@ -34,7 +34,7 @@ impl Book {
         self.world().base(site)
     }
 
-    /// How often a site was retargeted.
+    /// Returns the number of times that a site was retargeted.
     pub fn retargetings(&self, site: usize) -> u64
         requires inside { site < length self.now.definition.sites }
         ensures value { result ≡ version self.now.records site }
@@ -42,8 +42,8 @@ impl Book {
         self.world().version(site)
     }
 
-    /// The links that a site holds, by number: those that its last installation linked, unless it
-    /// was retargeted since.
+    /// Returns the links that a site holds, by number: those that its last installation linked, or
+    /// none if it was retargeted since.
     pub fn installed(&self, site: usize) -> &[usize]
         requires inside { site < length self.now.definition.sites }
         ensures value { result.now ≡ kept self.now.definition self.now.records site }
@@ -51,7 +51,7 @@ impl Book {
         self.world().kept(site)
     }
 
-    /// The link of this number.
+    /// Returns the link with this number.
     pub fn declared_link(&self, link: usize) -> &Link
         requires inside { link < length (links_of self.now.definition) }
         ensures value { result.now ≡ (link_at self.now.definition link).1 }
@@ -59,7 +59,7 @@ impl Book {
         link_of(self.definition(), link)
     }
 
-    /// The hits of a link that the workers have flushed, at most 2^40.
+    /// Returns the hits of a link that the workers have flushed, at most 2^40.
     pub fn total(&self, link: usize) -> u64
         requires inside { link < length (links_of self.now.definition) }
         ensures value { result ≡ total self.now.records link }
@@ -68,8 +68,8 @@ impl Book {
         self.totals().total(link)
     }
 
-    /// What a link would gain in the problem of a snapshot taken now: its weight for each hit that
-    /// was flushed, and nothing where a point that it needs is invalid.
+    /// Returns the gain of a link in the problem of a snapshot taken now: its weight times its
+    /// flushed hits, or 0 if a point that it needs is invalid.
     pub fn gain(&self, link: usize) -> u64
         requires inside { link < length (links_of self.now.definition) }
         ensures value { result ≡ gain self.now.definition self.now.records link }
@@ -81,21 +81,21 @@ impl Book {
         }
     }
 
-    /// How many snapshots were taken.
+    /// Returns the number of snapshots taken.
     pub fn snapshot_count(&self) -> usize
         ensures count { result ≡ snapshots self.now.records }
     {
         self.snapshots.len()
     }
 
-    /// How many plans were published.
+    /// Returns the number of plans published.
     pub fn plan_count(&self) -> usize
         ensures count { result ≡ plans self.now.records }
     {
         self.plans.len()
     }
 
-    /// The plan of this number, from 1.
+    /// Returns the plan with this number, from 1.
     pub fn plan(&self, plan: usize) -> &Plan
         requires published { IsPublished self.now.records plan }
         ensures value { result.now ≡ (plan_at self.now.records plan).plan }
@@ -106,7 +106,8 @@ impl Book {
 }
 
 impl Machine {
-    /// The hits of a link by the calls of all workers, of each since its last flush. O(workers).
+    /// Returns the number of hits of a link by the calls of all workers, of each since its last
+    /// flush. O(workers).
     pub fn unflushed(&self, link: usize) -> u128
         requires inside { link < length (links_of self.now.setting.definition) }
         ensures value { result ≡ unflushed_of_all self.now.setting.definition self.now.history
@@ -120,7 +121,7 @@ impl Machine {
         sum
     }
 
-    // The hits of a link by the calls of a worker since its last flush.
+    // Returns the number of hits of a link by the calls of a worker since its last flush.
     fn unflushed_by(&self, worker: u32, link: usize) -> u64
         requires worker { worker < self.now.setting.workers }
         requires inside { link < length (links_of self.now.setting.definition) }
@@ -133,7 +134,7 @@ impl Machine {
     }
 }
 
-// Whether there is such a point, and it is valid.
+// Returns whether a point exists and is valid.
 fn is_among(valid: &[bool], point: usize) -> bool
     ensures value { result ≡ slice_index_or valid.now point false }
 {

@@ -1,4 +1,4 @@
-//! What another book begins with, so that it goes on where one stands.
+//! The beginning of another book that continues from the state of a book.
 
 ghost use Rattle.std.specs.Prelude.{IfErr, IfOk, OnOk};
 ghost use Rattle.mh_base.specs.Tests.{Refuses};
@@ -9,23 +9,25 @@ use crate::refusal::Refusal;
 use mh_base::{NoMemory, are_below};
 use mh_site::{Definition, Listing};
 
-/// What another book begins with, so that it goes on where one stands.
+/// The definition and the invalid points with which another book can continue from the state of a
+/// book.
 #[derive(Debug, Drop)]
 pub struct Succession {
-    /// The definition, as `Book::renewed` gives it.
+    /// The definition, as `Book::renewed` returns it.
     pub definition: Definition,
     /// The points that are to be invalidated first, ascending.
     pub invalid: Listing<u32>,
 }
 
 impl Book {
-    /// What another book begins with, so that each site's calls mean what they mean here once its
-    /// first record invalidates these points. Points that are to be valid again are valid there;
-    /// each that is invalid gives way to its fallback in the base trees. Points, sites and links
-    /// keep their numbers. No hits go over. In the time of `renewed`.
+    /// Returns the definition and the points from which another book can continue: each site's
+    /// calls mean there what they mean here, once its first record invalidates these points. Points
+    /// that are to be valid again are valid there; each that is invalid is replaced by its fallback
+    /// in the base trees. Points, sites and links keep their numbers. Hits are not transferred.
+    /// Takes the time of `renewed`.
     ///
-    /// Refused with `NoPoint` where a number of a point that is to be valid again is past the last
-    /// point, and then with `NoMemory`.
+    /// Fails with `NoPoint` if a point that is to be valid again does not exist, and otherwise only
+    /// with `NoMemory`.
     pub fn succession(&self, again: &[u32]) -> Result<Succession, Refusal>
         ensures known { OnOk result (AreKnown self.now.definition again.now) }
         ensures succeeds { IfOk result (Succeeds again.now self.now) }
@@ -39,7 +41,7 @@ impl Book {
             .map_err(|_| Refusal::NoMemory)
     }
 
-    // The succession where all these points are there.
+    // Returns the succession, given that all these points exist.
     fn succession_of_known(&self, again: &[u32]) -> Result<Succession, NoMemory>
         requires known { AreKnown self.now.definition again.now }
         ensures succeeds { IfOk result (Succeeds again.now self.now) }

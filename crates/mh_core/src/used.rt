@@ -1,24 +1,24 @@
-//! How much of a history is used up.
+//! The usage of a history.
 
 ghost use Rattle.std.specs.Prelude.{◌≡◌, length};
 ghost use Rattle.mh_core.specs.Records.{plans, snapshots};
 
 use crate::runtime::Runtime;
 
-/// How much of a history is used up: its records, beside `Limits::history`; its snapshots, beside
-/// `MOST_SNAPSHOTS`; and its plans, beside `MOST_PLANS`. A renewal begins a new history.
+/// The numbers of records, snapshots and plans of a history. Their limits are `Limits::history`,
+/// `MOST_SNAPSHOTS` and `MOST_PLANS`; a renewal begins a new history.
 #[derive(Clone, Copy, Debug, PartialEq, Eq)]
 pub struct Used {
-    /// The records.
+    /// The number of records.
     pub records: usize,
-    /// The snapshots.
+    /// The number of snapshots.
     pub snapshots: usize,
-    /// The plans.
+    /// The number of plans.
     pub plans: usize,
 }
 
 impl Runtime {
-    /// How much of the history is used up. O(1).
+    /// Returns the usage of the history. O(1).
     pub fn used(&self) -> Used
         ensures records { result.records ≡ length self.now.book.records }
         ensures snapshots { result.snapshots ≡ snapshots self.now.book.records }

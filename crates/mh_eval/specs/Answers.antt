@@ -1,4 +1,4 @@
--- What an answer says of an outcome.
+-- The relation of answers to outcomes.
 use Rattle.std.specs.Prelude.{◌≡◌, ℕ}
 use Rattle.mh_type.specs.declared.value.Value.TheVariants as value
 use Rattle.mh_type.specs.declared.outcome.Outcome.{Outcome}
@@ -6,7 +6,7 @@ use Rattle.mh_type.specs.declared.outcome.Outcome.TheVariants as outcome
 use Rattle.mh_eval.specs.declared.answer.Answer.{Answer}
 use Rattle.mh_eval.specs.declared.answer.Answer.TheVariants.{Int, Long, Boolean, Text, Thrown, NoMemory}
 
--- it is the outcome, or memory was refused
+-- the answer is the outcome, or memory was refused
 abbrev pub Gives : Answer → Outcome → Type 0
 Gives (Int x) o = o ≡ outcome.Value (value.Int x)
 Gives (Long x) o = o ≡ outcome.Value (value.Long x)
@@ -15,7 +15,7 @@ Gives (Text x) o = o ≡ outcome.Value (value.Text x)
 Gives (Thrown t) o = o ≡ outcome.Thrown t
 Gives NoMemory o = Unit {0}
 
--- it is the outcome, and n is the number of steps, m in all; or memory was refused
+-- the answer is the outcome, and n is the number of steps, m in all; or memory was refused
 abbrev pub Ran : Answer → ℕ → Outcome → ℕ → Type 0
 Ran (Int x) n o m = (o ≡ outcome.Value (value.Int x)) × (n ≡ m)
 Ran (Long x) n o m = (o ≡ outcome.Value (value.Long x)) × (n ≡ m)

@@ -1,5 +1,5 @@
--- Trees of which no node that is entered has String in its type. A test, and a combiner, gets as many of the leading
--- arguments as it has parameters.
+-- Trees of which no node that is evaluated has String in its type. A test, and a combiner, is passed as many of the leading arguments as it
+-- has parameters.
 use Rattle.std.specs.Prelude.{ℕ, zero, suc, ◌+◌, Bool, true, false, List, [], ◌∷◌, take, map, length, slice_set, Result, Ok, Err}
 use Rattle.mh_type.specs.declared.kind.Kind.{Kind}
 use Rattle.mh_type.specs.declared.kind.Kind.TheVariants as kind
@@ -29,28 +29,28 @@ ArePlain (k ∷ ks) = IsPlainKind k × ArePlain ks
 abbrev pub IsPlain : Signature → Type 0
 IsPlain m = IsPlainKind m.ret × ArePlain m.parameters
 
--- a fact of the value, where there is one
+-- a fact of the value, if there is one
 abbrev pub WithValue : Outcome → (Value → Type 0) → Type 0
 WithValue (outcome.Value x) P = P x
 WithValue (outcome.Thrown t) P = Unit {0}
 
--- the first for true, and else the second
+-- the first for true, and otherwise the second
 abbrev pub Chosen : Value → Type 0 → Type 0 → Type 0
 Chosen (Boolean true) X Y = X
 Chosen _ X Y = Y
 
--- the first where a truth of the world is true, and else the second
+-- the first if a truth of the world is true, and otherwise the second
 abbrev pub OneOf : Bool → Type 0 → Type 0 → Type 0
 OneOf true X Y = X
 OneOf false X Y = Y
 
--- a fact of the arguments after filters, where none threw
+-- a fact of the arguments after filters, if none threw
 abbrev pub WithArguments : Result (List Value) Throw → (List Value → Type 0) → Type 0
 WithArguments (Ok a) P = P a
 WithArguments (Err t) P = Unit {0}
 
 abbrev mutual
-  -- each node that is entered on the arguments, where q says it of the nodes of a site's tree
+  -- each node that is evaluated on the arguments, if q says it of the nodes of a site's tree
   pub PlainBy : (ℕ → List Value → Type 0) → Environment → Tree → List Value → Type 0
   PlainBy q v (constant x) a = IsPlain (type_of (constant x)) × Unit {0}
   PlainBy q v (identity k) a = IsPlain (type_of (identity k)) × Unit {0}
@@ -72,19 +72,19 @@ abbrev mutual
   PlainBy q v (point p x y) a = IsPlain (type_of (point p x y)) × OneOf (is_valid v p) (PlainBy q v x a) (PlainBy q v y a)
   PlainBy q v (invoke s n) a = IsPlain (type_of (invoke s n)) × q s (take (length n.parameters) a)
 
-  -- each node that is entered by the filters of the places from p on
+  -- each node that is evaluated by the filters from position p on
   pub PlainFilters : (ℕ → List Value → Type 0) → Environment → Filters → ℕ → List Value → Type 0
   PlainFilters q v no_more p a = Unit {0}
   PlainFilters q v (absent fs) p a = PlainFilters q v fs (p + 1) a
   PlainFilters q v (present f fs) p a =
       PlainBy q v f (argument a p ∷ []) × WithValue (mean v f (argument a p ∷ [])) (λ x. PlainFilters q v fs (p + 1) (slice_set a p x))
 
--- the nodes of a site's tree, and of those that it invokes, less than so many trees deep
+-- the nodes of a site's tree, and of those that it invokes, less than n trees deep
 abbrev pub plain_below : ℕ → List Bool → List TypedTree → ℕ → List Value → Type 0
 plain_below zero valid targets s a = Unit {0}
 plain_below (suc d) valid targets s a = PlainBy (plain_below d valid targets) (below d valid targets) (target_at targets s).tree a
 
--- each node that is entered on the arguments, those of invoked trees too, has no String in its type
+-- each node that is evaluated on the arguments, also in invoked trees, has no String in its type
 abbrev pub EntersPlain : Setting → Tree → List Value → Type 0
 EntersPlain x t a = PlainBy (plain_below x.level x.valid x.targets) (env x) t a
 

@@ -20,7 +20,7 @@ compares_longs op.Leq = true
 compares_longs op.Llt = true
 compares_longs _ = false
 
--- it compares two numbers of these kinds
+-- the operation compares two numbers of these kinds
 abbrev pub compares_numbers : Op → Kind → Kind → Bool
 compares_numbers o kind.Int kind.Int = compares_ints o
 compares_numbers o kind.Long kind.Long = compares_longs o

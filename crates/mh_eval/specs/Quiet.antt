@@ -1,4 +1,4 @@
--- Code that runs with no further memory: what runs gives no text, and joins none.
+-- Code that runs without further memory: the parts that run return no text, and join none.
 use Rattle.std.specs.Prelude.{◌≡◌, ℕ, ◌+◌, max, List, [], ◌∷◌, ◌++◌, map}
 use Rattle.mh_type.specs.declared.kind.Kind.TheVariants as kind
 use Rattle.mh_type.specs.declared.operation.Op.TheVariants.{Concat}
@@ -12,12 +12,12 @@ use Rattle.mh_eval.specs.declared.answer.Answer.{Answer}
 use Rattle.mh_eval.specs.declared.answer.Answer.TheVariants.{NoMemory}
 use Rattle.mh_tree.specs.Sites.{Setting, env}
 
--- values that are no texts
+-- values other than texts
 abbrev pub NoTexts : List Value → Type 0
 NoTexts [] = Unit {0}
 NoTexts (x ∷ xs) = IsPlainKind (kind_of x) × NoTexts xs
 
--- its leaves give no text, and its operations join none, as far as they run
+-- its leaves return no text, and its operations join none, as far as they run
 abbrev pub IsQuiet : Setting → Code → List Value → List Value → Type 0
 IsQuiet v (leaf s o) a l = kind_of (value_of a l o) ≡ kind.Text → ⊥
 IsQuiet v (apply s op x y) a l = op ≡ Concat → ⊥
@@ -26,7 +26,7 @@ IsQuiet v (branch s c x y) a l = IsQuiet v c a l × WithValue (run_code (env v) 
 IsQuiet v (point s p x y) a l = OneOf (is_valid (env v) p) (IsQuiet v x a l) (IsQuiet v y a l)
 IsQuiet v (invoke s k os) a l = NoTexts (map (value_of a l) os) × plain_below v.level v.valid v.targets k (map (value_of a l) os)
 
--- how many locals there may be at once
+-- the greatest number of locals at once
 abbrev pub deep : Code → ℕ
 deep (leaf s o) = 0
 deep (apply s op x y) = 0

@@ -1,4 +1,4 @@
-//! What a piece of code gives.
+//! Answers of a piece of code.
 
 ghost use Rattle.std.specs.Prelude.{◌≡◌, ◌≤◌, ℕ, IfOk, IsOk};
 ghost use Rattle.mh_type.specs.declared.outcome.Outcome.{Outcome};
@@ -8,8 +8,8 @@ ghost use Rattle.mh_eval.specs.Quiet.{IsAnswered};
 use mh_base::NoMemory;
 use mh_type::{Outcome, Text, Throw, Value};
 
-/// A value, a throw, or the refusal of memory. It is small, so that a call copies no more than it
-/// has to.
+/// A value, a throw, or the refusal of memory. It is small, so that a call copies as little as
+/// possible.
 #[derive(Debug, Drop)]
 pub enum Answer {
     Int(i32),
@@ -21,9 +21,9 @@ pub enum Answer {
 }
 
 // A text returns first, so that its outcome is written by one store in place of several.
-/// An answer as the outcome that it is, with the steps.
+/// Returns the outcome of an answer, with the steps.
 ///
-/// Fails only for an answer that is a refusal of memory.
+/// Fails only if the answer is a refusal of memory.
 #[inline]
 pub fn outcome_of(answer: Answer, steps: u128) -> Result<(Outcome, u128), NoMemory>
     ensures outcome { (o : Outcome) → (m : ℕ) → Ran answer steps o m → IfOk result (λ r. r.0 ≡ o) }

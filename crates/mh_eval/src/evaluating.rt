@@ -1,4 +1,4 @@
-//! Evaluation on any arguments: what `eval` requires is tested first.
+//! Evaluation for any arguments: the preconditions of `eval` are tested first.
 
 ghost use Rattle.std.specs.Prelude.{◌≡◌, ◌<◌, ◌≤◌, ◌↔◌, All, IsTrue, length, IfOk, OnOk, IsErrOf};
 ghost use Rattle.mh_tree.specs.Handle.{TypedTree};
@@ -16,13 +16,12 @@ use mh_tree::Handle;
 use mh_type::{Outcome, Value};
 use std::alloc::Global;
 
-/// The outcome of a handle's tree on arguments, and the number of nodes entered, where `valid` says
-/// which points are valid, and each site has a level and a tree.
+/// Evaluates a handle's tree on arguments, and returns the outcome and the number of nodes
+/// evaluated. `valid` says which points are valid, and each site has a level and a tree.
 ///
-/// Refused with `DoesNotFit` where the arguments do not fit the handle's type, then with `NoPoint`
-/// where the handle or a site's tree names a point past `valid`, then with `Unlawful` where the
-/// trees do not invoke sites as they may (`lawful`), and with `NoMemory` only where all tests
-/// passed.
+/// Fails with `DoesNotFit` if the arguments do not fit the handle's type, then with `NoPoint` if
+/// the handle or a site's tree names a point beyond `valid`, then with `Unlawful` if the trees
+/// invoke sites that they may not (see `lawful`). If all tests pass, fails only with `NoMemory`.
 pub fn evaluate(
     alloc: Global,
     valid: &[bool],
@@ -68,7 +67,7 @@ pub fn evaluate(
     eval(&mut stack, valid, levels, targets, handle, arguments).map_err(|_| Unevaluated::NoMemory)
 }
 
-// Whether a handle, and the tree of each site, name some of so many points.
+// Returns whether a handle, and the tree of each site, name only the first `points` points.
 fn points_are_there(targets: &[Handle], handle: &Handle, points: usize) -> bool
     ensures decides { IsTrue result ↔ ((point_bound handle.now.tree ≤ points)
         × HavePoints points targets.now) }
@@ -76,7 +75,7 @@ fn points_are_there(targets: &[Handle], handle: &Handle, points: usize) -> bool
     handle.point_bound() <= points && have_points(targets, points)
 }
 
-// Whether the tree of each site names some of so many points.
+// Returns whether the tree of each site names only the first `points` points.
 fn have_points(targets: &[Handle], points: usize) -> bool
     ensures all { IsTrue result ↔ All (λ (h : TypedTree). point_bound h.tree ≤ points) targets.now }
 {

@@ -1,5 +1,5 @@
-//! The evaluator: a walk over a handle's nodes on the stack. The arguments of a node stand on the
-//! top of the stack, from a place on.
+//! The evaluator: a walk over a handle's nodes, with a stack. The arguments of a node are on the
+//! top of the stack, from an index on.
 
 ghost use Rattle.std.specs.Prelude.{◌≡◌, ◌+◌, ◌<◌, ◌≤◌, ◌∷◌, [], length, take, drop, slice_index_or, slice_set, vec_capacity, if◌then◌else◌, IfOk, IsOk};
 ghost use Rattle.mh_eval.specs.Entered.{EntersPlain};
@@ -28,27 +28,27 @@ use mh_type::{Kind, MethodType, Op, Outcome, Value};
 use std::alloc::Global;
 use std::sync::Arc;
 
-// The arguments that any tree reads.
+// The greatest number of arguments that a tree reads.
 const WIDEST: usize = 16;
 
-// How many trees deep the invocations of a lawful tree are.
+// The greatest depth of the invocations of a lawful tree, in trees.
 pub(crate) const DEEPEST_LEVEL: u8 = 4;
 
-// Which points are valid, and the tree of each site.
+// The validity of the points, and the tree of each site.
 #[derive(Clone, Copy)]
 struct Trees<'a> {
     valid: &'a [bool],
     targets: &'a [Handle],
 }
 
-/// The outcome of a handle's tree on arguments, and the number of nodes entered, where `valid` says
-/// which points are valid, and each site has a level and a tree.
+/// Evaluates a handle's tree on arguments, and returns the outcome and the number of nodes
+/// evaluated. `valid` says which points are valid, and each site has a level and a tree.
 ///
-/// A guard's test, a fold's combiner and a site get as many of the leading arguments as they have
-/// parameters. A throw of any part that runs is the outcome, and nothing after it runs. The
-/// arguments of each node and its result stand on the stack, and no list is made. Refused only with
-/// `NoMemory`, and not where no node that is entered, in the trees of sites too, has String in its
-/// type; the stack is as before.
+/// A guard's test, a fold's combiner and a site are passed as many of the leading arguments as they
+/// have parameters. If a part that runs throws, this is the outcome, and nothing after it runs. The
+/// arguments of each node and its result are on the stack, and no list is made. Fails only with
+/// `NoMemory`, and never if no node that is evaluated, also in the trees of sites, has String in
+/// its type; the stack is as before.
 pub fn eval(
     stack: &mut Stack,
     valid: &[bool],
@@ -82,7 +82,8 @@ pub fn eval(
     outcome_of(answer, steps)
 }
 
-// The answer of a tree on arguments, which are put on the stack, and the number of nodes entered.
+// Pushes arguments on the stack, and returns the answer of a tree on them, and the number of nodes
+// evaluated.
 fn run_on_arguments(
     alloc: Global,
     stack: &mut Vec<Value>,
@@ -109,7 +110,8 @@ fn run_on_arguments(
     run_above(alloc, stack, here, level, node, base)
 }
 
-// The answer of a tree on the arguments that stand from `from` on, and the number of nodes entered.
+// Returns the answer of a tree on the arguments from index `from` on, and the number of nodes
+// evaluated.
 #[cycle(run)]
 fn run(
     alloc: Global,
@@ -175,8 +177,8 @@ fn run(
     }
 }
 
-// The answer of a tree on arguments that were put on the top, which are taken off again, and the
-// number of nodes entered. Of more arguments than a tree reads, the first are taken.
+// Returns the answer of a tree on arguments that were pushed on the stack, which it pops, and the
+// number of nodes evaluated. If there are more arguments than a tree reads, it uses the first.
 #[cycle(run)]
 fn run_above(
     alloc: Global,
@@ -201,8 +203,8 @@ fn run_above(
     (answer, steps)
 }
 
-// The operation, on the first two arguments. One that reads a single argument may be given no
-// second.
+// Runs the operation on the first two arguments. For one that reads a single argument, the second
+// may be missing.
 fn run_operation(alloc: Global, op: Op, arguments: &[Value]) -> Answer
     requires wide { length (op_signature op).parameters ≤ length arguments.now }
     ensures value { Gives result (outcome_of_operation op arguments.now) }
@@ -214,7 +216,7 @@ fn run_operation(alloc: Global, op: Op, arguments: &[Value]) -> Answer
     operate(alloc, op, first, second)
 }
 
-// The values on the stack from a place on.
+// Returns the values on the stack from an index on.
 fn arguments_from(stack: &Vec<Value>, from: usize) -> &[Value]
     requires inside { from ≤ length stack.now.items }
     ensures value { result.now ≡ drop from stack.now.items }
@@ -222,7 +224,7 @@ fn arguments_from(stack: &Vec<Value>, from: usize) -> &[Value]
     &stack.as_slice()[from..]
 }
 
-// The argument at a place, or what stands for an absent one.
+// Returns the argument at an index, or the substitute for an absent one.
 fn argument_or<'a>(arguments: &'a [Value], place: usize, absent: &'a Value) -> &'a Value
     ensures value { result.now ≡ slice_index_or arguments.now place absent.now }
 {
@@ -232,7 +234,7 @@ fn argument_or<'a>(arguments: &'a [Value], place: usize, absent: &'a Value) -> &
     }
 }
 
-// The target, with the values put in.
+// Runs the target, with the values inserted.
 #[cycle(run)]
 fn run_insert(
     alloc: Global,
@@ -265,7 +267,7 @@ fn run_insert(
     (answer, 1 + steps)
 }
 
-// The target, without the arguments that are dropped.
+// Runs the target, without the arguments that are dropped.
 #[cycle(run)]
 fn run_drop(
     alloc: Global,
@@ -298,7 +300,7 @@ fn run_drop(
     (answer, 1 + steps)
 }
 
-// The target, on the arguments that the places name.
+// Runs the target on the arguments that the indices name.
 #[cycle(run)]
 fn run_permute(
     alloc: Global,
@@ -331,7 +333,7 @@ fn run_permute(
     (answer, 1 + steps)
 }
 
-// The value of an answer, or the answer that ends the walk.
+// Returns the value of an answer, or the answer that ends the walk.
 fn settle(answer: Answer) -> Result<Value, Answer>
     ensures value { result ≡ settled answer }
 {
@@ -345,7 +347,7 @@ fn settle(answer: Answer) -> Result<Value, Answer>
     }
 }
 
-// The filter, on the target's result.
+// Runs the filter on the target's result.
 #[cycle(run)]
 fn run_filter_return(
     alloc: Global,
@@ -382,7 +384,7 @@ fn run_filter_return(
     (answer, 1 + (before + steps))
 }
 
-// The target, on the combiner's result and the arguments.
+// Runs the target on the combiner's result and the arguments.
 #[cycle(run)]
 fn run_fold(
     alloc: Global,
@@ -419,7 +421,7 @@ fn run_fold(
     (answer, 1 + (before + steps))
 }
 
-// Whether a value is the truth.
+// Returns whether a value is true.
 fn holds(value: &Value) -> bool
     ensures value { result ≡ is_true value.now }
 {
@@ -429,7 +431,7 @@ fn holds(value: &Value) -> bool
     }
 }
 
-// One of two branches.
+// Returns one of two branches.
 fn branch_by<'a>(truth: bool, target: &'a Node, fallback: &'a Node) -> &'a Node
     ensures value { tree_of result.now
         ≡ (if truth then tree_of target.now else tree_of fallback.now) }
@@ -437,7 +439,7 @@ fn branch_by<'a>(truth: bool, target: &'a Node, fallback: &'a Node) -> &'a Node
     if truth { target } else { fallback }
 }
 
-// The branch that the test chooses.
+// Runs the branch that the test chooses.
 #[cycle(run)]
 fn run_guard(
     alloc: Global,
@@ -471,7 +473,7 @@ fn run_guard(
     (answer, 1 + (before + steps))
 }
 
-// The target while the point is valid, and else the fallback.
+// Runs the target while the point is valid, and otherwise the fallback.
 #[cycle(run)]
 fn run_point(
     alloc: Global,
@@ -500,7 +502,7 @@ fn run_point(
     (answer, 1 + steps)
 }
 
-// The target, on the arguments that the filters made.
+// Runs the target on the filtered arguments.
 #[cycle(run)]
 fn run_filter(
     alloc: Global,
@@ -538,8 +540,8 @@ fn run_filter(
     (answer, 1 + (before + steps))
 }
 
-// The arguments, which stand from `base` on, after the filters of the places from `position` on, in
-// their stead, and the number of nodes entered.
+// Replaces the arguments from index `base` on by the results of their filters, beginning with the
+// argument at `position`, and returns the number of nodes evaluated.
 #[cycle(run)]
 fn run_filters(
     alloc: Global,
@@ -572,7 +574,7 @@ fn run_filters(
     }
 }
 
-// What `run_filters` gives where the first place has a filter.
+// Does what `run_filters` does, given that the first filter is present.
 #[cycle(run)]
 fn run_present(
     alloc: Global,
@@ -607,7 +609,8 @@ fn run_present(
     (passed, before + steps)
 }
 
-// The value at a place after a filter, in its stead, and the number of nodes entered.
+// Replaces the value at an index by the result of a filter, and returns the number of nodes
+// evaluated.
 #[cycle(run)]
 fn run_place(
     alloc: Global,
@@ -640,7 +643,7 @@ fn run_place(
     }
 }
 
-// The tree of a site, on the same arguments.
+// Runs the tree of a site on the same arguments.
 #[cycle(run)]
 fn run_invoke(
     alloc: Global,

@@ -1,4 +1,4 @@
-//! Frames of arguments: the values on the stack from a place on.
+//! Frames of arguments: the values on the stack from an index on.
 
 ghost use Rattle.std.specs.Prelude.{◌≡◌, ◌+◌, ◌<◌, ◌≤◌, ◌∷◌, [], length, take, drop, map, vec_capacity, IfOk, IsOk};
 ghost use Rattle.std.specs.List.{All};
@@ -10,7 +10,7 @@ ghost use Rattle.mh_type.specs.Kinds.{kind_of};
 use mh_base::NoMemory;
 use mh_type::Value;
 
-// Another owner of a value.
+// Returns another owner of a value.
 fn owner(value: &Value) -> Result<Value, NoMemory>
     ensures value { IfOk result (λ v. v ≡ value.now) }
     ensures quiet { IsPlainKind (kind_of value.now) → IsOk result }
@@ -26,7 +26,7 @@ fn owner(value: &Value) -> Result<Value, NoMemory>
     }
 }
 
-// A value, on the stack.
+// Pushes a value on the stack.
 pub(crate) fn put(stack: &mut Vec<Value>, value: Value) -> Result<(), NoMemory>
     ensures extends { Extends result stack.old.items stack.new.items (value ∷ [])
         (vec_capacity stack.old) (vec_capacity stack.new) }
@@ -37,7 +37,7 @@ pub(crate) fn put(stack: &mut Vec<Value>, value: Value) -> Result<(), NoMemory>
     }
 }
 
-// Another owner of a value on the stack, on it.
+// Pushes another owner of a value that is on the stack.
 fn put_copy(stack: &mut Vec<Value>, place: usize) -> Result<(), NoMemory>
     requires inside { place < length stack.old.items }
     ensures extends { Extends result stack.old.items stack.new.items
@@ -47,8 +47,8 @@ fn put_copy(stack: &mut Vec<Value>, place: usize) -> Result<(), NoMemory>
     put(stack, value)
 }
 
-/// Another owner of a value, at the end of a list. It stays as it is where memory is refused, which
-/// it is not for a value other than a text where there is room.
+/// Appends another owner of a value to a list. If memory is refused, the list does not change; this
+/// never happens for a value other than a text if there is room.
 pub fn put_owner(stack: &mut Vec<Value>, value: &Value) -> Result<(), NoMemory>
     ensures extends { Extends result stack.old.items stack.new.items (value.now ∷ [])
         (vec_capacity stack.old) (vec_capacity stack.new) }
@@ -57,7 +57,7 @@ pub fn put_owner(stack: &mut Vec<Value>, value: &Value) -> Result<(), NoMemory>
     put(stack, value)
 }
 
-// Further owners of values, on the stack.
+// Pushes further owners of values.
 pub(crate) fn put_values(stack: &mut Vec<Value>, values: &[Value]) -> Result<(), NoMemory>
     ensures extends { Extends result stack.old.items stack.new.items values.now
         (vec_capacity stack.old) (vec_capacity stack.new) }
@@ -68,7 +68,7 @@ pub(crate) fn put_values(stack: &mut Vec<Value>, values: &[Value]) -> Result<(),
     Ok(())
 }
 
-// Further owners of the values at the places from `first` to `end`.
+// Pushes further owners of the values from index `first` up to `end`.
 pub(crate) fn put_copies(stack: &mut Vec<Value>, first: usize, end: usize) -> Result<(), NoMemory>
     requires inside { end ≤ length stack.old.items }
     requires some { first ≤ end }
@@ -81,7 +81,8 @@ pub(crate) fn put_copies(stack: &mut Vec<Value>, first: usize, end: usize) -> Re
     Ok(())
 }
 
-// Further owners of the arguments at these places, where the arguments stand from `from` on.
+// Pushes further owners of the arguments at these positions, where the arguments begin at index
+// `from`.
 pub(crate) fn put_reordered(
     stack: &mut Vec<Value>,
     from: usize,
@@ -98,7 +99,7 @@ pub(crate) fn put_reordered(
     Ok(())
 }
 
-// The arguments, which stand from `from` on, with these values put in before a place.
+// Pushes the arguments, which begin at index `from`, with these values inserted before a position.
 pub(crate) fn put_inserted(
     stack: &mut Vec<Value>,
     from: usize,
@@ -117,7 +118,7 @@ pub(crate) fn put_inserted(
     Ok(())
 }
 
-// The arguments, which stand from `from` on, without so many from a place on.
+// Pushes the arguments, which begin at index `from`, without `count` of them from a position on.
 pub(crate) fn put_taken_out(
     stack: &mut Vec<Value>,
     from: usize,
@@ -135,7 +136,7 @@ pub(crate) fn put_taken_out(
     Ok(())
 }
 
-// A value before the arguments, which stand from `from` on.
+// Pushes a value followed by the arguments, which begin at index `from`.
 pub(crate) fn put_first(stack: &mut Vec<Value>, from: usize, value: Value) -> Result<(), NoMemory>
     requires inside { from ≤ length stack.old.items }
     ensures extends { Extends result stack.old.items stack.new.items

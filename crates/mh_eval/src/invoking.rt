@@ -1,4 +1,4 @@
-//! Whether trees invoke sites as they may.
+//! Testing whether trees invoke only sites that they may.
 
 ghost use Rattle.std.specs.Prelude.{◌≡◌, ◌↔◌, ◌<◌, ◌≤◌, ℕ, All, IsTrue, length};
 ghost use Rattle.mh_eval.specs.inner.Lawful.{may_invoke as may_be_invoked};
@@ -11,10 +11,10 @@ use crate::evaluator::DEEPEST_LEVEL;
 use mh_tree::{Handle, InvocationTest, Node, each_invocation};
 use mh_type::MethodType;
 
-/// Whether each level is at most 3, each site's tree invokes only sites of lower levels, and each
-/// invocation, in the handle's tree too, is of a known site and has the type of its tree. It takes
-/// time linear in the size of all trees. That a handle's tree has its type is the handle's own
-/// promise.
+/// Returns whether each level is at most 3, each site's tree invokes only sites of lower levels,
+/// and each invocation, also in the handle's tree, is of a known site and has the type of its tree.
+/// Linear in the size of all trees. That a handle's tree has its type is guaranteed by the handle
+/// itself.
 pub fn lawful(levels: &[u8], targets: &[Handle], handle: &Handle) -> bool
     ensures decides { IsTrue result ↔ IsLawful levels.now targets.now handle.now.tree }
 {
@@ -24,14 +24,14 @@ pub fn lawful(levels: &[u8], targets: &[Handle], handle: &Handle) -> bool
     are_low && are_lower && is_lawful
 }
 
-// Whether each level is at most 3.
+// Returns whether each level is at most 3.
 fn are_low(levels: &[u8]) -> bool
     ensures all { IsTrue result ↔ All (λ l. l ≤ greatest_level) levels.now }
 {
     levels.iter().all(|level| *level < DEEPEST_LEVEL)
 }
 
-// Whether each site's tree invokes sites of lower levels alone, with their types.
+// Returns whether each site's tree invokes only sites of lower levels, with their types.
 fn are_lower(levels: &[u8], targets: &[Handle]) -> bool
     ensures all { IsTrue result ↔ ((s : ℕ) → s < length targets.now → InvokesBelow
         levels.now targets.now (level_at levels.now s) (target_at targets.now s).tree) }
@@ -47,7 +47,7 @@ fn are_lower(levels: &[u8], targets: &[Handle]) -> bool
     true
 }
 
-// The level of a site, where it has one.
+// Returns the level of a site, or 0 if it has none.
 fn level_of(levels: &[u8], site: usize) -> u8
     ensures value { result ≡ level_at levels.now site }
 {
@@ -57,7 +57,7 @@ fn level_of(levels: &[u8], site: usize) -> u8
     }
 }
 
-// Whether a tree invokes sites below a level alone, with their types.
+// Returns whether a tree invokes only sites below a level, with their types.
 fn invokes_below(levels: &[u8], targets: &[Handle], level: u8, node: &Node) -> bool
     ensures decides { IsTrue result ↔ InvokesBelow levels.now targets.now level
         (tree_of node.now) }
@@ -94,7 +94,7 @@ impl<'a> InvocationTest for Below<'a> {
     }
 }
 
-// Whether a site is below a level and its tree has the type.
+// Returns whether a site is below a level and its tree has the type.
 fn may_invoke(
     levels: &[u8],
     targets: &[Handle],

@@ -1,4 +1,4 @@
-//! The results of the leaf operations on two values, of which some read the first alone.
+//! The results of the leaf operations on two values, of which some read only the first.
 
 ghost use Rattle.std.specs.Prelude.{◌≡◌, ◌∷◌, [], pos, length as list_length, IfSome};
 ghost use Rattle.std.specs.Option.{is_some};
@@ -18,7 +18,7 @@ use std::alloc::Global;
 
 const TWO_TO_THE_32: i64 = 0x1_0000_0000;
 
-// Whether two ints are equal.
+// Returns whether two ints are equal.
 #[inline(always)]
 fn int_equal(first: &Value, second: &Value) -> bool
     ensures value { outcome_of Op.Ieq (first.now ∷ second.now ∷ [])
@@ -30,7 +30,7 @@ fn int_equal(first: &Value, second: &Value) -> bool
     }
 }
 
-// Whether an int is below another.
+// Returns whether an int is less than another.
 #[inline(always)]
 fn int_less(first: &Value, second: &Value) -> bool
     ensures value { outcome_of Op.Ilt (first.now ∷ second.now ∷ [])
@@ -42,7 +42,7 @@ fn int_less(first: &Value, second: &Value) -> bool
     }
 }
 
-// Whether two longs are equal.
+// Returns whether two longs are equal.
 #[inline(always)]
 fn long_equal(first: &Value, second: &Value) -> bool
     ensures value { outcome_of Op.Leq (first.now ∷ second.now ∷ [])
@@ -54,7 +54,7 @@ fn long_equal(first: &Value, second: &Value) -> bool
     }
 }
 
-// Whether a long is below another.
+// Returns whether a long is less than another.
 #[inline(always)]
 fn long_less(first: &Value, second: &Value) -> bool
     ensures value { outcome_of Op.Llt (first.now ∷ second.now ∷ [])
@@ -66,7 +66,7 @@ fn long_less(first: &Value, second: &Value) -> bool
     }
 }
 
-// The other truth value.
+// Returns the negation of a boolean.
 #[inline(always)]
 fn negate(first: &Value, second: &Value) -> bool
     ensures value { outcome_of Op.Not (first.now ∷ second.now ∷ [])
@@ -78,7 +78,7 @@ fn negate(first: &Value, second: &Value) -> bool
     }
 }
 
-// Whether two truth values are equal.
+// Returns whether two booleans are equal.
 #[inline(always)]
 fn truth_equal(first: &Value, second: &Value) -> bool
     ensures value { outcome_of Op.Beq (first.now ∷ second.now ∷ [])
@@ -90,7 +90,7 @@ fn truth_equal(first: &Value, second: &Value) -> bool
     }
 }
 
-// Whether two texts are equal.
+// Returns whether two texts are equal.
 #[inline(always)]
 fn text_equal(first: &Value, second: &Value) -> bool
     ensures value { outcome_of Op.Seq (first.now ∷ second.now ∷ [])
@@ -102,7 +102,8 @@ fn text_equal(first: &Value, second: &Value) -> bool
     }
 }
 
-/// The truth of an operation that compares two numbers, where both have its kind, and otherwise nothing.
+/// Returns the truth of an operation that compares two numbers, if both are of its kind, and
+/// otherwise `None`.
 #[inline(always)]
 pub fn truth(op: Op, first: &Value, second: &Value) -> Option<bool>
     ensures value { IfSome result (λ b. outcome_of op (first.now ∷ second.now ∷ [])
@@ -117,7 +118,7 @@ pub fn truth(op: Op, first: &Value, second: &Value) -> Option<bool>
     }
 }
 
-// The truth of an operation that compares ints.
+// Returns the truth of an operation that compares ints, or `None` for any other operation.
 #[inline(always)]
 fn int_truth(op: Op, first: &Value, second: &Value) -> Option<bool>
     ensures value { IfSome result (λ b. outcome_of op (first.now ∷ second.now ∷ [])
@@ -131,7 +132,7 @@ fn int_truth(op: Op, first: &Value, second: &Value) -> Option<bool>
     }
 }
 
-// The truth of an operation that compares longs.
+// Returns the truth of an operation that compares longs, or `None` for any other operation.
 #[inline(always)]
 fn long_truth(op: Op, first: &Value, second: &Value) -> Option<bool>
     ensures value { IfSome result (λ b. outcome_of op (first.now ∷ second.now ∷ [])
@@ -145,7 +146,7 @@ fn long_truth(op: Op, first: &Value, second: &Value) -> Option<bool>
     }
 }
 
-// The answer for two operands of a kind; operands of other kinds give false.
+// Evaluates the answer for two operands of a kind; the answer for operands of other kinds is false.
 macro_rules! two {
     ($kind:ident, $some:expr, $more:expr, ($x:ident, $y:ident) => $answer:expr) => {
         match ($some, $more) {
@@ -155,7 +156,8 @@ macro_rules! two {
     };
 }
 
-// The answer for one operand of a kind.
+// Evaluates the answer for one operand of a kind; the answer for an operand of another kind is
+// false.
 macro_rules! one {
     ($kind:ident, $operand:expr, $x:ident => $answer:expr) => {
         match $operand {
@@ -165,8 +167,8 @@ macro_rules! one {
     };
 }
 
-/// The answer of an operation on two operands, of which some read the first alone. Only joining two
-/// texts takes memory, and not where the joined text is too long.
+/// Returns the answer of an operation on two operands, of which some read only the first. Only
+/// joining two texts allocates, and only if the joined text is not too long.
 #[inline(always)]
 #[tactic(auto, using(std::proofs::lemmas::Int::wraps))]
 pub fn operate(alloc: Global, op: Op, first: &Value, second: &Value) -> Answer
@@ -202,8 +204,8 @@ pub fn operate(alloc: Global, op: Op, first: &Value, second: &Value) -> Answer
     }
 }
 
-// The quotient of ints, truncated towards zero, or the throw of a zero divisor (JLS SE 17,
-// 15.17.2).
+// Returns the quotient of ints, truncated towards zero, or a throw if the divisor is zero (JLS SE
+// 17, 15.17.2).
 fn int_quotient(x: i32, y: i32) -> Answer
     ensures value { Gives result (divided Value.Int (int_wrapping_div w32) x y) }
     ensures quiet { IsAnswered result }
@@ -214,7 +216,8 @@ fn int_quotient(x: i32, y: i32) -> Answer
     Answer::Int(x.wrapping_div(y))
 }
 
-// The remainder of ints, with the dividend's sign (JLS SE 17, 15.17.3).
+// Returns the remainder of ints, with the dividend's sign, or a throw if the divisor is zero (JLS
+// SE 17, 15.17.3).
 fn int_remainder(x: i32, y: i32) -> Answer
     ensures value { Gives result (divided Value.Int int_rem x y) }
     ensures quiet { IsAnswered result }
@@ -225,7 +228,7 @@ fn int_remainder(x: i32, y: i32) -> Answer
     Answer::Int(x.wrapping_rem(y))
 }
 
-// The quotient of longs.
+// Returns the quotient of longs, or a throw if the divisor is zero.
 fn long_quotient(x: i64, y: i64) -> Answer
     ensures value { Gives result (divided Value.Long (int_wrapping_div w64) x y) }
     ensures quiet { IsAnswered result }
@@ -236,7 +239,7 @@ fn long_quotient(x: i64, y: i64) -> Answer
     Answer::Long(x.wrapping_div(y))
 }
 
-// The remainder of longs.
+// Returns the remainder of longs, or a throw if the divisor is zero.
 fn long_remainder(x: i64, y: i64) -> Answer
     ensures value { Gives result (divided Value.Long int_rem x y) }
     ensures quiet { IsAnswered result }
@@ -247,7 +250,7 @@ fn long_remainder(x: i64, y: i64) -> Answer
     Answer::Long(x.wrapping_rem(y))
 }
 
-// The low 32 bits of a long (JLS SE 17, 5.1.3).
+// Returns the low 32 bits of a long (JLS SE 17, 5.1.3).
 fn low_bits(number: i64) -> i32
     ensures value { result ≡ int_wrap w32 number }
 {
@@ -255,7 +258,7 @@ fn low_bits(number: i64) -> i32
     low.cast_signed()
 }
 
-// The number of bytes of a text.
+// Returns the number of bytes of a text.
 fn length(text: &Text) -> Answer
     ensures value { Gives result (Outcome.Value (Value.Int (pos (list_length text.now)))) }
     ensures quiet { IsAnswered result }
@@ -263,7 +266,7 @@ fn length(text: &Text) -> Answer
     Answer::Int(text.as_str().len() as i32)
 }
 
-// One text and then the other, or the throw of a text that would be too long (JLS SE 17, 15.18.1).
+// Returns the concatenation of two texts, or a throw if it would be too long (JLS SE 17, 15.18.1).
 #[inline(never)]
 fn concat(alloc: Global, some: &Text, more: &Text) -> Answer
     ensures value { Gives result (joined some.now more.now) }
@@ -276,7 +279,7 @@ fn concat(alloc: Global, some: &Text, more: &Text) -> Answer
     }
 }
 
-/// A number as the outcome that it is; of another value nothing.
+/// Returns the outcome of a number, or `None` for any other value.
 #[inline(always)]
 pub fn outcome_of_number(value: &Value) -> Option<Outcome>
     ensures value { IfSome result (λ o. o ≡ Outcome.Value value.now) }
@@ -289,7 +292,7 @@ pub fn outcome_of_number(value: &Value) -> Option<Outcome>
     }
 }
 
-/// Another owner of a value, as an answer. Only a text may be refused one.
+/// Returns another owner of a value, as an answer. Only a text may be refused.
 #[inline(always)]
 pub fn share(value: &Value) -> Answer
     ensures value { Gives result (Outcome.Value value.now) }
@@ -303,7 +306,7 @@ pub fn share(value: &Value) -> Answer
     }
 }
 
-// Another owner of a text.
+// Returns another owner of a text.
 #[inline(never)]
 fn share_text(text: &Text) -> Answer
     ensures value { Gives result (Outcome.Value (Value.Text text.now)) }

@@ -8,11 +8,11 @@ use std::alloc::Global;
 use std::fmt;
 use std::marker::Model;
 
-/// How many values a stack has room for.
+/// The number of values for which a stack has room.
 pub const ROOM: usize = 16384;
 
-/// The results on which an evaluation goes on. One stack serves any number of calls, one at a time;
-/// between calls it is empty, after `NoMemory` too.
+/// The intermediate results of an evaluation. One stack serves any number of calls, one at a time;
+/// between calls it is empty, also after `NoMemory`.
 #[derive(Drop)]
 pub struct Stack {
     pub(crate) alloc: Global,
@@ -31,7 +31,7 @@ impl Model for Stack {
     ghost invariant = { λ s. (s.values.items ≡ []) × (least_room ≤ vec_capacity s.values) };
 }
 
-/// It is empty between calls, so its name is all.
+/// Shows only the name of the type, since the stack is empty between calls.
 impl fmt::Debug for Stack {
     fn fmt<W: fmt::Write>(&self, f: &mut fmt::Formatter<W>) -> fmt::Result {
         f.write_str("Stack")
@@ -39,7 +39,8 @@ impl fmt::Debug for Stack {
 }
 
 impl Stack {
-    /// A stack over this allocator, with room for `ROOM` values. Refused with `NoMemory` alone.
+    /// Returns a stack over this allocator, with room for `ROOM` values. Fails only with
+    /// `NoMemory`.
     pub fn new(alloc: Global) -> Result<Stack, NoMemory>
         ensures empty { IfOk result (λ s. s ≡ []) }
     {
@@ -47,7 +48,7 @@ impl Stack {
         Ok(Stack { alloc, values })
     }
 
-    // The allocator.
+    // Returns the allocator.
     pub(crate) fn alloc(&self) -> Global {
         self.alloc
     }

@@ -1,4 +1,4 @@
--- What an explanation of a fault says of its place.
+-- What an explanation of a fault says about its place.
 use Rattle.std.specs.Prelude.{ℕ, ◌≡◌, Bool, true, false, List, [], ◌∷◌, ◌++◌, Option, Some, None, Result, Ok, Err, codes, ⊤}
 use Rattle.serde_json.specs.Data.{Data, array, member, no_items, no_members, number, object, unsigned}
 use Rattle.mh_json.specs.Forms.{misread_by}
@@ -24,7 +24,7 @@ abbrev pub place_text : List Key → List ℕ
 place_text [] = codes "the input itself"
 place_text (key ∷ rest) = path_text (key ∷ rest)
 
--- a part with its fault, as what could not be read
+-- a part with its fault, as a misread
 abbrev pub misread_of : FaultyPart → MisreadData
 misread_of part = record { fault = part.fault; path = part.path.items }
 
@@ -32,12 +32,12 @@ misread_of part = record { fault = part.fault; path = part.path.items }
 abbrev pub NamesPlace : List Key → List ℕ → Type 0
 NamesPlace path lines = (rest : List ℕ) × (lines ≡ codes "  where: " ++ (place_text path ++ (10 ∷ rest)))
 
--- lines explain the fault of a value: they begin with that of its place; there are none where there is no fault
+-- lines explain the fault of a value: they begin with that of its place; there are none if there is no fault
 abbrev pub ExplainsMisread : Option MisreadData → List ℕ → Type 0
 ExplainsMisread (Some misread) lines = NamesPlace misread.path lines
 ExplainsMisread None lines = lines ≡ []
 
--- the same of an input; of a text that is no JSON nothing is said
+-- the same for an input; nothing is said of a text that is not valid JSON
 abbrev pub ExplainsRead : InputForm → Result Data Fault → List ℕ → Type 0
 ExplainsRead form (Ok d) lines = ExplainsMisread (misread_by form d) lines
 ExplainsRead form (Err e) lines = ⊤
@@ -53,7 +53,7 @@ script_around definition =
     (member (codes "events") (array no_items)
     (member (codes "workers") (number (unsigned 1)) no_members)))
 
--- lines explain the fault of a definition that stands alone: those of its script
+-- lines explain the fault of a definition that is not part of a script: those of its script
 abbrev pub ExplainsAlone : Result Data Fault → List ℕ → Type 0
 ExplainsAlone (Ok d) lines = ExplainsMisread (misread_by form.Script (script_around d)) lines
 ExplainsAlone (Err e) lines = ⊤

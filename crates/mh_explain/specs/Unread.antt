@@ -1,4 +1,4 @@
--- The keys of an input that nothing reads: where objects stand in each form of input, and which keys of each are known.
+-- The keys of an input that are not read: where objects are in each form of input, and the known keys of each.
 use Rattle.std.specs.Prelude.{ℕ, ◌+◌, ◌||◌, List, [], ◌∷◌, ◌++◌, Option, Some, None, Bool, false, not, codes, bytes_eq, Result, Ok, Err, if◌then◌else◌}
 use Rattle.serde_json.specs.Data.{Data, null, boolean, number, string, array, object, Members, no_members, member}
 use Rattle.serde_json.specs.Find.{get, at, as_str}
@@ -17,12 +17,12 @@ use Rattle.mh_json.specs.declared.key.Field.TheVariants as field
 use Rattle.mh_explain.specs.declared.unread.Reach.{Reach}
 use Rattle.mh_explain.specs.declared.unread.Reach.TheVariants.{At, Each, Offered}
 
--- objects of one kind: the steps that lead to them, and the keys that are known of each
+-- objects of one kind: the steps that lead to them, and the known keys of each
 pub record Objects : Type 0 where
   pub steps : List Reach
   pub keys : List Field
 
--- the keys of a link, whose charge version 1 does not read; its name is known, for those who read the input, and is never read
+-- the keys of a link, whose charge version 1 does not read; its name is known, for readers of the input, but never read
 abbrev pub with_charge : Version → List Field → List Field
 with_charge One keys = keys
 with_charge Two keys = keys ++ field.Charge ∷ []
@@ -70,7 +70,7 @@ script_objects version =
     script_object ∷ definition_object ∷ point_objects ∷ site_objects ∷ link_objects version ∷ limits_object
     ∷ offered_objects ∷ []
 
--- a problem, which stands at the end of these steps, and each link in it
+-- a problem, which is at the end of these steps, and each link in it
 abbrev pub problem_at : List Reach → Version → List Objects
 problem_at steps version =
     record { steps = steps; keys = field.Version ∷ field.Costs ∷ field.Links ∷ [] }
@@ -90,7 +90,7 @@ objects_of input.Script version = script_objects version
 objects_of input.Problem version = problem_objects version
 objects_of input.Claim version = claim_objects version
 
--- a version that may be there: 2 where none is read
+-- a version that may be missing: 2 if none is read
 abbrev pub version_or_two : Result Version MisreadData → Version
 version_or_two (Ok version) = version
 version_or_two (Err m) = Two
@@ -99,7 +99,7 @@ abbrev pub version_where : Option Data → Version
 version_where (Some d) = version_or_two (version_of d)
 version_where None = Two
 
--- the version of an object that may be there
+-- the version of an object that may be missing
 abbrev pub version_at : Option Data → Version
 version_at (Some d) = version_where (get (field_name field.Version) d)
 version_at None = Two
@@ -115,7 +115,7 @@ abbrev pub is_read : List Field → List ℕ → Bool
 is_read [] key = false
 is_read (known ∷ more) key = bytes_eq key (field_name known) || is_read more key
 
--- whether members have a key that is none of these
+-- whether members have a key that is not among these
 abbrev pub has_other : List Field → Members → Bool
 has_other keys no_members = false
 has_other keys (member key d more) = not (is_read keys key) || has_other keys more
@@ -129,7 +129,7 @@ has_unread keys (number n) = false
 has_unread keys (string s) = false
 has_unread keys (array ds) = false
 
--- the items of an array, and none of any other value
+-- the items of an array, or none for any other value
 abbrev pub items_in : Data → List Data
 items_in (array ds) = to_list ds
 items_in null = []
@@ -138,7 +138,7 @@ items_in (number n) = []
 items_in (string s) = []
 items_in (object ms) = []
 
--- the first, or else the second
+-- the first, or otherwise the second
 abbrev pub or_later : Option ℕ → Option ℕ → Option ℕ
 or_later (Some n) later = Some n
 or_later None later = later
@@ -148,7 +148,7 @@ abbrev pub first_in : (ℕ → Data → Option ℕ) → ℕ → List Data → Op
 first_in look n [] = None
 first_in look n (d ∷ ds) = or_later (look n d) (first_in look (n + 1) ds)
 
--- what is found in a value that may be there
+-- the result of a search in a value that may be missing
 abbrev pub first_where : (Data → Option ℕ) → Option Data → Option ℕ
 first_where look None = None
 first_where look (Some d) = look d
@@ -165,15 +165,15 @@ text_in None = None
 abbrev pub offered_in : Data → Option Data
 offered_in d = if is_word (codes "offer") (text_in (at 0 d)) then at 2 d else None
 
--- the number of the first event with an object, at the end of these steps, that has a key that nothing reads; at n where
--- the steps lead through no event
+-- the number of the first event with an object, at the end of these steps, that has a key that is not read; n if the steps lead through no
+-- event
 abbrev pub first_along : List Field → List Reach → ℕ → Data → Option ℕ
 first_along keys [] n d = if has_unread keys d then Some n else None
 first_along keys (At key ∷ steps) n d = first_where (first_along keys steps n) (get (field_name key) d)
 first_along keys (Each ∷ steps) n d = first_in (λ _. first_along keys steps n) 1 (items_in d)
 first_along keys (Offered ∷ steps) n d = first_in (λ i event. first_where (first_along keys steps i) (offered_in event)) 1 (items_in d)
 
--- the same of objects of any kind, outside the events where no event has one
+-- the same for objects of any kind; the number is 0 for those outside the events
 abbrev pub first_of : List Objects → Data → Option ℕ
 first_of [] d = None
 first_of (objects ∷ more) d = or_later (first_along objects.keys objects.steps 0 d) (first_of more d)
@@ -185,7 +185,7 @@ abbrev pub first_of_read : InputForm → Result Data Fault → Option ℕ
 first_of_read form (Ok d) = first_unread_in form d
 first_of_read form (Err e) = None
 
--- The number of the event with the first key of an input that nothing reads, or 0 outside the events; none where each key of
--- each object is read, and where the input is no JSON.
+-- The number of the event with the first key of an input that is not read, or 0 if it is outside the events; none if each key of each
+-- object is read, or if the input is not valid JSON.
 unfoldable pub first_unread : InputForm → List ℕ → Option ℕ
 first_unread form bytes = first_of_read form (json_of_input bytes)

@@ -9,19 +9,19 @@ use mh_json::{InputFault, InputForm, Key, Misread, Wanted, first_misread};
 use serde_json::Value;
 use std::alloc::Global;
 
-/// The part of an input that has its first fault.
+/// The part of an input that has its first fault, with that fault.
 #[derive(Drop)]
 pub struct FaultyPart {
     /// The fault.
     pub fault: InputFault,
-    /// The keys that lead to the part, the outermost first.
+    /// The keys that lead to the part, from the outermost on.
     pub path: Vec<Key>,
-    /// What would have stood there: for words alone.
+    /// The form that was expected there, for explanations only.
     pub wanted: Wanted,
 }
 
 impl FaultyPart {
-    /// The part of a misread.
+    /// Returns the part of a misread.
     fn of(alloc: Global, misread: Misread) -> FaultyPart
         ensures value { misread_of result ≡ misread }
     {
@@ -33,7 +33,8 @@ impl FaultyPart {
     }
 }
 
-/// The part of a value that has its first fault where it is read so; none where it has no fault.
+/// Returns the first fault found when a value is read as this form, with the part that has it;
+/// `None` if there is no fault.
 ///
 /// Fails only if memory runs out.
 pub fn faulty_part(

@@ -1,4 +1,4 @@
-//! What stands at the place of a fault, as a line shows it.
+//! The value found at the place of a fault, as a line shows it.
 use crate::spot::Spot;
 use crate::words::quoted;
 use mh_base::NoMemory;
@@ -6,10 +6,10 @@ use mh_json::Wanted;
 use serde_json::{Map, Value};
 use std::alloc::Global;
 
-/// The most bytes of a part that a line shows.
+/// The greatest number of bytes of a part that a line shows.
 const LONGEST: usize = 120;
 
-/// A text that is cut where it is too long, with `..` at its end.
+/// Returns the text, cut if it is too long, with `..` at its end.
 pub(crate) fn cut(alloc: Global, text: String) -> Result<String, NoMemory> {
     if text.len() <= LONGEST {
         return Ok(text);
@@ -25,7 +25,7 @@ pub(crate) fn cut(alloc: Global, text: String) -> Result<String, NoMemory> {
     Ok(shown)
 }
 
-/// The keys of an object: `{"name","cst"}`.
+/// Returns the keys of an object: `{"name","cst"}`.
 fn keys(alloc: Global, members: &Map<String, Value>) -> Result<String, NoMemory> {
     let mut text = String::new(alloc);
     let mut before = '{';
@@ -41,8 +41,8 @@ fn keys(alloc: Global, members: &Map<String, Value>) -> Result<String, NoMemory>
     Ok(text)
 }
 
-/// What stands at the place of a fault: the keys of an object that lacks one, and else the part as
-/// JSON, cut where it is long.
+/// Returns the value at the place of a fault: the keys of an object that lacks one, and otherwise
+/// the part as JSON, cut if it is too long.
 pub(crate) fn found(alloc: Global, spot: &Spot<'_>) -> Result<String, NoMemory> {
     match (spot.wanted, spot.value) {
         (Wanted::Missing(_), Value::Object(members)) => cut(alloc, keys(alloc, members)?),

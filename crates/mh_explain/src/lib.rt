@@ -1,8 +1,10 @@
-//! The place of a fault: which part of an input has it, and why; and the keys that nothing reads.
+//! Explanations of faults: which part of an input has the fault, and why; and the keys that are not
+//! read.
 //!
-//! An input is read once, by the readers of mh_json, whose first fault knows the keys that lead to
-//! the part that has it, and what was wanted there. `explanation` shows these keys and the part, and
-//! says in a sentence why it has the fault; `unread_keys` notes each key that no reader looks at.
+//! An input is read once, by the readers of mh_json, whose first fault contains the keys that lead
+//! to the part that has it, and the form that was expected there. `explanation` shows these keys
+//! and the part, and says in a sentence why it has the fault; `unread_keys` notes each key that no
+//! reader looks at.
 //!
 //! ```
 //! if let Err(Fault { kind: TextFault::Input(fault), .. }) = read_script(alloc, input) {

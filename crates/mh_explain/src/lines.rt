@@ -1,4 +1,4 @@
-//! Where a fault of an input is, what stands there, and why it is one.
+//! Lines that say where a fault of an input is, what was found there, and why it is a fault.
 ghost use Rattle.std.specs.Prelude.{◌≡◌, ◌≢◌, ◌⊎◌, [], option_map, string_bytes, IfOk};
 ghost use Rattle.serde_json.specs.View.{view};
 ghost use Rattle.mh_json.specs.declared.fault.InputFault.TheVariants.{NoMemory as out_of_memory};
@@ -18,7 +18,7 @@ use mh_json::{InputFault, InputForm, Key, Misread, Wanted};
 use serde_json::{Value, json};
 use std::alloc::{AllocError, Global};
 
-/// A path as text, with words for the empty one.
+/// Returns a path as text; the empty path has words of its own.
 fn path_text(alloc: Global, keys: &[Key]) -> Result<String, NoMemory>
     ensures value { IfOk result (λ s. string_bytes s ≡ place_text keys.now) }
 {
@@ -29,14 +29,15 @@ fn path_text(alloc: Global, keys: &[Key]) -> Result<String, NoMemory>
     Ok(format!(in alloc; "{path}")?)
 }
 
-/// What stands at the place of a fault, and why it is one: a line each.
+/// Returns a line with the value at the place of a fault, and a line with the reason why it is a
+/// fault.
 fn reasons(alloc: Global, fault: InputFault, spot: &Spot<'_>) -> Result<String, NoMemory> {
     let found = found(alloc, spot)?;
     let why = why(alloc, fault, spot)?;
     Ok(format!(in alloc; "  found: {found}\n  why:   {why}\n")?)
 }
 
-/// The explanation of the fault of a part of a value that is read as a form.
+/// Returns the explanation of the fault of a part of a value that is read as a form.
 fn of_part(
     alloc: Global,
     form: InputForm,
@@ -63,8 +64,8 @@ fn of_part(
     Ok(format!(in alloc; "  where: {place}\n{reasons}")?)
 }
 
-/// The lines that explain the fault of a part of a value (see `faulty_part`), as `explanation` has
-/// them; none where no part has a fault.
+/// Returns the lines that explain the fault of a part of a value (see `faulty_part`), as
+/// `explanation` does, or none if no part has a fault.
 ///
 /// Fails only if memory runs out.
 pub fn explanation_of_part(
@@ -82,7 +83,7 @@ pub fn explanation_of_part(
     }
 }
 
-/// The explanation of the first fault of a value of JSON.
+/// Returns the explanation of the first fault of a JSON value.
 fn of_value(alloc: Global, form: InputForm, value: &Value) -> Result<String, NoMemory>
     ensures explains { IfOk result (λ lines. ExplainsMisread (misread_by form (view value.now))
         (string_bytes lines)) }
@@ -91,7 +92,8 @@ fn of_value(alloc: Global, form: InputForm, value: &Value) -> Result<String, NoM
     explanation_of_part(alloc, form, value, &part)
 }
 
-/// The lines that explain why a text is no JSON, which was misread so, as `explanation` has them.
+/// Returns the lines that explain why a text is not valid JSON, given how it was misread, as
+/// `explanation` does.
 ///
 /// Fails only if memory runs out, now or when it was misread.
 pub fn explanation_of_text(
@@ -121,12 +123,13 @@ pub fn explanation_of_text(
     }
 }
 
-/// The lines that explain a fault of an input: where it is, what stands there, and why it is one.
+/// Returns the lines that explain a fault of an input: where it is, what was found there, and why
+/// it is a fault.
 ///
 /// Each line begins with two spaces and a word, `where:`, `found:` or `why:`, and ends with a
-/// newline. The first one names the place of the first fault that reading the input in this form
-/// gives; there is none where it gives none, nor where no part of the input has the fault: memory
-/// ran out, or the input is too long. Fails only if memory runs out.
+/// newline. The first line names the place of the first fault found when the input is read as this
+/// form. There are no lines if there is no such fault, or if no part of the input has it, because
+/// memory ran out or the input is too long. Fails only if memory runs out.
 pub fn explanation(
     alloc: Global,
     form: InputForm,
@@ -146,17 +149,18 @@ pub fn explanation(
     }
 }
 
-/// The script of a definition, with one worker and without events.
+/// Returns the script of a definition, with one worker and without events.
 fn script_around(alloc: Global, definition: Value) -> Result<Value, AllocError>
     ensures value { IfOk result (λ v. view v ≡ script_with (view definition)) }
 {
     json!(in alloc; {"definition": definition, "events": [], "workers": 1})
 }
 
-/// The lines that explain the fault of a definition that stands alone, as a host opens one.
+/// Returns the lines that explain the fault of a definition that is not part of a script, as a host
+/// opens one.
 ///
 /// They are those of the script of this definition, so that each place in it begins with
-/// `definition`; there are none where it has no fault. Fails only if memory runs out.
+/// `definition`. There are none if it has no fault. Fails only if memory runs out.
 pub fn definition_explanation(alloc: Global, input: &[u8]) -> Result<String, NoMemory>
     ensures place { IfOk result (λ lines. ExplainsDefinition input.now (string_bytes lines)) }
 {

@@ -1,4 +1,4 @@
-//! The known word that an unknown one is most likely meant for.
+//! The known word that was most likely meant by an unknown one.
 ghost use Rattle.std.specs.Prelude.{All, IfNone, IfOk, IfSome, map};
 ghost use Rattle.mh_explain.specs.Near.{IsNear, IsNearest};
 
@@ -6,12 +6,12 @@ use mh_base::NoMemory;
 use std::alloc::Global;
 use strsim::levenshtein;
 
-/// The most edits between a word and the one that it is meant for.
+/// The greatest number of edits between a word and the one that was meant.
 const MOST_EDITS: usize = 2;
 
-/// The nearest of the words within two edits, the first where several are as near. A word of two
-/// letters is meant for one within one edit, and a word of one letter for none, since to such words
-/// most short ones are near.
+/// Returns the nearest of the words within two edits, the first if several are equally near. For a
+/// word of two letters, only words within one edit count, and for a word of one letter none does,
+/// since most short words are near to such words.
 ///
 /// Fails only if memory runs out.
 pub fn nearest<'a>(

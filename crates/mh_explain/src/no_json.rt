@@ -1,4 +1,4 @@
-//! Texts that are no JSON.
+//! Texts that are not valid JSON.
 mod levels;
 mod stop;
 
@@ -12,30 +12,31 @@ use serde_json::Value;
 use std::alloc::Global;
 use std::str;
 
-/// How many bytes before the fault of a text are shown.
+/// The number of bytes shown before the fault of a text.
 const BYTES_BEFORE: usize = 40;
 
-/// How many bytes from the fault of a text on are shown.
+/// The number of bytes shown from the fault of a text on.
 const BYTES_BEHIND: usize = 20;
 
-/// How deep values stand in one another at most.
+/// The greatest depth of nested values.
 const DEEPEST_VALUE: usize = 127;
 
-/// A text that is no JSON, and where reading it stopped.
+/// A text that is not valid JSON, and the place where reading it stopped.
 #[derive(Clone, Copy)]
 pub(crate) struct Text<'a> {
     pub(crate) input: &'a [u8],
-    /// Its line, from 1.
+    /// The line of that place, from 1.
     pub(crate) line: usize,
-    /// The column of the byte that cannot stand there, from 1, or the length of the line where the
-    /// text ends.
+    /// The column of the byte that is not allowed there, from 1, or the length of the line if the
+    /// text ends there.
     pub(crate) column: usize,
-    /// Whether more bytes could make it JSON.
+    /// True if more bytes could make it valid JSON.
     pub(crate) is_cut: bool,
 }
 
 impl Text<'_> {
-    /// Where it stopped to be JSON, what stands there, and why it is none: a line each.
+    /// Returns the lines that say where it stops being valid JSON, what was found there, and why
+    /// that is not valid.
     pub(crate) fn explanation(&self, alloc: Global) -> Result<String, NoMemory> {
         if str::from_utf8(self.input).is_err() {
             return self.lines(alloc, "the text is not UTF-8 from here on");
@@ -53,7 +54,8 @@ impl Text<'_> {
         }
     }
 
-    /// The same where no value ends before: of the first byte that cannot stand where it does.
+    /// Does the same for a text in which no value ends before that place: for the first byte that
+    /// is not allowed where it is.
     fn explanation_within(&self, alloc: Global) -> Result<String, NoMemory> {
         let (levels, read) = Levels::by(alloc, self.parts().0)?;
         let text = self.moved_to(read);
@@ -69,7 +71,7 @@ impl Text<'_> {
         text.lines(alloc, stop.reason())
     }
 
-    /// The three lines, of which the last says this.
+    /// Returns the three lines, of which the last gives this reason.
     fn lines(&self, alloc: Global, why: &str) -> Result<String, NoMemory> {
         let (line, column) = (self.line, self.column);
         let found = printable(alloc, self.around())?;
@@ -78,7 +80,7 @@ impl Text<'_> {
         )?)
     }
 
-    /// The same text, with this byte as the one that cannot stand there.
+    /// Returns the same text, with this byte as the one that is not allowed.
     fn moved_to(&self, byte: usize) -> Text<'_> {
         let (mut line, mut column) = (1usize, 1usize);
         for earlier in &self.input[..byte.min(self.input.len())] {
@@ -97,7 +99,7 @@ impl Text<'_> {
         }
     }
 
-    /// Where its line begins.
+    /// Returns the index at which its line begins.
     fn line_start(&self) -> usize {
         let mut seen: usize = 1;
         for (i, byte) in self.input.iter().enumerate() {
@@ -111,7 +113,7 @@ impl Text<'_> {
         self.input.len()
     }
 
-    /// The bytes around its column.
+    /// Returns the bytes around its column.
     fn around(&self) -> &[u8] {
         let start = self.line_start();
         let fault = start.saturating_add(self.column).min(self.input.len());
@@ -124,7 +126,7 @@ impl Text<'_> {
         }
     }
 
-    /// What stands before its column, and what from there on.
+    /// Returns the bytes before its column, and those from there on.
     fn parts(&self) -> (&[u8], &[u8]) {
         let behind = self.line_start().saturating_add(self.column);
         let at = behind.saturating_sub(1).min(self.input.len());
@@ -132,7 +134,7 @@ impl Text<'_> {
     }
 }
 
-/// Why a text ends too early.
+/// Returns the reason why a text ends too early.
 fn cut_reason(alloc: Global, input: &[u8]) -> Result<&'static str, NoMemory> {
     if input.iter().all(|byte| is_white(*byte)) {
         return Ok("the input is empty");
@@ -146,7 +148,7 @@ fn cut_reason(alloc: Global, input: &[u8]) -> Result<&'static str, NoMemory> {
     })
 }
 
-/// Why this may not stand behind a whole value.
+/// Returns the reason why these bytes are not allowed after a whole value.
 fn reason_behind(value: &Value, rest: &[u8]) -> &'static str {
     match rest {
         [b'/' | b'#', ..] => COMMENTS,

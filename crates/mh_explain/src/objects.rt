@@ -1,4 +1,4 @@
-//! The objects of an input: the keys that are known of each, and what it is called.
+//! The objects of an input: the known keys of each, and its name.
 ghost use Rattle.std.specs.Prelude.{◌≡◌};
 ghost use Rattle.mh_explain.specs.Unread.{link_keys as keys_of_link, row_keys as keys_of_row};
 
@@ -6,7 +6,7 @@ use mh_json::{Field, InputForm, Key};
 use mh_site::Version;
 use serde_json::Value;
 
-/// The keys that are known of a script.
+/// The known keys of a script.
 pub(crate) const SCRIPT_KEYS: &[Field] = &[
     Field::Definition,
     Field::Workers,
@@ -14,7 +14,7 @@ pub(crate) const SCRIPT_KEYS: &[Field] = &[
     Field::Events,
 ];
 
-/// The keys that are known of a definition.
+/// The known keys of a definition.
 pub(crate) const DEFINITION_KEYS: &[Field] = &[
     Field::Version,
     Field::Points,
@@ -22,10 +22,10 @@ pub(crate) const DEFINITION_KEYS: &[Field] = &[
     Field::Sites,
 ];
 
-/// The keys that are known of a point.
+/// The known keys of a point.
 pub(crate) const POINT_KEYS: &[Field] = &[Field::Name, Field::Cost];
 
-/// The keys that are known of a site.
+/// The known keys of a site.
 pub(crate) const SITE_KEYS: &[Field] = &[
     Field::Name,
     Field::Type,
@@ -35,16 +35,16 @@ pub(crate) const SITE_KEYS: &[Field] = &[
     Field::Links,
 ];
 
-/// The keys that are known of the limits of a script.
+/// The known keys of the limits of a script.
 pub(crate) const LIMIT_KEYS: &[Field] = &[Field::History, Field::Ledger, Field::Total];
 
-/// The keys that are known of a problem.
+/// The known keys of a problem.
 pub(crate) const PROBLEM_KEYS: &[Field] = &[Field::Version, Field::Costs, Field::Links];
 
-/// The keys that are known of a problem with a plan.
+/// The known keys of a problem with a plan.
 pub(crate) const CLAIM_KEYS: &[Field] = &[Field::Problem, Field::Plan];
 
-/// The keys that are known of a plan.
+/// The known keys of a plan.
 pub(crate) const PLAN_KEYS: &[Field] = &[
     Field::Links,
     Field::Points,
@@ -53,8 +53,8 @@ pub(crate) const PLAN_KEYS: &[Field] = &[
     Field::Charges,
 ];
 
-/// The keys that are known of a link of a site. Its name is not read: it is for a reader of the
-/// input.
+/// Returns the known keys of a link of a site. The key `name` is known, but not read: it is for
+/// readers of the input.
 pub(crate) fn link_keys(version: Version) -> &'static [Field]
     ensures value { result.now ≡ keys_of_link version }
 {
@@ -70,7 +70,7 @@ pub(crate) fn link_keys(version: Version) -> &'static [Field]
     }
 }
 
-/// The keys that are known of a link of a problem, as of a link of a site.
+/// Returns the known keys of a link of a problem, as of a link of a site.
 pub(crate) fn row_keys(version: Version) -> &'static [Field]
     ensures value { result.now ≡ keys_of_row version }
 {
@@ -102,7 +102,7 @@ pub(crate) enum Object {
 }
 
 impl Object {
-    /// The keys that are known of it.
+    /// Returns the known keys of the object.
     pub(crate) fn keys(self, version: Version) -> &'static [Field] {
         match self {
             Object::Script => SCRIPT_KEYS,
@@ -118,7 +118,7 @@ impl Object {
         }
     }
 
-    /// What it is called, with an article.
+    /// Returns the name of the object, with an article.
     pub(crate) fn noun(self) -> &'static str {
         match self {
             Object::Script => "a script",
@@ -133,7 +133,7 @@ impl Object {
         }
     }
 
-    /// An example.
+    /// Returns an example of the object.
     pub(crate) fn example(self) -> &'static str {
         match self {
             Object::Script => {
@@ -156,7 +156,7 @@ impl Object {
     }
 }
 
-/// The object that an input of a form is.
+/// Returns the object that an input of a form is.
 pub(crate) fn object_of(form: InputForm) -> Object {
     match form {
         InputForm::Script => Object::Script,
@@ -165,7 +165,7 @@ pub(crate) fn object_of(form: InputForm) -> Object {
     }
 }
 
-/// What an item of a list with this key is.
+/// Returns the object that an item of a list with this key is.
 fn item_at(form: InputForm, field: Field) -> Option<Object> {
     match (field, form) {
         (Field::Points, _) => Some(Object::Point),
@@ -176,7 +176,7 @@ fn item_at(form: InputForm, field: Field) -> Option<Object> {
     }
 }
 
-/// What a member with this key is.
+/// Returns the object that a member with this key is.
 fn member_at(field: Field) -> Option<Object> {
     match field {
         Field::Definition => Some(Object::Definition),
@@ -187,8 +187,8 @@ fn member_at(field: Field) -> Option<Object> {
     }
 }
 
-/// The object that stands at the end of a path, if one is read there. Of an event only an offer has
-/// an object, which is its plan.
+/// Returns the object at the end of a path, if one is read there. Of the events, only an offer
+/// contains an object, which is its plan.
 pub(crate) fn object_at(form: InputForm, path: &[Key]) -> Option<Object> {
     match path {
         [] => Some(object_of(form)),
@@ -198,7 +198,7 @@ pub(crate) fn object_at(form: InputForm, path: &[Key]) -> Option<Object> {
     }
 }
 
-/// Whether a value has a key that lines of a profile alone have.
+/// Returns whether a value has a key that only lines of a profile have.
 pub(crate) fn is_profile_line(value: &Value) -> bool {
     value.get("point").is_some() || value.get("link").is_some()
 }

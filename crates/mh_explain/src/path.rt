@@ -15,7 +15,8 @@ pub(crate) struct ShownPath<'a> {
     pub keys: &'a [Key],
 }
 
-/// The keys with a dot, and the numbers of items in brackets: `definition.sites[3].target[1]`.
+/// Writes the keys with dots between them, and the numbers of items in brackets:
+/// `definition.sites[3].target[1]`.
 impl fmt::Display for ShownPath<'_> {
     ghost output = { λ path. Some (path_text path.keys.now) };
 
@@ -28,7 +29,7 @@ impl fmt::Display for ShownPath<'_> {
     }
 }
 
-/// The first key of a path: a name without a dot.
+/// Writes the first key of a path, without a dot before it.
 fn write_first<W: fmt::Write>(key: Key, f: &mut fmt::Formatter<W>) -> fmt::Result
     ensures text { WritesOnOk W.write_str_gives f.old result (first_text key) f.new }
 {
@@ -38,7 +39,7 @@ fn write_first<W: fmt::Write>(key: Key, f: &mut fmt::Formatter<W>) -> fmt::Resul
     }
 }
 
-/// A key behind others.
+/// Writes a key that follows others.
 fn write_step<W: fmt::Write>(key: Key, f: &mut fmt::Formatter<W>) -> fmt::Result
     ensures text { WritesOnOk W.write_str_gives f.old result (step_text key) f.new }
 {
@@ -51,7 +52,7 @@ fn write_step<W: fmt::Write>(key: Key, f: &mut fmt::Formatter<W>) -> fmt::Result
     }
 }
 
-/// The keys behind the first.
+/// Writes the keys after the first.
 fn write_others<W: fmt::Write>(keys: &[Key], f: &mut fmt::Formatter<W>) -> fmt::Result
     ensures text { WritesOnOk W.write_str_gives f.old result (flat_map step_text keys.now) f.new }
 {
@@ -61,7 +62,7 @@ fn write_others<W: fmt::Write>(keys: &[Key], f: &mut fmt::Formatter<W>) -> fmt::
     Ok(())
 }
 
-/// The keys, and one more.
+/// Returns the keys, followed by one more.
 pub(crate) fn longer(alloc: Global, keys: &[Key], key: Key) -> Result<Vec<Key>, NoMemory> {
     let mut longer = keys.to_vec(alloc)?;
     longer.push(key)?;

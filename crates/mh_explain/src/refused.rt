@@ -1,4 +1,4 @@
-//! Which test of each refused event failed.
+//! Explanations of which test of each refused event failed.
 ghost use Rattle.std.specs.Prelude.{◌≡◌, ◌++◌, ℕ, List, string_bytes, IfOk};
 ghost use Rattle.mh_explain.specs.Refused.{NamesRefused, refused_line};
 
@@ -9,11 +9,12 @@ use mh_json::RefusedEvent;
 use serde_json::Value;
 use std::alloc::Global;
 
-/// Of how many refused events the part that failed a test is looked for. It is found by a walk over
-/// the definition, so that lines for each of many events would take their number times its size.
+/// The number of refused events for which the part that failed a test is looked for. It is found by
+/// a walk over the definition, so that explaining many events would take their number times its
+/// size.
 const MOST_EXPLAINED: usize = 100;
 
-/// The part of a refused event that failed a test, and which test, where that is looked for.
+/// Returns the lines about the part of a refused event that failed a test, if they are asked for.
 fn reasons_where(
     alloc: Global,
     is_explained: bool,
@@ -28,7 +29,7 @@ fn reasons_where(
     }
 }
 
-/// The lines of a refused event of a script.
+/// Returns the lines of a refused event of a script.
 fn of_event(
     alloc: Global,
     is_explained: bool,
@@ -43,11 +44,11 @@ fn of_event(
     Ok(format!(in alloc; "event {event}: refused {refusal}\n{reasons}")?)
 }
 
-/// The lines that explain why events of a script were refused: for each, in order, the line
-/// `event N: refused REFUSAL`, and behind that of the first 100 which part failed which test.
+/// Returns the lines that explain why events of a script were refused: for each, in order, the line
+/// `event N: refused REFUSAL`, and for each of the first 100 also which part failed which test.
 ///
-/// Lines behind that begin with two spaces and a word, `where:`, `found:` or `why:`, and each ends
-/// with a newline. Fails only if memory runs out.
+/// The lines about parts begin with two spaces and a word, `where:`, `found:` or `why:`, and each
+/// line ends with a newline. Fails only if memory runs out.
 pub fn explanation_of_refused(
     alloc: Global,
     script: &Value,

@@ -5,7 +5,7 @@ use serde_json::Value;
 use std::alloc::Global;
 use std::fmt;
 
-/// What takes the place of a hole of a template.
+/// A replacement for a hole of a template.
 #[derive(Clone, Copy)]
 pub(crate) enum Part<'a> {
     Text(&'a str),
@@ -31,12 +31,12 @@ impl fmt::Display for Part<'_> {
     }
 }
 
-/// The number of parameters of a type.
+/// Returns the number of parameters of a type.
 pub(crate) fn parameters_of<'a>(of: &MethodType) -> Part<'a> {
     Part::Counted(of.count(), "parameter", "parameters")
 }
 
-/// A template with parts in place of its holes, which are written `_`, in their order.
+/// Returns a template with parts in place of its holes, which are written `_`, in their order.
 pub(crate) fn said(alloc: Global, template: &str, parts: &[Part<'_>]) -> Result<String, NoMemory> {
     let mut text = String::new(alloc);
     let mut left = parts.iter();
@@ -49,7 +49,7 @@ pub(crate) fn said(alloc: Global, template: &str, parts: &[Part<'_>]) -> Result<
     Ok(text)
 }
 
-/// A sentence: a template, and the parts for its holes.
+/// Returns a sentence, from a template and the parts for its holes.
 macro_rules! say {
     ($alloc:expr, $template:expr $(, $part:expr)* $(,)?) => {
         crate::said::said($alloc, $template, &[$($part),*])

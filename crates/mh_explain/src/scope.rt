@@ -1,4 +1,4 @@
-//! The names that a tree may use where it stands.
+//! The names that a tree may use at its place.
 use crate::values::{items_at, known, named_behind, version_of};
 use mh_base::NoMemory;
 use mh_json::readers::{Scope, Sited, point_names, read_points, read_shared, read_site};
@@ -6,12 +6,12 @@ use mh_json::{Field, Key};
 use serde_json::Value;
 use std::alloc::Global;
 
-/// The first values of a list, at most so many.
+/// Returns the first values of a list, at most `most`.
 fn first_of(values: &[Value], most: usize) -> &[Value] {
     &values[..most.min(values.len())]
 }
 
-/// The names of the points, and of the first shared trees of a definition.
+/// Returns the names of the points, and of the first shared trees, of a definition.
 fn shared_before(
     alloc: Global,
     definition: &Value,
@@ -35,7 +35,7 @@ fn shared_before(
     Ok(Some(scope))
 }
 
-/// The first sites of a definition, and the names that a tree behind them may use.
+/// Returns the first sites of a definition, and the names that a tree after them may use.
 pub(crate) fn sites_before(
     alloc: Global,
     definition: &Value,
@@ -57,8 +57,8 @@ pub(crate) fn sites_before(
     Ok(Some(sited))
 }
 
-/// The names that a tree at the end of a path from a script may use: in the definition those of what
-/// stands before it, in the events all. Sites are not read for a tree that invokes none.
+/// Returns the names that a tree at the end of a path from a script may use: in the definition
+/// those declared before it, in the events all. Sites are not read if the tree invokes none.
 pub(crate) fn scope_at(
     alloc: Global,
     script: &Value,

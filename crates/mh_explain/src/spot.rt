@@ -3,7 +3,7 @@ use crate::objects::{Object, object_at};
 use mh_json::{Field, InputForm, Key, Wanted};
 use serde_json::Value;
 
-/// A part of an input that could not be read, and what was wanted there.
+/// A part of an input that could not be read, and the form that was expected there.
 #[derive(Clone, Copy)]
 pub(crate) struct Spot<'a> {
     pub(crate) form: InputForm,
@@ -15,12 +15,12 @@ pub(crate) struct Spot<'a> {
 }
 
 impl<'a> Spot<'a> {
-    /// The object that is read there, if one is.
+    /// Returns the object that is read there, if one is.
     pub(crate) fn object(&self) -> Option<Object> {
         object_at(self.form, self.path)
     }
 
-    /// The problem that the input has, if it is no script.
+    /// Returns the problem that the input contains, if it is not a script.
     pub(crate) fn problem(&self) -> Option<&'a Value> {
         match self.form {
             InputForm::Script => None,

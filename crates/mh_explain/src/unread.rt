@@ -1,4 +1,4 @@
-//! The keys of an input that nothing reads.
+//! The keys of an input that are not read.
 ghost use Rattle.std.specs.Prelude.{◌≡◌, ◌∷◌, [], map, option_map, Some, None, if◌then◌else◌, IfOk, OnOk};
 ghost use Rattle.serde_json.specs.View.{view, members_view};
 ghost use Rattle.mh_explain.specs.declared.unread.Reach.TheVariants.{At};
@@ -20,7 +20,7 @@ use std::alloc::Global;
 /// A step from a value to values inside it.
 #[derive(Clone, Copy, Debug, PartialEq, Eq)]
 pub(crate) enum Reach {
-    /// To what an object has at a key.
+    /// To the value of an object's key.
     At(Field),
     /// To each item of a list.
     Each,
@@ -28,17 +28,17 @@ pub(crate) enum Reach {
     Offered,
 }
 
-/// The keys of an input that nothing reads.
+/// The keys of an input that are not read.
 #[derive(Drop)]
 pub struct UnreadKeys {
     /// A line for each, as `note: definition.sites[9].lnks is not read; is "links" meant?`.
     pub notes: String,
-    /// The number of the event that the first one stands in, from 1, or 0 outside the events;
-    /// none where each key is read.
+    /// The number of the event that contains the first one, from 1, or 0 if it is outside the
+    /// events; `None` if each key is read.
     pub first: Option<u64>,
 }
 
-/// Whether a key is one of those that are read.
+/// Returns whether a key is one of those that are read.
 pub(crate) fn is_read(keys: &[Field], key: &str) -> bool
     ensures value { result ≡ is_among keys.now key.now }
 {
@@ -50,7 +50,7 @@ pub(crate) fn is_read(keys: &[Field], key: &str) -> bool
     false
 }
 
-/// The plan that an event offers.
+/// Returns the plan that an event offers.
 fn offered(event: &Value) -> Option<&Value>
     ensures value { option_map (λ v. view v.now) result ≡ offered_in (view event.now) }
 {
@@ -60,8 +60,8 @@ fn offered(event: &Value) -> Option<&Value>
     }
 }
 
-/// What is looked for, and where: the keys that are read of objects of one kind, the keys that lead
-/// to a value, and the number of the event that it stands in, or 0.
+/// The current search: the keys that are read of objects of one kind, the keys that lead to a
+/// value, and the number of the event that contains it, or 0.
 #[derive(Clone, Copy)]
 struct Look<'a> {
     keys: &'a [Field],
@@ -70,7 +70,7 @@ struct Look<'a> {
 }
 
 impl UnreadKeys {
-    /// None yet.
+    /// Returns an empty list of keys.
     fn new(alloc: Global) -> UnreadKeys
         ensures first { result.first ≡ None }
     {
@@ -93,7 +93,7 @@ impl UnreadKeys {
         Ok(())
     }
 
-    /// Adds the keys of an object that nothing reads.
+    /// Adds the keys of an object that are not read.
     fn add_members(
         &mut self,
         alloc: Global,
@@ -112,7 +112,7 @@ impl UnreadKeys {
         Ok(())
     }
 
-    /// Adds the keys of a value, where it is an object, that nothing reads.
+    /// Adds the keys of a value that are not read, if it is an object.
     fn add_here(&mut self, alloc: Global, look: &Look<'_>, value: &Value) -> Result<(), NoMemory>
         ensures first { OnOk result (self.new.first ≡ or_later self.old.first
             (first_along look.now.keys.now [] look.now.event (view value.now))) }
@@ -123,7 +123,7 @@ impl UnreadKeys {
         }
     }
 
-    /// Adds the keys of the objects at the end of these steps that nothing reads.
+    /// Adds the keys that are not read of the objects at the end of these steps.
     #[cycle(along)]
     fn add_along(
         &mut self,
@@ -145,7 +145,7 @@ impl UnreadKeys {
         }
     }
 
-    /// The same from what a value has at a key.
+    /// Does the same from the value of a key.
     #[cycle(along)]
     fn add_at(
         &mut self,
@@ -170,7 +170,7 @@ impl UnreadKeys {
         self.add_along(alloc, &look, steps, inner)
     }
 
-    /// The same from each item of a list.
+    /// Does the same from each item of a list.
     #[cycle(along)]
     fn add_each(
         &mut self,
@@ -194,7 +194,7 @@ impl UnreadKeys {
         Ok(())
     }
 
-    /// The same from the plan of each event that offers one.
+    /// Does the same from the plan of each event that offers one.
     #[cycle(along)]
     fn add_offered(
         &mut self,
@@ -222,7 +222,7 @@ impl UnreadKeys {
         Ok(())
     }
 
-    /// The same of objects of one kind of an input.
+    /// Does the same for the objects of one kind of an input.
     fn add_objects(
         &mut self,
         alloc: Global,
@@ -242,7 +242,7 @@ impl UnreadKeys {
     }
 }
 
-/// The note of a key that nothing reads.
+/// Returns the note about a key that is not read.
 fn note(alloc: Global, look: &Look<'_>, key: &str) -> Result<String, NoMemory> {
     let mut note = String::new(alloc);
     let place = ShownPath { keys: look.path };
@@ -261,12 +261,12 @@ fn note(alloc: Global, look: &Look<'_>, key: &str) -> Result<String, NoMemory> {
     Ok(note)
 }
 
-/// Whether a key is the charge of a link of version 1, which has needs.
+/// Returns whether a key is the charge of a link of version 1, which has needs.
 fn is_of_version_2(keys: &[Field], key: &str) -> bool {
     key == Field::Charge.name() && is_read(keys, Field::Needs.name())
 }
 
-/// The names of keys.
+/// Returns the names of keys.
 fn names(alloc: Global, keys: &[Field]) -> Result<Vec<&'static str>, NoMemory> {
     let mut names = Vec::new(alloc);
     for key in keys {
@@ -275,7 +275,7 @@ fn names(alloc: Global, keys: &[Field]) -> Result<Vec<&'static str>, NoMemory> {
     Ok(names)
 }
 
-/// A key behind a path, in brackets where it is no name.
+/// Appends a key to a path, in brackets if it is not a plain name.
 fn push_key(alloc: Global, text: &mut String, is_first: bool, key: &str) -> Result<(), NoMemory> {
     if !is_plain(key) {
         let quoted = Value::String(String::from_str(alloc, key)?);
@@ -289,7 +289,7 @@ fn push_key(alloc: Global, text: &mut String, is_first: bool, key: &str) -> Resu
     Ok(())
 }
 
-/// Whether a key has letters, digits, `_` and `-` alone.
+/// Returns whether a key consists only of letters, digits, `_` and `-`.
 pub(crate) fn is_plain(key: &str) -> bool {
     for byte in key.as_bytes() {
         if !byte.is_ascii_alphanumeric() && *byte != b'_' && *byte != b'-' {
@@ -299,7 +299,7 @@ pub(crate) fn is_plain(key: &str) -> bool {
     !key.is_empty()
 }
 
-/// The version of an input, which says whether charges are read.
+/// Returns the version of an input, which says whether charges are read.
 pub(crate) fn version_of_input(form: InputForm, value: &Value) -> Result<Version, NoMemory>
     ensures value { IfOk result (λ v. v ≡ version_in form (view value.now)) }
 {
@@ -311,7 +311,7 @@ pub(crate) fn version_of_input(form: InputForm, value: &Value) -> Result<Version
 }
 
 impl UnreadKeys {
-    /// Adds the keys of a script that nothing reads.
+    /// Adds the keys of a script that are not read.
     fn add_script(
         &mut self,
         alloc: Global,
@@ -341,7 +341,7 @@ impl UnreadKeys {
         Ok(())
     }
 
-    /// Adds the keys of a problem that nothing reads.
+    /// Adds the keys of a problem that are not read.
     fn add_problem(
         &mut self,
         alloc: Global,
@@ -356,7 +356,7 @@ impl UnreadKeys {
         self.add_objects(alloc, &[links, Reach::Each], row_keys(version), problem)
     }
 
-    /// Adds the keys of a problem and a plan that nothing reads.
+    /// Adds the keys of a problem and a plan that are not read.
     fn add_claim(&mut self, alloc: Global, version: Version, claim: &Value) -> Result<(), NoMemory>
         ensures first { OnOk result (self.new.first ≡ or_later self.old.first
             (first_of (claim_objects version) (view claim.now))) }
@@ -374,7 +374,7 @@ impl UnreadKeys {
         self.add_objects(alloc, &[plan], PLAN_KEYS, claim)
     }
 
-    /// Adds the keys of an input that nothing reads.
+    /// Adds the keys of an input that are not read.
     fn add_input(
         &mut self,
         alloc: Global,
@@ -393,10 +393,10 @@ impl UnreadKeys {
     }
 }
 
-/// The keys of a JSON value that nothing reads, where it is read as a form.
+/// Returns the keys of a JSON value that are not read when it is read as a form.
 ///
-/// A part of it that is of another form than the one that is read there has none. Fails only if
-/// memory runs out.
+/// A part that is not of the form that is read there counts as having none. Fails only if memory
+/// runs out.
 pub fn unread_keys(alloc: Global, form: InputForm, value: &Value) -> Result<UnreadKeys, NoMemory>
     ensures first { IfOk result (λ unread. unread.first ≡ first_unread_in form (view value.now)) }
 {

@@ -1,4 +1,4 @@
-//! Parts of a value of JSON that may be there or not.
+//! Parts of a JSON value that may be missing.
 ghost use Rattle.std.specs.Prelude.{◌≡◌, map, option_map, IfOk};
 ghost use Rattle.serde_json.specs.View.{view};
 ghost use Rattle.mh_explain.specs.Unread.{items_in, version_at};
@@ -10,7 +10,7 @@ use mh_site::Version;
 use serde_json::Value;
 use std::alloc::Global;
 
-/// The items of an array, and none of any other value.
+/// Returns the items of an array, or none for any other value.
 pub(crate) fn items(value: &Value) -> &[Value]
     ensures value { map view result.now ≡ items_in (view value.now) }
 {
@@ -20,7 +20,7 @@ pub(crate) fn items(value: &Value) -> &[Value]
     }
 }
 
-/// The items of what a value has at a key.
+/// Returns the items of the value of a key.
 pub(crate) fn items_at(value: &Value, field: Field) -> &[Value] {
     match value.get(field.name()) {
         Some(list) => items(list),
@@ -28,7 +28,7 @@ pub(crate) fn items_at(value: &Value, field: Field) -> &[Value] {
     }
 }
 
-/// What stands at the end of a path.
+/// Returns the value at the end of a path.
 pub(crate) fn value_at<'a>(value: &'a Value, path: &[Key]) -> Option<&'a Value> {
     let mut value = value;
     for key in path {
@@ -40,7 +40,7 @@ pub(crate) fn value_at<'a>(value: &'a Value, path: &[Key]) -> Option<&'a Value> 
     Some(value)
 }
 
-/// The version of an object that may be there: 2 where none is read.
+/// Returns the version of an object that may be missing, or 2 if none is read.
 pub(crate) fn version_of(object: Option<&Value>) -> Result<Version, NoMemory>
     ensures value { IfOk result (λ v. v ≡ version_at (option_map (λ v. view v.now) object.entry)) }
 {
@@ -59,7 +59,7 @@ pub(crate) fn version_of(object: Option<&Value>) -> Result<Version, NoMemory>
     }
 }
 
-/// What was read, where it has no fault.
+/// Returns the value that was read, if it has no fault.
 pub(crate) fn known<T: Drop>(read: Result<T, Misread>) -> Result<Option<T>, NoMemory> {
     match read {
         Ok(value) => Ok(Some(value)),
@@ -70,7 +70,7 @@ pub(crate) fn known<T: Drop>(read: Result<T, Misread>) -> Result<Option<T>, NoMe
     }
 }
 
-/// Adds the names that stand behind a word in a tree.
+/// Adds the names that follow a word in a tree.
 fn push_named<'a>(names: &mut Vec<&'a str>, word: &str, tree: &'a Value) -> Result<(), NoMemory> {
     let Value::Array(items) = tree else {
         return Ok(());
@@ -88,7 +88,7 @@ fn push_named<'a>(names: &mut Vec<&'a str>, word: &str, tree: &'a Value) -> Resu
     Ok(())
 }
 
-/// The names that stand behind a word in a tree.
+/// Returns the names that follow a word in a tree.
 pub(crate) fn named_behind<'a>(
     alloc: Global,
     word: &str,

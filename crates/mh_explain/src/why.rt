@@ -1,4 +1,4 @@
-//! Why a part of an input has a fault, in a sentence.
+//! Explanations of why a part of an input has a fault, in a sentence.
 mod definitions;
 mod events;
 mod forms;
@@ -16,7 +16,7 @@ use mh_base::NoMemory;
 use mh_json::InputFault;
 use std::alloc::Global;
 
-/// The sentence for a fault that this part of an input has.
+/// Returns the sentence that explains a fault of this part of an input.
 pub(crate) fn why(alloc: Global, fault: InputFault, spot: &Spot<'_>) -> Result<String, NoMemory> {
     match fault {
         InputFault::BadShape | InputFault::BadValue => shapes::why_other(alloc, spot),

@@ -1,4 +1,4 @@
-//! Words that several sentences have.
+//! Words and phrases of several sentences.
 ghost use Rattle.std.specs.Prelude.{◌≡◌, IfOk, string_bytes};
 ghost use Rattle.serde_json.specs.Data.{string};
 ghost use Rattle.serde_json.specs.Written.{compact_text};
@@ -9,7 +9,7 @@ use mh_base::NoMemory;
 use serde_json::Value;
 use std::alloc::Global;
 
-/// A text as a string of JSON.
+/// Returns a text as a JSON string.
 ///
 /// Fails only if memory runs out.
 pub fn quoted(alloc: Global, text: &str) -> Result<String, NoMemory>
@@ -19,7 +19,7 @@ pub fn quoted(alloc: Global, text: &str) -> Result<String, NoMemory>
     Ok(value.to_string(alloc)?)
 }
 
-/// The form of a value of JSON.
+/// Returns the name of the form of a JSON value.
 pub(crate) fn kind_word(value: &Value) -> &'static str {
     match value {
         Value::Null => "null",
@@ -32,7 +32,7 @@ pub(crate) fn kind_word(value: &Value) -> &'static str {
     }
 }
 
-/// That a part of another form is wanted.
+/// Explains that a part of another form is expected.
 pub(crate) fn wanted(alloc: Global, what: &str, value: &Value) -> Result<String, NoMemory> {
     if let Value::Number(number) = value {
         return Ok(format!(in alloc; "{what} is wanted here, and this is {number}")?);
@@ -41,7 +41,8 @@ pub(crate) fn wanted(alloc: Global, what: &str, value: &Value) -> Result<String,
     Ok(format!(in alloc; "{what} is wanted here, and this is {kind}")?)
 }
 
-/// The question whether a name that is near is meant, or which names there are of such things.
+/// Returns the question of whether a similar name is meant, or the list of the names of such
+/// things.
 pub(crate) fn meant(
     alloc: Global,
     name: &str,
@@ -62,7 +63,7 @@ pub(crate) fn meant(
     }
 }
 
-/// Names with commas between them.
+/// Returns names with commas between them.
 fn listed(alloc: Global, names: &[&str]) -> Result<String, NoMemory> {
     let mut text = String::new(alloc);
     for name in names {
@@ -74,7 +75,8 @@ fn listed(alloc: Global, names: &[&str]) -> Result<String, NoMemory> {
     Ok(text)
 }
 
-/// The question whether a word that is near is meant, or all that are known, which do or are this.
+/// Returns the question of whether a similar word is meant, or the list of all known words,
+/// followed by `do_this`.
 pub(crate) fn meant_of(
     alloc: Global,
     word: &str,
@@ -87,7 +89,7 @@ pub(crate) fn meant_of(
     }
 }
 
-/// A count and its noun.
+/// Returns a count and its noun.
 pub(crate) fn counted(
     alloc: Global,
     count: usize,
@@ -98,7 +100,7 @@ pub(crate) fn counted(
     Ok(format!(in alloc; "{count} {noun}")?)
 }
 
-/// Which numbers there are of a thing: `the points are 0 to 2`.
+/// Returns the numbers that things of a sort have: `the points are 0 to 2`.
 pub(crate) fn numbered(
     alloc: Global,
     count: usize,
@@ -113,7 +115,7 @@ pub(crate) fn numbered(
     })
 }
 
-/// The words of a text, between spaces.
+/// Returns the words of a text, between spaces.
 pub(crate) fn words_of<'a>(alloc: Global, text: &'a str) -> Result<Vec<&'a str>, NoMemory> {
     let mut words = Vec::new(alloc);
     for word in text.split(' ') {
@@ -122,7 +124,8 @@ pub(crate) fn words_of<'a>(alloc: Global, text: &'a str) -> Result<Vec<&'a str>,
     Ok(words)
 }
 
-/// Bytes as text, with `?` for each that is no printable ASCII, and `nothing` for none.
+/// Returns bytes as text, with `?` for each that is not printable ASCII, or `nothing` if there are
+/// none.
 pub(crate) fn printable(alloc: Global, bytes: &[u8]) -> Result<String, NoMemory> {
     if bytes.is_empty() {
         return Ok(String::from_str(alloc, "nothing")?);
@@ -138,7 +141,7 @@ pub(crate) fn printable(alloc: Global, bytes: &[u8]) -> Result<String, NoMemory>
     Ok(text)
 }
 
-/// That a word is no kind, and what is one.
+/// Explains that a word is not a kind, and what the kinds are.
 pub(crate) fn why_no_kind(alloc: Global, word: &str) -> Result<String, NoMemory> {
     if word.is_empty() {
         return Ok(String::from_str(
@@ -154,7 +157,7 @@ pub(crate) fn why_no_kind(alloc: Global, word: &str) -> Result<String, NoMemory>
     })
 }
 
-/// That there are more of a thing than a version allows, and how many version 2 does.
+/// Explains that there are more of a thing than a version allows, and how many version 2 allows.
 pub(crate) fn why_too_many(
     alloc: Global,
     what: &str,

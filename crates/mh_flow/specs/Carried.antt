@@ -1,4 +1,4 @@
--- What rows carry, by link, by point and together.
+-- The sums of rows, by link, by point and together.
 use Rattle.std.specs.Prelude.{ℕ, List}
 use Rattle.std.specs.List.{sum_by, slice_index_or}
 use Rattle.mh_network.specs.Sums.{amount_at}

@@ -18,8 +18,8 @@ IsNode a (link j) = j < length a.problem.links
 IsNode a (point p) = p < length a.problem.costs
 IsNode a sink = Unit {0}
 
--- a residual edge: to a link with spare gain, to a point that a link needs, back to a link that carries something
--- to a point, and to the sink from a point with spare cost and from a link with spare charge
+-- a residual edge: to a link with spare gain, to a point that a link needs, back to a link that carries something to a point, and to the
+-- sink from a point with spare cost and from a link with spare charge
 abbrev pub IsResidual : LayerData → Node → Node → Type 0
 IsResidual a source (link j) = 0 < number_at a.gain_left j
 IsResidual a (link j) (point p) = needs_point a.problem j p ≡ true
@@ -39,7 +39,7 @@ level_of a (link j) = number_at a.links j
 level_of a (point p) = number_at a.points p
 level_of a sink = a.sink
 
--- the level of each node is its distance from the source; a node that is not reached has the level `far`, which no distance is
+-- the level of each node is its distance from the source; that of a node that is not reached is `far`, greater than each distance
 pub record AreDistances (a : LayerData) : Type 0 where
   pub least : (n : ℕ) (v : Node) → Reaches a n v → (level_of a v ≤ n) × (level_of a v < far)
   pub reached : (v : Node) → IsNode a v → level_of a v < far → Reaches a (level_of a v) v

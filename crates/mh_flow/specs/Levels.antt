@@ -1,11 +1,11 @@
--- Levels: how near the source each link and point is.
+-- Levels: the distances of links and points from the source.
 use Rattle.std.specs.Prelude.{ℕ, ◌+◌, ◌≡◌, ◌≤◌, ◌<◌, List, length, ◌⊎◌}
 use Rattle.std.specs.Prelude.{count_by, nat_lt}
 use Rattle.std.specs.List.{All}
 use Rattle.mh_flow.specs.declared.need_row.NeedRow.{NeedRow}
 use Rattle.mh_flow.specs.Carried.{row_at, number_at}
 
--- the level of what is not reached
+-- the level of a node that is not reached
 abbrev pub far : ℕ
 far = 4294967295
 

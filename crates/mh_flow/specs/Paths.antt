@@ -1,4 +1,4 @@
--- Paths up the levels, and what a push along one changes (Dinitz 1970).
+-- Paths up the levels, and the effect of a push along one (Dinitz 1970).
 use Rattle.std.specs.Prelude.{ℕ, ◌+◌, ◌≡◌, ◌≤◌, ◌<◌, List, [], ◌∷◌, cond, ◌==◌, length, map, min}
 use Rattle.std.specs.List.{All, sum_by}
 use Rattle.mh_flow.specs.declared.need_row.NeedRow.{NeedRow}
@@ -24,8 +24,8 @@ pub record IsFirst (rows : List NeedRow) (gain_left : List ℕ) (links points : 
   pub start : links (row_at rows first).link ≡ 1
   pub some : 0 < number_at gain_left (row_at rows first).link
 
--- a path from the source to point p, kept from p on: turns, and the row over which it begins. Each edge has room
--- and leads from one level to the next.
+-- a path from the source to point p, stored from p on: turns, and the row over which it begins. Each edge has residual capacity and leads
+-- from one level to the next.
 abbrev pub IsPath : List NeedRow → List ℕ → (ℕ → ℕ) → (ℕ → ℕ) → ℕ → List Turn → ℕ → Type 0
 IsPath rows gain_left links points p [] first = IsFirst rows gain_left links points p first
 IsPath rows gain_left links points p (turn ∷ rest) first =
@@ -36,8 +36,8 @@ abbrev pub least_of : ℕ → List ℕ → ℕ
 least_of n [] = n
 least_of n (m ∷ rest) = least_of (min n m) rest
 
--- what the edges of a path leave, where `limit` is left of the edge to the sink: from the source what is left of the gain,
--- and back over each row what that carries
+-- the residual capacity of a path, if `limit` is left of the edge to the sink: from the source what is left of the gain, and back over each
+-- row the amount that it carries
 abbrev pub room : List NeedRow → List ℕ → ℕ → List Turn → ℕ → ℕ
 room rows gain_left limit turns first =
     least_of (min limit (number_at gain_left (row_at rows first).link)) (map (λ t. (row_at rows t.back).amount) turns)
@@ -63,11 +63,11 @@ pub record IsPushed (old new : List NeedRow) (old_left new_left : List ℕ) (lin
   pub out : (j : ℕ) → number_at new_left j + out_of_link new j ≡ number_at old_left j + out_of_link old j
   pub value : carried new ≡ carried old + d
 
--- d for each time that k stands in a list
+-- d for each time that k is in a list
 abbrev pub times : ℕ → ℕ → List ℕ → ℕ
 times d k xs = sum_by (λ x. cond (x == k) d 0) xs
 
--- d more units go forth over the rows of a path and are taken back over others; no other row carries more or less than before
+-- d more units go forth over the rows of a path and are taken back over others; the amounts of other rows do not change
 abbrev pub IsSent : List NeedRow → List NeedRow → List Turn → ℕ → ℕ → Type 0
 IsSent old new turns first d = (k : ℕ) →
     (row_at new k).amount + times d k (map (λ t. t.back) turns) ≡ (row_at old k).amount + times d k (first ∷ map (λ t. t.forth) turns)
@@ -76,7 +76,7 @@ pub record IsWithin (rows : List NeedRow) (gain_left : List ℕ) : Type 0 where
   pub links : All (λ r. r.link < length gain_left) rows
   pub gains : (j : ℕ) → number_at gain_left j + out_of_link rows j ≤ greatest_sum
 
--- amount of what row `back` carries goes to row `forth`, of the same link
+-- part of the amount of row `back` goes to row `forth`, of the same link
 pub record IsMoved (old new : List NeedRow) (back forth amount : ℕ) : Type 0 where
   pub length : length new ≡ length old
   pub places : (k : ℕ) → IsSameRow (row_at new k) (row_at old k)

@@ -1,4 +1,4 @@
--- What a run does, phase after phase (Dinitz 1970).
+-- The course of a run, phase after phase (Dinitz 1970).
 use Rattle.std.specs.Prelude.{ℕ, zero, suc, ◌+◌, ◌-◌, ◌≡◌, ◌≤◌, ◌<◌, List, slice_set}
 use Rattle.mh_network.specs.Problems.{ProblemData}
 use Rattle.mh_flow.specs.declared.path.Turn.{Turn}
@@ -14,12 +14,12 @@ use Rattle.mh_flow.specs.Run.{positive_rows}
 abbrev pub IsUpward : LayerData → ℕ → List Turn → ℕ → Type 0
 IsUpward a p turns first = IsPath a.rows a.gain_left (number_at a.links) (number_at a.points) p turns first
 
--- what the edges of a path to point p and from there to the sink leave
+-- the residual capacity of a path to point p and from there to the sink
 abbrev pub path_room : LayerData → ℕ → List Turn → ℕ → ℕ
 path_room a p turns first = room a.rows a.gain_left (number_at a.cost_left p) turns first
 
--- what the edges of a path leave went along it: its rows changed, what is left of the gain of its first link, and what is
--- left of the cost of its point
+-- the residual capacity of a path went along it: its rows changed, what is left of the gain of its first link, and what is left of the cost
+-- of its point
 pub record IsSentAlong (a b : LayerData) (p : ℕ) (turns : List Turn) (first : ℕ) : Type 0 where
   pub pushed : IsPathPushed a b p
   pub least : carried b.rows ≡ carried a.rows + path_room a p turns first
@@ -40,12 +40,12 @@ abbrev pub Pushes : ℕ → LayerData → LayerData → Type 0
 Pushes zero a b = a ≡ b
 Pushes (suc n) a c = (b : LayerData) × Pushes n a b × IsPush b c
 
--- levels over the flow that stands
+-- levels over the current flow
 pub record AreBuilt (a b : LayerData) : Type 0 where
   pub flow : IsSameFlow b a
   pub distances : AreDistances b
 
--- a phase: levels by which the sink is reached, and a push or more along them, which leave no path up them
+-- a phase: levels by which the sink is reached, and one or more pushes along them, which leave no path up them
 pub record IsPhased (a c : LayerData) : Type 0 where
   pub layered : LayerData
   pub built : AreBuilt a layered
@@ -59,13 +59,13 @@ abbrev pub Phases : ℕ → LayerData → LayerData → Type 0
 Phases zero a b = a ≡ b
 Phases (suc n) a c = (b : LayerData) × Phases n a b × IsPhased b c
 
--- a run of P before its first phase: no need carries anything, and each link has paid of its charge what its gain allows
+-- a run of P before its first phase: no need carries anything, and each link has paid as much of its charge as its gain allows
 pub record IsBegun (P : ProblemData) (a : LayerData) : Type 0 where
   pub problem : a.problem ≡ P
   pub kept : IsLayerRun a
   pub idle : carried a.rows ≡ 0
 
--- what a run of P gives: phases, until levels are built by which the sink is not reached. Those count as a phase too.
+-- the result of a run of P: phases, until levels are built by which the sink is not reached. Those count as a phase, too.
 pub record IsRunOf (P : ProblemData) (run : FlowData) : Type 0 where
   pub start : LayerData
   pub begun : IsBegun P start

@@ -1,4 +1,4 @@
-//! A blocking flow: pushes along paths up the levels until none is left (Dinitz 1970).
+//! Blocking flows: pushes along paths up the levels until none is left (Dinitz 1970).
 
 ghost use Rattle.std.specs.Prelude.{◌<◌, ℕ, OnOk};
 ghost use Rattle.mh_flow.specs.LayerData.{IsLayerRun};

@@ -1,4 +1,4 @@
-//! The places of keys in a list, by key.
+//! The indices of keys in a list, by key.
 
 ghost use Rattle.std.specs.Prelude.{◌<◌, All, IfOk, length};
 ghost use Rattle.mh_flow.specs.Carried.{number_at};
@@ -7,17 +7,17 @@ ghost use Rattle.mh_flow.specs.Chains.{IsChained};
 use mh_base::NoMemory;
 use std::alloc::Global;
 
-/// For each key its places, from the last to the first. A place is kept as one more than its
-/// number, and 0 is none.
+/// The indices of each key, from the last to the first. An index is stored plus one, and 0 means
+/// that there is none.
 #[derive(Drop)]
 pub(crate) struct Chain {
-    /// For each key its last place.
+    /// For each key, its last index.
     pub(crate) last: Vec<usize>,
-    /// For each number the place before it that has the same key.
+    /// For each index, the index before it that has the same key.
     pub(crate) before: Vec<usize>,
 }
 
-/// The places of each key below `count`.
+/// Returns the indices of each key below `count`.
 pub(crate) fn chain_of(alloc: Global, keys: &[u32], count: usize) -> Result<Chain, NoMemory>
     requires inside { All (λ k. k < count) keys.now }
     ensures value { IfOk result (λ c. IsChained (number_at keys.now)

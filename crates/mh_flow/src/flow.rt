@@ -1,4 +1,4 @@
-//! The greatest flow.
+//! Maximum flows.
 
 ghost use Rattle.std.specs.Prelude.{◌≡◌, ◌≤◌, ◌<◌, ◌+◌, ◌+ℤ◌, ◌↔◌, [], pos, length, All, AllPairs, IfOk};
 ghost use Rattle.std.specs.List.Sorted.{IsStrictlyIncreasing};
@@ -12,10 +12,11 @@ use mh_base::NoMemory;
 use mh_network::{Problem, cuts_are_least, needs_are_of_links};
 use std::alloc::Global;
 
-/// A greatest flow of a problem, and the links that its source still reaches, ascending, which are
-/// the least best links (Picard 1976). The rows are positive amounts by link and then point, the
-/// charges positive amounts by link. One phase where no need carries anything, else more, and at
-/// most two more than there are links and points.
+/// Computes a maximum flow of a problem, using level graphs and blocking flows (Dinic's algorithm),
+/// and the links that its source still reaches, ascending, which are the least best links (Picard
+/// 1976). The rows are positive amounts by link and then point, the charges positive amounts by
+/// link. It takes one phase if no need carries anything, otherwise more, and at most two more than
+/// there are links and points.
 ///
 /// Fails only if an allocation is refused.
 pub fn max_flow(alloc: Global, problem: &Problem) -> Result<FlowRun, NoMemory>

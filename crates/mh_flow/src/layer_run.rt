@@ -1,4 +1,4 @@
-//! A run of the flow.
+//! Runs of the flow.
 
 ghost use Rattle.std.specs.Prelude.{◌≡◌, ◌<◌, ◌+◌, ◌^◌, ◌↔◌, length, ℕ, IfOk, OnOk, OnErr, IsTrue, MatchBool};
 ghost use Rattle.std.specs.List.Sorted.{IsStrictlyIncreasing};
@@ -55,14 +55,14 @@ impl<'p> Model for LayerRun<'p> {
     ghost invariant = { IsKept };
 }
 
-/// How many phases it took so far.
+/// Shows the number of phases so far.
 impl<'p> fmt::Debug for LayerRun<'p> {
     fn fmt<W: fmt::Write>(&self, f: &mut fmt::Formatter<W>) -> fmt::Result {
         write!(f, "LayerRun({} phases)", self.phases)
     }
 }
 
-/// A greatest flow, the links that its source reaches, and the phases that it took.
+/// A maximum flow, the links that its source reaches, and the number of phases that it took.
 #[derive(Debug, Drop)]
 pub struct FlowRun {
     rows: Vec<(u32, u32, u64)>,
@@ -85,28 +85,28 @@ impl Model for FlowRun {
 }
 
 impl FlowRun {
-    /// The amounts that the flow carries from a link to a point, where there are any.
+    /// Returns the positive amounts that the flow carries from a link to a point.
     pub fn rows(&self) -> &[(u32, u32, u64)]
         ensures value { result.now ≡ self.now.rows }
     {
         self.rows.as_slice()
     }
 
-    /// The amounts that links pay of their charges, where there are any.
+    /// Returns the positive amounts that links pay of their charges.
     pub fn charges(&self) -> &[(u32, u64)]
         ensures value { result.now ≡ self.now.charges }
     {
         self.charges.as_slice()
     }
 
-    /// The links that the source reaches, ascending.
+    /// Returns the links that the source reaches, ascending.
     pub fn reached(&self) -> &[u32]
         ensures value { result.now ≡ self.now.reached }
     {
         self.reached.as_slice()
     }
 
-    /// How often levels were built.
+    /// Returns how often levels were built.
     pub fn phases(&self) -> u64
         ensures value { result ≡ self.now.phases }
     {
@@ -115,8 +115,8 @@ impl FlowRun {
 }
 
 impl<'p> LayerRun<'p> {
-    /// A run in which each link pays of its charge what its gain allows, and nothing else, with no
-    /// level built.
+    /// Returns a run in which each link pays as much of its charge as its gain allows, and nothing
+    /// else, with no level built.
     pub fn new(alloc: Global, problem: &'p Problem) -> Result<LayerRun<'p>, NoMemory>
         ensures problem { IfOk result (λ run. run.problem ≡ problem.now) }
         ensures levels { IfOk result HasNoLevels }
@@ -147,8 +147,8 @@ impl<'p> LayerRun<'p> {
         })
     }
 
-    /// Builds the level of each link and point and of the sink, its distance from the source over
-    /// edges with room left, and counts one phase more.
+    /// Builds the level of each link and point and of the sink, which is its distance from the
+    /// source over edges with residual capacity, and counts one more phase.
     pub fn build_levels(&mut self) -> Result<(), NoMemory>
         requires count { self.old.phases + 1 < 2 ^ 64 }
         ensures distances { OnOk result (AreDistances self.new) }
@@ -174,15 +174,15 @@ impl<'p> LayerRun<'p> {
         Ok(())
     }
 
-    /// Whether the sink has a level.
+    /// Returns whether the sink has a level.
     pub fn reaches_sink(&self) -> bool
         ensures value { IsTrue result ↔ (self.now.sink < far) }
     {
         self.sink < UNREACHED
     }
 
-    /// Pushes along a path the least of what its edges leave, which changes the rows of the path and
-    /// no other.
+    /// Pushes the least residual capacity of a path's edges along the path, which changes only the
+    /// rows of the path.
     pub fn push_path(&mut self, path: &Path)
         requires path { IsPath self.old.rows self.old.gain_left (number_at self.old.links)
             (number_at self.old.points) path.now.point path.now.turns.items path.now.first }
@@ -210,7 +210,7 @@ impl<'p> LayerRun<'p> {
         self.cost_left[path.point] -= amount;
     }
 
-    /// The flow, the links that have a level, ascending, and the count of phases.
+    /// Returns the flow, the links that have a level, ascending, and the number of phases.
     pub fn finish(self) -> Result<FlowRun, NoMemory>
         ensures rows { IfOk result (λ run. run.rows ≡ positive_rows self.entry.rows) }
         ensures charges { IfOk result (λ run. run.charges ≡ paid_charges self.entry.problem) }
@@ -227,7 +227,7 @@ impl<'p> LayerRun<'p> {
         })
     }
 
-    /// The number of points.
+    /// Returns the number of points.
     pub(crate) fn points(&self) -> usize
         ensures count { result ≡ length self.now.points }
         ensures kept { IsLayerRun self.now }
@@ -235,7 +235,8 @@ impl<'p> LayerRun<'p> {
         self.points.len()
     }
 
-    /// Whether a point has room and its edge to the sink leads to the next level.
+    /// Returns whether a point has residual capacity and its edge to the sink leads to the next
+    /// level.
     pub(crate) fn is_end(&self, point: usize) -> bool
         requires inside { point < length self.now.points }
         ensures value { IsTrue result ↔ IsEnd self.now point }
@@ -245,7 +246,7 @@ impl<'p> LayerRun<'p> {
             && self.cost_left[point] > 0
     }
 
-    /// The last row of each link and each point, from which a phase begins.
+    /// Returns the last row of each link and each point, from which a phase begins.
     pub(crate) fn places(&self) -> Result<Places, NoMemory>
         ensures spent { IfOk result (λ p. IsSpent self.now.rows self.now.gain_left self.now.links
             self.now.points p.links.items p.points.items) }
@@ -257,7 +258,7 @@ impl<'p> LayerRun<'p> {
         })
     }
 
-    /// An empty path to the first point.
+    /// Returns an empty path to the first point.
     pub(crate) fn path(&self) -> Path {
         Path {
             point: 0,
@@ -266,7 +267,7 @@ impl<'p> LayerRun<'p> {
         }
     }
 
-    /// Finds a path to the path's point; false where none is left.
+    /// Finds a path to the path's point, and returns whether there is one.
     pub(crate) fn search(&self, places: &mut Places, path: &mut Path) -> Result<bool, NoMemory>
         requires phase { IsPhase self.now.rows self.now.gain_left self.now.links self.now.points }
         requires spent { IsSpent self.now.rows self.now.gain_left self.now.links self.now.points

@@ -16,7 +16,8 @@ use std::alloc::Global;
 /// The level of a node that is not reached.
 pub(crate) const UNREACHED: u32 = u32::MAX;
 
-/// Lowers a level to one more than that of a neighbour, if it is above that.
+/// Lowers a level to one more than that of a neighbour, if it is above that, and returns whether it
+/// did.
 fn lower(levels: &mut [u32], at: usize, from: u32) -> bool
     requires { at < length levels.old }
     ensures cases { MatchBool result ((from + 1 < far) × (from + 1 < number_at levels.old at)
@@ -31,7 +32,8 @@ fn lower(levels: &mut [u32], at: usize, from: u32) -> bool
     }
 }
 
-/// Lowers the level of the point of a row.
+/// Lowers the level of the point of a row to one more than that of its link, if it is above that,
+/// and returns whether it did.
 fn settle_point(
     rows: &[NeedRow],
     at: usize,
@@ -53,7 +55,8 @@ fn settle_point(
     lower(points, row.point as usize, links[row.link as usize])
 }
 
-/// Lowers the level of the link of a row.
+/// Lowers the level of the link of a row that carries something to one more than that of its point,
+/// if it is above that, and returns whether it did.
 fn settle_link(
     rows: &[NeedRow],
     at: usize,
@@ -75,7 +78,7 @@ fn settle_link(
     row.amount > 0 && lower(links, row.link as usize, points[row.point as usize])
 }
 
-/// Lowers the levels of the points of a link's rows, and lists those points.
+/// Lowers the levels of the points of a link's rows, and appends those points to `lowered`.
 fn spread_link(
     rows: &[NeedRow],
     index: &RowIndex,
@@ -104,7 +107,8 @@ fn spread_link(
     Ok(())
 }
 
-/// Lowers the levels of the links of a point's rows that carry something, and lists those links.
+/// Lowers the levels of the links of a point's rows that carry something, and appends those links
+/// to `lowered`.
 fn spread_point(
     rows: &[NeedRow],
     index: &RowIndex,
@@ -133,8 +137,8 @@ fn spread_point(
     Ok(())
 }
 
-/// Lowers the levels of the points of all rows, in the order in which these lie, and lists those
-/// points.
+/// Lowers the levels of the points of all rows, in the order in which the rows are stored, and
+/// returns those points.
 fn sweep_points(
     alloc: Global,
     rows: &[NeedRow],
@@ -156,8 +160,8 @@ fn sweep_points(
     Ok(lowered)
 }
 
-/// Lowers the levels of the links of all rows that carry something, in the order in which these
-/// lie, and lists those links.
+/// Lowers the levels of the links of all rows that carry something, in the order in which the rows
+/// are stored, and returns those links.
 fn sweep_links(
     alloc: Global,
     rows: &[NeedRow],
@@ -179,7 +183,7 @@ fn sweep_links(
     Ok(lowered)
 }
 
-/// Lowers the levels of the points that the listed links need, and lists those points.
+/// Lowers the levels of the points that the listed links need, and returns those points.
 fn spread_links(
     alloc: Global,
     rows: &[NeedRow],
@@ -198,7 +202,7 @@ fn spread_links(
     ensures spread { IfOk result (λ lowered. IsSpread points.old points.new [] lowered.items) }
     ensures settled { OnOk result ((j : ℕ) → IsLinkSettled rows.now links.now points.new j) }
 {
-    // Rows that lie one after another are read faster than those that a chain leads to.
+    // Consecutive rows are read faster than those that a chain leads to.
     if from.len() > links.len() / 2 {
         return sweep_points(alloc, rows, gain_left, links, points);
     }
@@ -209,7 +213,8 @@ fn spread_links(
     Ok(lowered)
 }
 
-/// Lowers the levels of the links that carry something to the listed points, and lists those links.
+/// Lowers the levels of the links that carry something to the listed points, and returns those
+/// links.
 fn spread_points(
     alloc: Global,
     rows: &[NeedRow],
@@ -228,7 +233,7 @@ fn spread_points(
     ensures spread { IfOk result (λ lowered. IsSpread links.old links.new [] lowered.items) }
     ensures settled { OnOk result ((p : ℕ) → IsPointSettled rows.now links.new points.now p) }
 {
-    // Rows that lie one after another are read faster than those that a chain leads to.
+    // Consecutive rows are read faster than those that a chain leads to.
     if from.len() > points.len() / 2 {
         return sweep_links(alloc, rows, gain_left, links, points);
     }
@@ -239,8 +244,8 @@ fn spread_points(
     Ok(lowered)
 }
 
-/// Lowers levels, from the links of a front on, until no row leads up by more than one: first in,
-/// first out.
+/// Lowers levels, beginning with the links of a front, until no row leads up by more than one
+/// level: first in, first out.
 pub(crate) fn settle(
     alloc: Global,
     rows: &[NeedRow],
@@ -300,7 +305,7 @@ fn start_links(alloc: Global, gain_left: &[u64]) -> Result<Vec<usize>, NoMemory>
     Ok(front)
 }
 
-/// The level of each link and point that the source reaches.
+/// Returns the level of each link and point that the source reaches.
 #[tactic(auto, using(crate::proofs::Starts::spare_after))]
 pub(crate) fn levels_from(
     alloc: Global,
@@ -332,7 +337,7 @@ pub(crate) fn levels_from(
     Ok((links, points))
 }
 
-/// One more than the least level of a point with room.
+/// Returns one more than the least level of a point with residual capacity.
 pub(crate) fn sink_level(cost_left: &[u64], points: &[u32]) -> u32
     requires same { length cost_left.now ≡ length points.now }
     ensures value { IsSinkLevel cost_left.now points.now result }

@@ -1,5 +1,5 @@
-//! The greatest flow of a problem by levels and blocking flows (Dinitz 1970), and the links that
-//! its source reaches.
+//! Maximum flows of a problem by levels and blocking flows (Dinitz 1970), and the links that the
+//! source then reaches.
 //!
 //! ```
 //! let run = max_flow(alloc, &problem)?;

@@ -1,4 +1,4 @@
-//! What a run gives at its end.
+//! Results of a run.
 
 ghost use Rattle.std.specs.Prelude.{◌≡◌, ◌≤◌, ◌<◌, length, ℕ, IfOk};
 ghost use Rattle.std.specs.List.Sorted.{IsStrictlyIncreasing};
@@ -13,7 +13,7 @@ use mh_base::NoMemory;
 use mh_network::Problem;
 use std::alloc::Global;
 
-/// The rows that carry something.
+/// Returns the rows with a positive amount.
 pub(crate) fn positive(alloc: Global, rows: &[NeedRow]) -> Result<Vec<(u32, u32, u64)>, NoMemory>
     ensures { IfOk result (λ v. v.items ≡ positive_rows rows.now) }
 {
@@ -25,7 +25,7 @@ pub(crate) fn positive(alloc: Global, rows: &[NeedRow]) -> Result<Vec<(u32, u32,
     Ok(positive)
 }
 
-/// What a link pays of its charge: as much as its gain allows.
+/// Returns the amount that a link pays of its charge: as much as its gain allows.
 pub(crate) fn paid(problem: &Problem, link: usize) -> u64
     requires inside { link < length problem.now.links }
     ensures value { result ≡ paid_of problem.now link }
@@ -33,7 +33,7 @@ pub(crate) fn paid(problem: &Problem, link: usize) -> u64
     problem.gain(link).min(problem.charge(link))
 }
 
-/// What each link pays of its charge, where it pays anything.
+/// Returns the positive amounts that links pay of their charges.
 pub(crate) fn paid_charges(alloc: Global, problem: &Problem) -> Result<Vec<(u32, u64)>, NoMemory>
     ensures { IfOk result (λ v. v.items ≡ charges_paid problem.now) }
 {
@@ -47,7 +47,7 @@ pub(crate) fn paid_charges(alloc: Global, problem: &Problem) -> Result<Vec<(u32,
     Ok(charges)
 }
 
-/// The links that have a level, ascending.
+/// Returns the links that have a level, ascending.
 pub(crate) fn reached_links(alloc: Global, levels: &[u32]) -> Result<Vec<u32>, NoMemory>
     requires { length levels.now ≤ greatest_count }
     ensures members { IfOk result (λ v. (j : ℕ) → member v.items j ≡ is_reached levels.now j) }

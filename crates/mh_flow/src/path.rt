@@ -1,6 +1,7 @@
-//! Paths from the source to the sink, kept from their end.
+//! Paths from the source to the sink, stored from their end.
 
-/// Forth over one row of a link to a point, and back over another row of that link.
+/// A step of a path forth over one row of a link to a point, and back over another row of that
+/// link.
 #[derive(Clone, Copy, Debug)]
 pub struct Turn {
     /// The row that leads to the point, by number.
@@ -9,8 +10,8 @@ pub struct Turn {
     pub back: usize,
 }
 
-/// A path from the source to the sink, from its end: the last point, the turns down to the first
-/// link, and the row of that link over which it begins.
+/// A path from the source to the sink, stored from its end: the last point, the turns down to the
+/// first link, and the row of that link over which it begins.
 #[derive(Debug, Drop)]
 pub struct Path {
     /// The point from which the path goes to the sink.

@@ -1,4 +1,4 @@
-//! The rows of each link and of each point.
+//! Indices of the rows of each link and of each point.
 
 ghost use Rattle.std.specs.Prelude.{◌≡◌, ◌<◌, All, IfOk, map};
 ghost use Rattle.mh_flow.specs.LayerData.{IsIndexed};
@@ -8,7 +8,7 @@ use crate::need_row::NeedRow;
 use mh_base::NoMemory;
 use std::alloc::Global;
 
-/// The places of rows by their links, and by their points.
+/// The indices of rows by their links, and by their points.
 #[derive(Drop)]
 pub(crate) struct RowIndex {
     pub(crate) by_link: Chain,
@@ -16,7 +16,7 @@ pub(crate) struct RowIndex {
 }
 
 impl RowIndex {
-    /// The index of rows of links and points below two counts.
+    /// Returns the index of rows whose links and points are below two counts.
     pub(crate) fn new(
         alloc: Global,
         rows: &[NeedRow],
@@ -35,7 +35,7 @@ impl RowIndex {
     }
 }
 
-/// The link of each row.
+/// Returns the link of each row.
 fn links_of(alloc: Global, rows: &[NeedRow]) -> Result<Vec<u32>, NoMemory>
     ensures { IfOk result (λ keys. keys.items ≡ map (λ r. r.link) rows.now) }
 {
@@ -43,7 +43,7 @@ fn links_of(alloc: Global, rows: &[NeedRow]) -> Result<Vec<u32>, NoMemory>
     Ok(keys)
 }
 
-/// The point of each row.
+/// Returns the point of each row.
 fn points_of(alloc: Global, rows: &[NeedRow]) -> Result<Vec<u32>, NoMemory>
     ensures { IfOk result (λ keys. keys.items ≡ map (λ r. r.point) rows.now) }
 {

@@ -1,4 +1,4 @@
-//! The search of a path down the levels, which never looks again at a row that led nowhere.
+//! The search for a path down the levels, which never visits a row again that led nowhere.
 
 ghost use Rattle.std.specs.Prelude.{◌≡◌, ◌<◌, ◌≤◌, length, IfOk, OnOk, MatchOption};
 ghost use Rattle.mh_flow.specs.Carried.{number_at};
@@ -13,15 +13,15 @@ use crate::path::Turn;
 use crate::row_index::RowIndex;
 use mh_base::NoMemory;
 
-/// For each link and each point the place of the row that is to be tried next: one more than its
-/// number, and 0 where none is left.
+/// For each link and each point, the row to be tried next: one more than its number, or 0 if none
+/// is left.
 #[derive(Drop)]
 pub(crate) struct Places {
     pub(crate) links: Vec<usize>,
     pub(crate) points: Vec<usize>,
 }
 
-/// The point of a row.
+/// Returns the point of a row.
 fn point_of(rows: &[NeedRow], row: usize) -> usize
     requires inside { row < length rows.now }
     ensures value { result ≡ point_key rows.now row }
@@ -29,8 +29,8 @@ fn point_of(rows: &[NeedRow], row: usize) -> usize
     rows[row].point as usize
 }
 
-/// The next row of a link over which the flow can be taken back to a point of the level below where
-/// something is left to try.
+/// Returns the next row of a link over which the flow can be taken back to a point of the level
+/// below that still has rows to try.
 fn row_back(
     rows: &[NeedRow],
     index: &RowIndex,
@@ -63,8 +63,9 @@ fn row_back(
     None
 }
 
-/// The turns of a path down the levels from a point to a link with gain left, and the row over
-/// which the path begins; or none, and the point is spent.
+/// Finds a path down the levels from a point to a link with gain left: stores its turns, and
+/// returns the row over which it begins. If there is no path, returns `None`, and no row of the
+/// point is left to try.
 pub(crate) fn find_path(
     rows: &[NeedRow],
     index: &RowIndex,

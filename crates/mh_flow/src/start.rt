@@ -1,4 +1,4 @@
-//! What a run begins with: rows for all needs, what the charges leave of the gains, and all costs.
+//! The start of a run: rows for all needs, what the charges leave of the gains, and all costs.
 
 ghost use Rattle.std.specs.Prelude.{◌≡◌, ◌<◌, ◌+◌, ◌++◌, length, map, ℕ, IfOk, OnOk};
 ghost use Rattle.mh_network.specs.Problems.{gain_of, cost_of};
@@ -12,7 +12,7 @@ use mh_base::NoMemory;
 use mh_network::Problem;
 use std::alloc::Global;
 
-/// A row for each need, by link and then point, with nothing carried.
+/// Returns a row for each need, by link and then point, with the amount 0.
 pub(crate) fn need_rows(alloc: Global, problem: &Problem) -> Result<Vec<NeedRow>, NoMemory>
     ensures { IfOk result (λ rows. rows.items ≡ needs_below problem.now
         (length problem.now.links)) }
@@ -24,7 +24,7 @@ pub(crate) fn need_rows(alloc: Global, problem: &Problem) -> Result<Vec<NeedRow>
     Ok(rows)
 }
 
-/// Adds a row for each need of a link, with nothing carried.
+/// Appends a row for each need of a link, with the amount 0.
 fn push_needs(rows: &mut Vec<NeedRow>, link: u32, needs: &[u32]) -> Result<(), NoMemory>
     ensures { OnOk result (rows.new.items ≡ rows.old.items ++ map
         (λ p. record { link = link; point = p; amount = 0 }) needs.now) }
@@ -39,7 +39,7 @@ fn push_needs(rows: &mut Vec<NeedRow>, link: u32, needs: &[u32]) -> Result<(), N
     Ok(())
 }
 
-/// What each link keeps of its gain once it has paid of its charge.
+/// Returns for each link what is left of its gain after it has paid of its charge.
 pub(crate) fn gains(alloc: Global, problem: &Problem) -> Result<Vec<u64>, NoMemory>
     ensures count { IfOk result (λ v. length v.items ≡ length problem.now.links) }
     ensures gains { IfOk result (λ v. (j : ℕ) → j < length v.items
@@ -52,7 +52,7 @@ pub(crate) fn gains(alloc: Global, problem: &Problem) -> Result<Vec<u64>, NoMemo
     Ok(gains)
 }
 
-/// The cost of each point.
+/// Returns the cost of each point.
 pub(crate) fn costs(alloc: Global, problem: &Problem) -> Result<Vec<u64>, NoMemory>
     ensures count { IfOk result (λ v. length v.items ≡ length problem.now.costs) }
     ensures costs { IfOk result (λ v. (p : ℕ) → p < length v.items

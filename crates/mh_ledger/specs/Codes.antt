@@ -1,4 +1,4 @@
--- Codes of what contracts see, by which a proof tells values apart.
+-- Codes of the views that contracts use, by which a proof tells values apart.
 use Rattle.std.specs.Prelude.{ℕ, List, refl}
 use Rattle.std.specs.Coded.{Coded, code_by, coded×, coded_ℕ, coded_list}
 use Rattle.mh_ledger.specs.Ledgers.{LedgerState, TotalsState}

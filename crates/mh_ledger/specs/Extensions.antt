@@ -1,8 +1,8 @@
--- Hits where there are more links than before, which no worker has hit.
+-- Hits if there are more links than before, which no worker has hit.
 use Rattle.std.specs.Prelude.{ℕ, ◌++◌, List, map, replicate}
 use Rattle.mh_ledger.specs.Ledgers.{LedgerState, TotalsState}
 
--- no hits of so many links more
+-- the numbers followed by no hits of as many more links
 abbrev pub longer : ℕ → List ℕ → List ℕ
 longer more counts = counts ++ replicate more 0
 

@@ -1,15 +1,15 @@
--- What the ledger of a worker counts for each link, as the counters of the cases of an inline cache do
--- (Hölzle, Chambers, Ungar 1991), and what the totals keep of all workers.
+-- The counts of a worker's ledger for each link, as the counters of the entries of an inline cache (Hölzle, Chambers, Ungar 1991), and the
+-- totals of all workers.
 use Rattle.std.specs.Prelude.{ℕ, ◌+◌, ◌≡◌, ◌<◌, ◌≤◌, List, [], ◌∷◌, length, replicate, slice_index_or, slice_set, map}
 use Rattle.std.specs.List.{All, sum_by}
 use Rattle.mh_ledger.specs.Limits.{greatest_limit}
 use Rattle.mh_ledger.specs.declared.totals.Totals.TheInside.{Inside}
 
--- the number at a place
+-- the number at an index
 abbrev pub at : List ℕ → ℕ → ℕ
 at counts j = slice_index_or counts j 0
 
--- whose it is, how many hits of a link may stay unflushed, and for each link those unflushed and those flushed
+-- the worker's number, the limit of unflushed hits of a link, and for each link the unflushed and the flushed hits
 pub record LedgerState : Type 0 where
   pub worker : ℕ
   pub limit : ℕ
@@ -20,17 +20,17 @@ pub record LedgerState : Type 0 where
 abbrev pub made : LedgerState → ℕ → ℕ
 made l j = at l.flushed j + at l.unflushed j
 
--- how much a total may be, the total of each link, and for each worker what it flushed of each link
+-- the limit of a total, the total of each link, and for each worker the hits that it flushed of each link
 pub record TotalsState : Type 0 where
   pub limit : ℕ
   pub total : List ℕ
   pub shares : List (List ℕ)
 
--- what a worker flushed
+-- the hits that a worker flushed
 abbrev pub share_of : TotalsState → ℕ → List ℕ
 share_of t w = slice_index_or t.shares w []
 
--- the totals keep of the ledger's worker just what the ledger flushed
+-- the totals keep for the ledger's worker exactly the hits that the ledger flushed
 abbrev pub Holds : TotalsState → LedgerState → Type 0
 Holds t l = (l.worker < length t.shares) × (share_of t l.worker ≡ l.flushed)
 
@@ -46,7 +46,7 @@ pub record AreHeld (t : TotalsState) (ledgers : List LedgerState) : Type 0 where
   pub workers : (w : ℕ) → w < length ledgers → (ledger_at ledgers w).worker ≡ w
   pub held : (w : ℕ) → w < length ledgers → Holds t (ledger_at ledgers w)
 
--- within the limits
+-- a ledger within the limits
 pub record IsLedger (l : LedgerState) : Type 0 where
   pub lengths : length l.flushed ≡ length l.unflushed
   pub unflushed : All (λ n. n ≤ l.limit) l.unflushed
@@ -60,7 +60,7 @@ pub record IsTotals (t : TotalsState) : Type 0 where
   pub within : All (λ n. n ≤ t.limit) t.total
   pub limit : t.limit ≤ greatest_limit
 
--- before any hit
+-- a ledger before any hit
 abbrev pub opened_ledger : ℕ → ℕ → ℕ → LedgerState
 opened_ledger links limit w = record { worker = w; limit = limit; unflushed = replicate links 0; flushed = replicate links 0 }
 
@@ -71,21 +71,21 @@ opened_totals links workers limit = record { limit = limit; total = replicate li
 abbrev pub with_hit : LedgerState → ℕ → LedgerState
 with_hit l j = record { worker = l.worker; limit = l.limit; unflushed = slice_set l.unflushed j (at l.unflushed j + 1); flushed = l.flushed }
 
--- to each number the one at its place is added
+-- the list with, at each index, the sum of both numbers
 abbrev pub added : List ℕ → List ℕ → List ℕ
 added [] ys = []
 added (x ∷ xs) [] = x ∷ xs
 added (x ∷ xs) (y ∷ ys) = (x + y) ∷ added xs ys
 
--- after its flush
+-- a ledger after its flush
 abbrev pub settled : LedgerState → LedgerState
 settled l = record { worker = l.worker; limit = l.limit; unflushed = replicate (length l.unflushed) 0; flushed = added l.flushed l.unflushed }
 
--- no total would pass the limit by the flush of this ledger
+-- no total would exceed the limit by the flush of this ledger
 abbrev pub FlushFits : TotalsState → LedgerState → Type 0
 FlushFits t l = (j : ℕ) → j < length t.total → at t.total j + at l.unflushed j ≤ t.limit
 
--- after the flush of this ledger
+-- the totals after the flush of this ledger
 abbrev pub flushed_into : TotalsState → LedgerState → TotalsState
 flushed_into t l = record { limit = t.limit; total = added t.total l.unflushed; shares = slice_set t.shares l.worker (added (share_of t l.worker) l.unflushed) }
 

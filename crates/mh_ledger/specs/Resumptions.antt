@@ -1,9 +1,9 @@
--- Hits that were counted and flushed earlier: the first worker counts as the one that flushed them.
+-- Hits that were counted and flushed earlier: they count as flushed by the first worker.
 use Rattle.std.specs.Prelude.{ℕ, ◌==◌, List, length, map, replicate, if◌then◌else◌}
 use Rattle.std.specs.List.{range_with_len}
 use Rattle.mh_ledger.specs.Ledgers.{LedgerState, TotalsState}
 
--- what a worker has flushed of these hits
+-- the hits of these that a worker has flushed
 abbrev pub share_of_worker : List ℕ → ℕ → List ℕ
 share_of_worker hits w = if w == 0 then hits else replicate (length hits) 0
 

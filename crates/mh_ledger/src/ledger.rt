@@ -1,4 +1,4 @@
-//! Ledgers: what each worker counts alone.
+//! Ledgers: per-worker counters of hits.
 
 ghost use Rattle.std.specs.Prelude.{◌≡◌, ◌+◌, ◌<◌, ◌≤◌, ◌^◌, ◌↔◌, ℕ, List, length, replicate, slice_set, IfOk, OnOk, OnErr, IsTrue};
 ghost use Rattle.std.specs.List.{All};
@@ -15,19 +15,21 @@ use std::alloc::Global;
 use std::marker::Model;
 use thiserror::Error;
 
-/// The greatest limit of a ledger and of totals, 2^62 hits of a link.
+/// The greatest limit of a ledger and of totals: 2^62 hits of a link.
 pub const LARGEST_LIMIT: u64 = 1 << 62;
 
-/// The hits of a link that were not flushed are at their limit.
+/// The error that the unflushed hits of a link have reached their limit.
 #[derive(Clone, Copy, Debug, PartialEq, Eq, Error)]
 #[error("LedgerFull")]
 pub struct LedgerFull;
 
-/// How often one worker's calls hit each link: the hits that it has flushed into the totals, and
-/// those that it has not. A link is a case of its site, so these are the counters of the cases of a
-/// polymorphic inline cache (Hölzle, Chambers, Ungar 1991), kept for each worker apart.
+/// The number of hits of each link by one worker's calls: the hits that it has flushed into the
+/// totals, and those that it has not. A link is an entry of its site's inline cache, so these are
+/// the counters of the entries of a polymorphic inline cache (Hölzle, Chambers, Ungar 1991), kept
+/// for each worker separately.
 ///
-/// `Totals::open` makes ledgers, and `Totals::flush` moves hits. No call of a ledger takes memory.
+/// `Totals::open` makes ledgers, and `Totals::flush` moves hits. No public method of a ledger
+/// allocates.
 #[derive(Debug, Drop)]
 pub struct Ledger {
     worker: usize,
@@ -60,7 +62,7 @@ impl Model for Ledger {
 }
 
 impl Ledger {
-    // The ledger of a worker, without hits.
+    // Returns the ledger of a worker, without hits.
     pub(crate) fn open(
         alloc: Global,
         worker: usize,
@@ -78,8 +80,8 @@ impl Ledger {
         })
     }
 
-    // The ledger of a worker where these hits of each link were counted and flushed earlier, all by
-    // the first worker.
+    // Returns the ledger of a worker, if these hits of each link were counted and flushed earlier,
+    // all by the first worker.
     pub(crate) fn resume(
         alloc: Global,
         worker: usize,
@@ -98,7 +100,7 @@ impl Ledger {
         })
     }
 
-    /// The number of its worker, from 0.
+    /// Returns the number of its worker, from 0.
     pub fn worker(&self) -> usize
         ensures value { result ≡ self.now.worker }
         ensures ledger { IsLedger self.now }
@@ -106,7 +108,7 @@ impl Ledger {
         self.worker
     }
 
-    /// The number of links.
+    /// Returns the number of links.
     pub fn links(&self) -> usize
         ensures count { result ≡ length self.now.unflushed }
         ensures ledger { IsLedger self.now }
@@ -114,7 +116,7 @@ impl Ledger {
         self.unflushed.len()
     }
 
-    /// The most hits of a link that are kept unflushed, at most `LARGEST_LIMIT`.
+    /// Returns the limit of unflushed hits of a link, at most `LARGEST_LIMIT`.
     pub fn limit(&self) -> u64
         ensures value { result ≡ self.now.limit }
         ensures ledger { IsLedger self.now }
@@ -122,7 +124,7 @@ impl Ledger {
         self.limit
     }
 
-    /// The hits of a link since the last flush, at most the limit.
+    /// Returns the number of hits of a link since the last flush, at most the limit.
     pub fn unflushed(&self, link: usize) -> u64
         requires inside { link < length self.now.unflushed }
         ensures value { result ≡ at self.now.unflushed link }
@@ -131,7 +133,7 @@ impl Ledger {
         self.unflushed[link]
     }
 
-    /// The hits since the last flush, of each link by number.
+    /// Returns the number of hits since the last flush, of each link by number.
     pub fn unflushed_hits(&self) -> &[u64]
         ensures value { result.now ≡ self.now.unflushed }
         ensures ledger { IsLedger self.now }
@@ -139,7 +141,7 @@ impl Ledger {
         self.unflushed.as_slice()
     }
 
-    /// The hits that were flushed, of each link by number.
+    /// Returns the number of hits that were flushed, of each link by number.
     pub fn flushed_hits(&self) -> &[u64]
         ensures value { result.now ≡ self.now.flushed }
         ensures ledger { IsLedger self.now }
@@ -147,7 +149,7 @@ impl Ledger {
         self.flushed.as_slice()
     }
 
-    /// All hits of a link ever, flushed or not. A flush leaves it.
+    /// Returns the number of all hits of a link, flushed or not. A flush does not change it.
     pub fn made(&self, link: usize) -> u64
         requires inside { link < length self.now.unflushed }
         ensures value { result ≡ made self.now link }
@@ -155,7 +157,8 @@ impl Ledger {
         self.flushed[link] + self.unflushed[link]
     }
 
-    /// Whether a further hit of a link is refused: as many are unflushed as may be.
+    /// Returns whether the unflushed hits of a link have reached the limit, so that a further hit
+    /// is refused.
     pub fn is_full(&self, link: usize) -> bool
         requires inside { link < length self.now.unflushed }
         ensures decides { IsTrue result ↔ (at self.now.unflushed link ≡ self.now.limit) }
@@ -165,8 +168,8 @@ impl Ledger {
 
     /// Counts one more hit of a link. O(1).
     ///
-    /// Refused just where as many hits of the link are unflushed as may be, and then nothing
-    /// changes. A ledger that totals hold is held as before.
+    /// Fails if and only if the unflushed hits of the link have reached the limit, and then nothing
+    /// changes. A ledger that totals hold remains held.
     pub fn hit(&mut self, link: usize) -> Result<(), LedgerFull>
         requires inside { link < length self.old.unflushed }
         ensures room { OnOk result (at self.old.unflushed link < self.old.limit) }
@@ -184,7 +187,7 @@ impl Ledger {
         Ok(())
     }
 
-    // Moves the unflushed hits to those that were flushed.
+    // Moves the unflushed hits to the flushed ones.
     pub(crate) fn settle(&mut self)
         requires fits { (j : ℕ) → j < length self.old.unflushed → made self.old j ≤ greatest_limit }
         ensures value { self.new ≡ settled self.old }
@@ -193,7 +196,7 @@ impl Ledger {
         clear(&mut self.unflushed);
     }
 
-    // A copy of the ledger with so many more links.
+    // Returns a copy of the ledger with `more` more links.
     pub(crate) fn extended(&self, alloc: Global, more: usize) -> Result<Ledger, NoMemory>
         ensures value { IfOk result (λ l. l ≡ extended_ledger more self.now) }
     {
@@ -205,7 +208,7 @@ impl Ledger {
         })
     }
 
-    // Goes over into a new history, with what goes on counting of the flushed hits.
+    // Begins a new history, with the part of the flushed hits that is kept.
     pub(crate) fn renew(&mut self, hits: OldHits)
         ensures value { self.new ≡ renewed_ledger hits self.old }
     {
@@ -213,14 +216,15 @@ impl Ledger {
     }
 }
 
-// As many zeros.
+// Returns `count` zeros.
 pub(crate) fn zeros(alloc: Global, count: usize) -> Result<Vec<u64>, NoMemory>
     ensures value { IfOk result (λ v. v.items ≡ replicate count 0) }
 {
     Ok(vec![in alloc; 0; count]?)
 }
 
-// What a worker has flushed where these hits were flushed earlier, all by the first worker.
+// Returns the hits that a worker has flushed, if these hits were flushed earlier, all by the first
+// worker.
 pub(crate) fn resumed_share(
     alloc: Global,
     worker: usize,
@@ -235,7 +239,7 @@ pub(crate) fn resumed_share(
     }
 }
 
-// These numbers, and so many zeros behind them.
+// Returns these numbers followed by `more` zeros.
 pub(crate) fn longer(alloc: Global, counts: &[u64], more: usize) -> Result<Vec<u64>, NoMemory>
     ensures value { IfOk result (λ v. v.items ≡ with_zeros more counts.now) }
 {

@@ -1,22 +1,22 @@
-//! What becomes of flushed hits where a new history begins.
+//! Keeping flushed hits at the beginning of a new history.
 
 ghost use Rattle.std.specs.Prelude.{◌≡◌, ◌≤◌, map};
 ghost use Rattle.mh_ledger.specs.Renewals.{left_of};
 
-/// What becomes of the hits that were flushed, where a new history begins.
+/// The part of the flushed hits that is kept at the beginning of a new history.
 #[derive(Clone, Copy, Debug, PartialEq, Eq)]
 pub enum OldHits {
-    /// All go on counting.
+    /// All hits are kept.
     Keep,
-    /// None goes on counting.
+    /// No hits are kept.
     Drop,
-    /// Of each worker's hits of a link half go on counting, rounded down, so that hits of the new
-    /// history weigh more.
+    /// Half of each worker's hits of a link are kept, rounded down, so that hits of the new history
+    /// weigh more.
     Halve,
 }
 
 impl OldHits {
-    /// How many of so many hits of a worker at a link go on counting.
+    /// Returns how many of a worker's `hits` hits of a link are kept.
     pub fn left_of(self, hits: u64) -> u64
         ensures value { result ≡ left_of self hits }
         ensures most { result ≤ hits }
@@ -29,7 +29,7 @@ impl OldHits {
     }
 }
 
-// Leaves of each number what goes on counting.
+// Reduces each number to the part that is kept.
 pub(crate) fn lessen(numbers: &mut Vec<u64>, hits: OldHits)
     ensures value { numbers.new.items ≡ map (left_of hits) numbers.old.items }
 {

@@ -1,11 +1,11 @@
-//! Lists of numbers, added place by place.
+//! Lists of numbers, added element by element.
 
 ghost use Rattle.std.specs.Prelude.{◌≡◌, ◌+◌, ◌<◌, ◌≤◌, ◌^◌, ◌↔◌, ℕ, length, replicate, IsTrue};
 ghost use Rattle.std.specs.List.{All};
 ghost use Rattle.mh_ledger.specs.Ledgers.{at, added};
 ghost use Rattle.mh_ledger.specs.Limits.{greatest_limit};
 
-// Whether no sum passes the limit.
+// Returns whether no sum exceeds the limit.
 pub(crate) fn all_fit(sums: &[u64], more: &[u64], limit: u64) -> bool
     requires lengths { length sums.now ≡ length more.now }
     requires sums { All (λ n. n ≤ greatest_limit) sums.now }
@@ -21,7 +21,7 @@ pub(crate) fn all_fit(sums: &[u64], more: &[u64], limit: u64) -> bool
     true
 }
 
-// Adds to each number the one at its place.
+// Adds to each number the one at the same index.
 pub(crate) fn add(sums: &mut Vec<u64>, more: &[u64])
     requires lengths { length sums.old.items ≡ length more.now }
     requires sums { All (λ n. n ≤ greatest_limit) sums.old.items }
@@ -33,7 +33,7 @@ pub(crate) fn add(sums: &mut Vec<u64>, more: &[u64])
     }
 }
 
-// Takes from each number the one at its place.
+// Subtracts from each number the one at the same index.
 pub(crate) fn subtract(sums: &mut Vec<u64>, less: &[u64])
     requires lengths { length sums.old.items ≡ length less.now }
     requires parts { (j : ℕ) → j < length less.now → at less.now j ≤ at sums.old.items j }
@@ -45,7 +45,7 @@ pub(crate) fn subtract(sums: &mut Vec<u64>, less: &[u64])
     }
 }
 
-// Makes each number 0.
+// Sets each number to 0.
 pub(crate) fn clear(numbers: &mut Vec<u64>)
     ensures value { numbers.new.items ≡ replicate (length numbers.old.items) 0 }
 {

@@ -1,4 +1,4 @@
-//! Totals: what all workers have flushed.
+//! Totals: the flushed hits of all workers.
 
 ghost use Rattle.std.specs.Prelude.{◌≡◌, ◌≢◌, ◌+◌, ◌<◌, ◌≤◌, ◌^◌, ◌↔◌, ℕ, List, length, map, replicate, slice_set, IfOk, OnOk, OnErr, IsTrue};
 ghost use Rattle.std.specs.List.{All, range_with_len, sum_by};
@@ -16,17 +16,16 @@ use std::alloc::Global;
 use std::marker::Model;
 use thiserror::Error;
 
-/// Some total would pass its limit.
+/// The error that some total would exceed its limit.
 #[derive(Clone, Copy, Debug, PartialEq, Eq, Error)]
 #[error("TotalTooLarge")]
 pub struct TotalTooLarge;
 
-/// How often all workers' calls hit each link, as far as they have flushed.
+/// The number of hits of each link by all workers' calls, as far as they have flushed.
 ///
-/// Beside the totals stands what each worker has flushed, its share, so that each total is the sum
-/// of the shares. A ledger is held where its worker's share is just what the ledger has flushed:
-/// whoever has one held ledger of each worker knows each total as the sum of what these have
-/// flushed.
+/// The totals also store the hits that each worker has flushed, its share, so that each total is
+/// the sum of the shares. A ledger is held if its worker's share is exactly what the ledger has
+/// flushed: given one held ledger of each worker, each total is the sum of what these have flushed.
 #[derive(Debug, Drop)]
 pub struct Totals {
     limit: u64,
@@ -50,8 +49,9 @@ impl Model for Totals {
 }
 
 impl Totals {
-    /// Totals of 0, and a ledger without hits for each worker, in order, all held. Neither limit is
-    /// above `LARGEST_LIMIT`. O(links * workers), and nothing after it takes memory.
+    /// Returns totals of 0, and a ledger without hits for each worker, in order, all held. Both
+    /// limits must be at most `LARGEST_LIMIT`. O(links * workers); later hits, flushes and renewals
+    /// do not allocate.
     pub fn open(
         alloc: Global,
         links: usize,
@@ -72,7 +72,7 @@ impl Totals {
         Ok((totals, ledgers))
     }
 
-    // Totals of 0.
+    // Returns totals of 0.
     fn zero(alloc: Global, links: usize, workers: usize, limit: u64) -> Result<Totals, NoMemory>
         requires limit { limit ≤ greatest_limit }
         ensures value { IfOk result (λ t. t ≡ opened_totals links workers limit) }
@@ -84,9 +84,9 @@ impl Totals {
         })
     }
 
-    /// Totals that were counted earlier, and a ledger for each worker, in order, all held. The first
-    /// worker counts as the one that flushed all of these hits, and none is unflushed. Neither limit
-    /// is above `LARGEST_LIMIT`. O(links * workers), and nothing after it takes memory.
+    /// Returns totals that were counted earlier, and a ledger for each worker, in order, all held.
+    /// The hits count as flushed by the first worker, and none is unflushed. Both limits must be at
+    /// most `LARGEST_LIMIT`. O(links * workers); later hits, flushes and renewals do not allocate.
     pub fn resume(
         alloc: Global,
         hits: &[u64],
@@ -109,7 +109,7 @@ impl Totals {
         Ok((totals, ledgers))
     }
 
-    // Totals that the first worker has flushed.
+    // Returns totals that the first worker has flushed.
     fn counted(alloc: Global, hits: &[u64], workers: usize, limit: u64) -> Result<Totals, NoMemory>
         requires worker { 0 < workers }
         requires limit { limit ≤ greatest_limit }
@@ -123,7 +123,7 @@ impl Totals {
         })
     }
 
-    /// The number of links.
+    /// Returns the number of links.
     pub fn links(&self) -> usize
         ensures count { result ≡ length self.now.total }
         ensures totals { IsTotals self.now }
@@ -131,7 +131,7 @@ impl Totals {
         self.totals.len()
     }
 
-    /// The number of workers.
+    /// Returns the number of workers.
     pub fn workers(&self) -> usize
         ensures count { result ≡ length self.now.shares }
         ensures totals { IsTotals self.now }
@@ -139,7 +139,8 @@ impl Totals {
         self.shares.len()
     }
 
-    /// The most hits of a link that the totals may hold, at most `LARGEST_LIMIT`.
+    /// Returns the greatest number of hits of a link that the totals may hold, at most
+    /// `LARGEST_LIMIT`.
     pub fn limit(&self) -> u64
         ensures value { result ≡ self.now.limit }
         ensures totals { IsTotals self.now }
@@ -147,8 +148,8 @@ impl Totals {
         self.limit
     }
 
-    /// How often a link was hit, as far as the workers have flushed: the sum of their shares, and
-    /// so of what held ledgers have flushed, one of each worker.
+    /// Returns the number of hits of a link that the workers have flushed: the sum of their shares,
+    /// and so of what held ledgers have flushed, one of each worker.
     pub fn total(&self, link: usize) -> u64
         requires inside { link < length self.now.total }
         ensures value { result ≡ at self.now.total link }
@@ -159,7 +160,7 @@ impl Totals {
         self.totals[link]
     }
 
-    /// The total of each link, by number.
+    /// Returns the total of each link, by number.
     pub fn as_slice(&self) -> &[u64]
         ensures value { result.now ≡ self.now.total }
         ensures totals { IsTotals self.now }
@@ -167,8 +168,8 @@ impl Totals {
         self.totals.as_slice()
     }
 
-    /// Whether the totals hold a ledger: for its worker they keep, of each link, just the hits that
-    /// this ledger has flushed. O(links).
+    /// Returns whether the totals hold a ledger, that is, whether the share of its worker is
+    /// exactly what this ledger has flushed of each link. O(links).
     pub fn holds(&self, ledger: &Ledger) -> bool
         ensures decides { IsTrue result ↔ Holds self.now ledger.now }
     {
@@ -176,7 +177,7 @@ impl Totals {
             && are_same(&self.shares[ledger.worker()], ledger.flushed_hits())
     }
 
-    /// Whether no total would pass the limit, if this ledger were flushed. O(links).
+    /// Returns whether no total would exceed the limit if this ledger were flushed. O(links).
     pub fn has_room(&self, ledger: &Ledger) -> bool
         requires held { Holds self.now ledger.now }
         ensures decides { IsTrue result ↔ FlushFits self.now ledger.now }
@@ -185,11 +186,11 @@ impl Totals {
         all_fit(&self.totals, ledger.unflushed_hits(), self.limit)
     }
 
-    /// Takes over the hits that a held ledger has not flushed: each total rises by the ledger's
-    /// number for its link, and these numbers become 0. The ledger stays held, and so do the
-    /// ledgers of the other workers. It takes no memory. O(links).
+    /// Adds the unflushed hits of a held ledger: each total rises by the ledger's unflushed hits of
+    /// its link, and these become 0. The ledger stays held, and so do the ledgers of the other
+    /// workers. It does not allocate. O(links).
     ///
-    /// Refused just where some total would pass the limit, and then nothing changes.
+    /// Fails if and only if some total would exceed the limit, and then nothing changes.
     pub fn flush(&mut self, ledger: &mut Ledger) -> Result<(), TotalTooLarge>
         requires held { Holds self.old ledger.old }
         ensures room { OnOk result (FlushFits self.old ledger.old) }
@@ -216,7 +217,7 @@ impl Totals {
         Ok(())
     }
 
-    // Adds the hits that a ledger has not flushed to the totals, and to its worker's share.
+    // Adds the unflushed hits of a ledger to the totals, and to its worker's share.
     fn take(&mut self, ledger: &Ledger)
         requires held { Holds self.old ledger.now }
         requires room { FlushFits self.old ledger.now }
@@ -229,10 +230,10 @@ impl Totals {
         add(&mut self.shares[ledger.worker()], hits);
     }
 
-    /// Goes over into a new history, with held ledgers of all workers: of each share, and of what
-    /// its ledger has flushed, what is to go on counting is left, and each total is the sum of the
-    /// shares again. What the ledgers have not flushed stays. It takes no memory.
-    /// O(links * workers).
+    /// Begins a new history, with held ledgers of all workers: each share, and the flushed hits of
+    /// its ledger, are reduced to the part that is kept, and each total is the sum of the shares
+    /// again. Unflushed hits of the ledgers are not changed. It does not allocate. O(links *
+    /// workers).
     pub fn renew(&mut self, ledgers: &mut Vec<Ledger>, hits: OldHits)
         requires held { AreHeld self.old ledgers.old.items }
         ensures totals { self.new ≡ renewed_totals hits self.old }
@@ -247,8 +248,8 @@ impl Totals {
         renew_all(ledgers, hits);
     }
 
-    /// Copies of the totals and held ledgers with so many more links, which have no hits.
-    /// O(links * workers), and nothing after it takes memory.
+    /// Returns copies of the totals and of held ledgers with `more` more links, which have no hits.
+    /// O(links * workers); later hits, flushes and renewals do not allocate.
     pub fn extended(
         &self,
         alloc: Global,
@@ -266,7 +267,7 @@ impl Totals {
         Ok((totals, ledgers))
     }
 
-    // A copy of the totals with so many more links.
+    // Returns a copy of the totals with `more` more links.
     fn longer(&self, alloc: Global, more: usize) -> Result<Totals, NoMemory>
         ensures value { IfOk result (λ t. t ≡ extended_totals more self.now) }
     {
@@ -277,7 +278,7 @@ impl Totals {
         })
     }
 
-    // Leaves of each share what is to go on counting, and makes the totals their sums again.
+    // Reduces each share to the part that is kept, and makes the totals their sums again.
     fn lessen(&mut self, hits: OldHits)
         ensures value { self.new ≡ renewed_totals hits self.old }
         ensures totals { IsTotals self.old }
@@ -287,7 +288,7 @@ impl Totals {
         }
     }
 
-    // Leaves of a worker's share what is to go on counting, and takes the rest from the totals.
+    // Reduces a worker's share to the part that is kept, and subtracts the rest from the totals.
     fn lessen_share(&mut self, worker: usize, hits: OldHits)
         requires worker { worker < length self.old.shares }
         ensures limit { self.new.limit ≡ self.old.limit }
@@ -303,7 +304,7 @@ impl Totals {
     }
 }
 
-// Has each ledger go over into a new history.
+// Begins a new history for each ledger.
 fn renew_all(ledgers: &mut Vec<Ledger>, hits: OldHits)
     ensures value { ledgers.new.items ≡ map (renewed_ledger hits) ledgers.old.items }
 {
@@ -312,7 +313,7 @@ fn renew_all(ledgers: &mut Vec<Ledger>, hits: OldHits)
     }
 }
 
-// A share of zeros for each worker.
+// Returns a share of zeros for each worker.
 fn open_shares(alloc: Global, links: usize, workers: usize) -> Result<Vec<Vec<u64>>, NoMemory>
     ensures value { IfOk result (λ v. map (λ share. share.items) v.items ≡ replicate workers
         (replicate links 0)) }
@@ -324,7 +325,7 @@ fn open_shares(alloc: Global, links: usize, workers: usize) -> Result<Vec<Vec<u6
     Ok(shares)
 }
 
-// A ledger without hits for each worker.
+// Returns a ledger without hits for each worker.
 fn open_ledgers(
     alloc: Global,
     links: usize,
@@ -342,7 +343,8 @@ fn open_ledgers(
     Ok(ledgers)
 }
 
-// What each worker has flushed where these hits were flushed earlier, all by the first.
+// Returns the hits that each worker has flushed, if these hits were flushed earlier, all by the
+// first.
 fn resume_shares(alloc: Global, hits: &[u64], workers: usize) -> Result<Vec<Vec<u64>>, NoMemory>
     ensures value { IfOk result (λ v. map (λ share. share.items) v.items ≡ map
         (share_of_worker hits.now) (range_with_len 0 workers)) }
@@ -354,7 +356,7 @@ fn resume_shares(alloc: Global, hits: &[u64], workers: usize) -> Result<Vec<Vec<
     Ok(shares)
 }
 
-// A ledger for each worker where these hits were flushed earlier, all by the first.
+// Returns a ledger for each worker, if these hits were flushed earlier, all by the first.
 fn resume_ledgers(
     alloc: Global,
     hits: &[u64],
@@ -373,7 +375,7 @@ fn resume_ledgers(
     Ok(ledgers)
 }
 
-// Each share, and so many zeros behind its numbers.
+// Returns each share, followed by `more` zeros.
 fn extend_shares(alloc: Global, shares: &[Vec<u64>], more: usize) -> Result<Vec<Vec<u64>>, NoMemory>
     ensures value { IfOk result (λ v. map (λ share. share.items) v.items
         ≡ map (with_zeros more) (map (λ share. share.items) shares.now)) }
@@ -385,7 +387,7 @@ fn extend_shares(alloc: Global, shares: &[Vec<u64>], more: usize) -> Result<Vec<
     Ok(all)
 }
 
-// Each ledger where there are so many links more.
+// Returns a copy of each ledger with `more` more links.
 fn extend_ledgers(alloc: Global, ledgers: &[Ledger], more: usize) -> Result<Vec<Ledger>, NoMemory>
     ensures value { IfOk result (λ v. v.items ≡ map (extended_ledger more) ledgers.now) }
 {
@@ -396,7 +398,7 @@ fn extend_ledgers(alloc: Global, ledgers: &[Ledger], more: usize) -> Result<Vec<
     Ok(all)
 }
 
-// Whether two lists are one.
+// Returns whether two lists are equal.
 fn are_same(some: &[u64], others: &[u64]) -> bool
     ensures value { IsTrue result ↔ (some.now ≡ others.now) }
 {

@@ -1,4 +1,4 @@
--- What a call of a pass answers, counts and is refused.
+-- The answers, counts and refusals of a call of a pass.
 use Rattle.std.specs.Prelude.{ℕ, ◌≡◌, ◌⊎◌, ◌<◌, ◌≤◌, true, List, ◌∷◌, length}
 use Rattle.mh_type.specs.Fits.{Fits}
 use Rattle.mh_type.specs.declared.value.Value.{Value}
@@ -15,20 +15,20 @@ use Rattle.mh_live.specs.declared.call_fault.CallFault.{CallFault}
 use Rattle.mh_live.specs.declared.call_fault.CallFault.TheVariants.{NoSite, WrongType, LedgerFull, NotEntered, NoMemory}
 use Rattle.mh_live.specs.declared.pass.PassAnswer.{PassAnswer}
 
--- all tests pass: the site is there, the arguments fit, and the ledger has room where the call hits a link
+-- all tests pass: the site exists, the arguments fit, and the ledger has room if the call hits a link
 pub record MayCall (d : DefinitionData) (l : LedgerState) (s : ℕ) (a : List Value) : Type 0 where
   pub inside : s < length d.sites
   pub fits : Fits (site_at d s).method_type a
   pub room : (j : ℕ) → hits d s a j ≡ true → at l.unflushed j < l.limit
 
--- by the world after one list of controls, of which each tree that is invoked is too: what the base tree means over base trees, the nodes
--- that were entered of the linked tree and of linked trees that it invokes, and how long the list is
+-- the answer by the world after one list of controls, also of each tree that is invoked: what the base tree means over base trees, the
+-- number of nodes evaluated of the linked tree and of linked trees that it invokes, and the length of the list
 pub record AnswersBy (d : DefinitionData) (controls : List Control) (s : ℕ) (a : List Value) (answer : PassAnswer) : Type 0 where
   pub value : let w = world_after d controls in answer.outcome ≡ mean (environment_of_bases w) (state_at w s).base.tree a
   pub entered : let w = world_after d controls in answer.steps ≡ steps (environment_of_links w) (state_at w s).linked.tree a
   pub count : answer.front ≡ length controls
 
--- a call is refused for the first test that fails; for one of the last two, where none does
+-- a call is refused by the first test that fails, or for one of the last two reasons if none fails
 abbrev pub RefusesCall : DefinitionData → LedgerState → ℕ → List Value → CallFault → Type 0
 RefusesCall d l s a NoSite = length d.sites ≤ s
 RefusesCall d l s a WrongType = (s < length d.sites) × (Fits (site_at d s).method_type a → ⊥)
@@ -42,10 +42,10 @@ IsUntried NotEntered = ⊥
 IsUntried NoMemory = ⊥
 IsUntried _ = Unit {0}
 
--- no world was entered; or one that is behind what the pass had seen, and nothing of it is kept
+-- no world was entered, or one that is behind what the pass had seen, and nothing of it is kept
 abbrev pub IsKeptOut : PassState → PassState → Type 0
 IsKeptOut old new = (new ≡ old) ⊎ ((behind : List Control) × (length behind < length old.seen) × (new ≡ record old { entered = behind ∷ old.entered }))
 
--- by the world after these controls no node is entered, of invoked trees too, that has String in its type, so that no memory is taken
+-- by the world after these controls no node with String in its type is evaluated, also in invoked trees, so that nothing is allocated
 abbrev pub TakesNoMemory : DefinitionData → List Control → ℕ → List Value → Type 0
 TakesNoMemory d controls s a = let w = world_after d controls in EntersPlain (linked_sites w) (state_at w s).linked.tree a

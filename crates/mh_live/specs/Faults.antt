@@ -19,7 +19,7 @@ call_fault_number call.WrongType = 5
 call_fault_number call.LedgerFull = 11
 call_fault_number call.NotEntered = 15
 
--- why a call cannot be made of its site
+-- the reason why a call cannot be made of its site
 abbrev pub fault_of_callee : CalleeFault → CallFault
 fault_of_callee callee.NoSite = call.NoSite
 fault_of_callee callee.WrongType = call.WrongType

@@ -17,17 +17,17 @@ use Rattle.mh_core.specs.Replayed.{controls}
 use Rattle.mh_live.specs.Calls.{AnswersBy}
 use Rattle.mh_live.specs.declared.pass.PassAnswer.{PassAnswer}
 
--- what a site's unspeculated tree means after these records: that of its last retargeting, with the points that are valid then,
--- where an invocation means the unspeculated tree of the site that it invokes; what is installed does not count
+-- the meaning of a site's unspecialised tree after these records: that of its last retargeting, with the points that are valid then, where
+-- an invocation means the unspecialised tree of the site that it invokes; installed links do not count
 abbrev pub meaning_after : DefinitionData → List Record → ℕ → List Value → Outcome
 meaning_after d r s a = mean (environment_of_bases d r) (base d r s).tree a
 
--- `past` are all records of some time, where `r` are those of a later time: newest first, so that newer ones stand before them
+-- `past` are all records of some time, and `r` those of a later time: newest first, so that newer ones come before them
 abbrev pub IsEarlier : List Record → List Record → Type 0
 IsEarlier past r = (newer : List Record) × (r ≡ newer ++ past)
 
--- a call that read these controls returned what its site's unspeculated tree means after `past`: records that the office had, with
--- exactly these controls, at the time of `before` or later
+-- a call that read these controls returned what its site's unspecialised tree means after `past`: records that the office had, with exactly
+-- these controls, at the time of `before` or later
 pub record IsAnsweredIn (d : DefinitionData) (r before : List Record) (seen : List Control) (s : ℕ) (a : List Value) (told : Outcome)
     : Type 0 where
   pub past : List Record
@@ -36,8 +36,8 @@ pub record IsAnsweredIn (d : DefinitionData) (r before : List Record) (seen : Li
   pub list : seen ≡ reverse (controls d past)
   pub outcome : told ≡ meaning_after d past s a
 
--- Of each answered call whose list the pass has seen by now and is no longer than the office's. `before` is any state of the office
--- whose controls begin that list: that without records, that of an earlier call, or that of a receipt which the pass had learnt
+-- For each answered call whose list the pass has seen and which is no longer than the office's. `before` is any state of the office whose
+-- controls are a prefix of that list: that without records, that of an earlier call, or that of a receipt which the pass had learnt
 abbrev pub EachAnswerMeansItsTree : DefinitionData → List Record → List Control → List Control → Type 0
 EachAnswerMeansItsTree d r published now =
     (seen : List Control) → (s : ℕ) → (a : List Value) → (answer : PassAnswer) → (before : List Record)
@@ -46,9 +46,9 @@ EachAnswerMeansItsTree d r published now =
     → IsEarlier before r → IsPrefix (reverse (controls d before)) seen
     → IsAnsweredIn d r before seen s a answer.outcome
 
--- the snapshot of this number was taken after the records `past`; for the totals that their flushes add up to, and the points that
--- were valid then, the plan carries a flow of matching value, which the checker accepts, and no set of eligible links has a greater
--- gain less cost
+-- the snapshot of this number was taken after the records `past`; for the totals of their flushes, and the points that were
+-- valid then, the plan carries a flow of matching value, which the checker accepts, and no set of eligible links has
+-- a greater gain less cost
 pub record IsBestOf (d : DefinitionData) (before : List Record) (n : ℕ) (plan : Plan) : Type 0 where
   pub since : List Record
   pub past : List Record
@@ -62,7 +62,7 @@ abbrev pub EachPublishedPlanIsBest : DefinitionData → List Record → Type 0
 EachPublishedPlanIsBest d r =
     (newer before : List Record) → (n : ℕ) → (plan : Plan) → r ≡ newer ++ Published n plan ∷ before → IsBestOf d before n plan
 
--- the controls that passes read are those of the records, and what was answered and published is right
+-- the controls that passes read are those of the records, and all answers and publications are right
 pub record IsLiveHeadline (d : DefinitionData) (r : List Record) (published now : List Control) : Type 0 where
   pub shows : published ≡ reverse (controls d r)
   pub calls : EachAnswerMeansItsTree d r published now

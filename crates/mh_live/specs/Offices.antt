@@ -1,4 +1,4 @@
--- What contracts see of an office and of its receipts.
+-- The view of an office and of its receipts that contracts use.
 use Rattle.std.specs.Prelude.{ℕ, ◌≡◌, ◌<◌, Bool, false, true, List, [], fold, length, reverse, refl}
 use Rattle.std.specs.Coded.{Coded, code_by, coded×, coded_bool}
 use mathlib.Core.List.{IsPrefix}
@@ -18,7 +18,7 @@ use Rattle.mh_live.specs.Steps.{stepped}
 use Rattle.mh_live.specs.declared.published.Published.{Published}
 use Rattle.mh_live.specs.declared.published.Publication.{Publication}
 
--- the book, the list of controls that passes read now, oldest first, and whether a publication was refused
+-- the book, the list of controls that passes currently read, oldest first, and whether a publication failed
 pub record OfficeState : Type 0 where
   pub book : BookState
   pub published : List Control
@@ -29,7 +29,7 @@ coded_office =
     code_by (BookState × (List Control × Bool)) (coded× coded_book (coded× coded_controls coded_bool)) (λ o. (o.book, (o.published, o.closed)))
     (λ p. record { book = p.0; published = p.1.0; closed = p.1.1 }) (λ _. refl)
 
--- the totals of some records that are legal within these limits, with a share of each of so many workers
+-- the totals of some records that are legal within these limits, with a share of each of this many workers
 pub record AreTotalsOf (d : DefinitionData) (l : LimitsData) (workers : ℕ) (t : TotalsState) : Type 0 where
   pub records : List Record
   pub legal : Legal d l records
@@ -41,7 +41,7 @@ pub record AreTotalsOf (d : DefinitionData) (l : LimitsData) (workers : ℕ) (t 
 abbrev pub list_of : BookState → List Control
 list_of b = reverse (controls b.definition b.records)
 
--- The list that is published is that of the records. Nothing is pending while the office is open, and something where it is closed
+-- the list that is published is that of the records. Nothing is pending while the office is open, and something if it is closed
 pub record InStep (name : Book) (d : DefinitionData) (l : LimitsData) (workers : ℕ) (shown : Published) (pending : List Publication) (front : List Control) (b : BookState) (closed : Bool) : Type 0 where
   pub stands : Stands name d shown
   pub published : shown.past.log ≡ list_of b
@@ -52,11 +52,11 @@ pub record InStep (name : Book) (d : DefinitionData) (l : LimitsData) (workers :
   pub limits : b.limits ≡ l
   pub shares : length b.totals.shares ≡ workers
 
--- what is pending leads to a world that may be published
+-- the pending steps lead to a world that may be published
 abbrev pub CanShow : Book → DefinitionData → Published → List Publication → Type 0
 CanShow name d shown pending = (next : Published) → next ≡ fold stepped shown pending → Stands name d next × IsPrefix shown.past.log next.past.log
 
--- what was answered, and the list of controls up to it
+-- the reply, and the list of controls up to the event
 pub record ReceiptState : Type 0 where
   pub reply : Reply
   pub front : List Control

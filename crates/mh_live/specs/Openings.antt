@@ -1,4 +1,4 @@
--- What contracts see of an opening.
+-- The view of an opening that contracts use.
 use Rattle.std.specs.Prelude.{ℕ, ◌≡◌, ◌<◌, ◌≤◌, List, length, map, refl}
 use Rattle.std.specs.Coded.{Coded, code_by, coded×, coded_ℕ}
 use Rattle.std.specs.List.{range_with_len}
@@ -12,7 +12,7 @@ use Rattle.mh_core.specs.Books.{BookState, opened_book}
 use Rattle.mh_core.specs.Limits.{LimitsData, coded_limits}
 use Rattle.mh_base.specs.Limits.{most_workers}
 
--- which list of controls it begins, what is declared, how many workers, and the limits
+-- the list of controls that it begins, the definition, the number of workers, and the limits
 pub record OpeningState : Type 0 where
   pub name : Book
   pub definition : DefinitionData

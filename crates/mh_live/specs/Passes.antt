@@ -1,4 +1,4 @@
--- What contracts see of a pass.
+-- The view of a pass that contracts use.
 use Rattle.std.specs.Prelude.{ℕ, List, [], length, map, refl}
 use Rattle.std.specs.Coded.{Coded, code_by, coded×, coded_list}
 use Rattle.std.specs.List.{range_with_len}
@@ -24,6 +24,6 @@ coded_pass =
 abbrev pub new_pass : LedgerState → PassState
 new_pass l = record { seen = []; ledger = l; entered = [] }
 
--- one for each worker, in order, of which the ledger may hold so many hits of a link and has none
+-- one pass for each worker, in order, whose ledger is empty and may hold this many hits of a link
 abbrev pub new_passes : DefinitionData → ℕ → ℕ → List PassState
 new_passes d limit workers = map (λ w. new_pass (opened_ledger (length (links d)) limit w)) (range_with_len 0 workers)

@@ -1,4 +1,4 @@
--- The one list of controls, oldest first: its book, and what follows from a step that adds to it.
+-- The one list of controls, oldest first: its book, and the effect of a step that adds to it.
 use Rattle.std.specs.Prelude.{ℕ, ◌≡◌, ◌==◌, true, List, [], ◌∷◌, ◌++◌, length, MatchBool}
 use Rattle.std.specs.Coded.{Coded, coded_list}
 use Rattle.logbook.specs.Pages.{Cell, Step, View, Book, Named}

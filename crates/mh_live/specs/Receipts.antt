@@ -1,4 +1,4 @@
--- What an office answers, over its records.
+-- The replies of an office, over its records.
 use Rattle.std.specs.Prelude.{◌≡◌, ◌⊎◌, ℕ, ◌+◌, ◌<◌, true, false, List, ◌∷◌, length, reverse, Result, IfErr, IfOk, OnErr, OnOk}
 use Rattle.mh_ledger.specs.Ledgers.{LedgerState, TotalsState, Holds}
 use Rattle.mh_network.specs.Problems.{ProblemData}
@@ -19,7 +19,7 @@ use Rattle.mh_live.specs.Offices.{AreTotalsOf, OfficeState, ReceiptState, list_o
 use Rattle.mh_live.specs.declared.flush_fault.FlushFault.{FlushFault}
 use Rattle.mh_live.specs.declared.flush_fault.FlushFault.TheVariants.{NotHeld, Refused}
 
--- an office of this definition, within these limits and for so many workers: passes read the list of its records
+-- an office of this definition, within these limits and for this many workers: passes read the list of its records
 pub record IsOffice (d : DefinitionData) (l : LimitsData) (workers : ℕ) (o : OfficeState) : Type 0 where
   pub lawful : IsBook o.book
   pub definition : o.book.definition ≡ d
@@ -35,7 +35,7 @@ pub record Accepts (o : OfficeState) (e : Record) (r : ReceiptState) (new : Offi
   pub shows : new.published ≡ list_of new.book
   pub stays : new.closed ≡ o.closed
 
--- a record is refused for the first test that fails, or out of memory where none fails
+-- a record is refused by the first test that fails, or for lack of memory if none fails
 abbrev pub IsLegalRefusal : BookState → Record → Refusal → Type 0
 IsLegalRefusal b e told = Refuses (tests_of_record b.definition b.limits (length b.records) b.records e) told
 
@@ -44,7 +44,7 @@ abbrev pub IsLegalFault : BookState → LedgerState → FlushFault → Type 0
 IsLegalFault b l NotHeld = Holds b.totals l → ⊥
 IsLegalFault b l (Refused told) = Holds b.totals l × IsLegalRefusal b (Flushed l.worker (hits_in l.unflushed)) told
 
--- the book, but for its memory, and what passes read stay as they are
+-- the book, except for its memory, and the list that passes read are not changed
 abbrev pub IsUntouched : OfficeState → OfficeState → Type 0
 IsUntouched o new = SameBook o.book new.book × (new.published ≡ o.published)
 
@@ -58,19 +58,19 @@ ChangesWorld (Published n plan) = ⊥
 ChangesWorld (Installed m) = Unit {0}
 
 -- A record that passed its tests, and for which there was all memory that the book takes, is not published: its trees got no further
--- owners, left_right refused it, or the office was closed. What was closed stays so
+-- owners, left_right refused it, or the office was closed. A closed office stays closed
 pub record HasHalted (o : OfficeState) (e : Record) (told : Refusal) (new : OfficeState) : Type 0 where
   pub want : told ≡ NoMemory
   pub passes : Passes (tests_of_record o.book.definition o.book.limits (length o.book.records) o.book.records e)
   pub room : new.book.room ≡ true
   pub stays : o.closed ≡ true → new.closed ≡ true
 
--- nothing is changed; or a publication has halted, by which alone an office may close
+-- nothing is changed; or a publication has halted, which is the only way in which an office may close
 abbrev pub MayClose : OfficeState → Record → Refusal → OfficeState → Type 0
 MayClose o e told new = (new ≡ o) ⊎ HasHalted o e told new
 
--- What the change of a record answers, and what it leaves, of an office of this definition: it is accepted while the office is
--- open, or refused, and the totals stay as they are
+-- The reply to the change of a record, and its effect on an office of this definition: it is accepted while the office is open, or refused,
+-- and the totals are not changed
 pub record Changes (d : DefinitionData) (l : LimitsData) (workers : ℕ) (o : OfficeState) (e : Record) (result : Result ReceiptState Refusal) (new : OfficeState) : Type 0 where
   pub office : IsOffice d l workers o
   pub accepted : IfOk result (λ r. Accepts o e r new)
@@ -80,7 +80,7 @@ pub record Changes (d : DefinitionData) (l : LimitsData) (workers : ℕ) (o : Of
   pub kept : OnErr result (IsUntouched o new)
   pub closed : IfErr result (λ told. MayClose o e told new)
 
--- a receipt of this record, behind some records that are legal within these limits: its reply, and the list of controls up to it
+-- a receipt of this record, after some records that are legal within these limits: its reply, and the list of controls up to it
 pub record IsReceipt (d : DefinitionData) (l : LimitsData) (e : Record) (r : ReceiptState) : Type 0 where
   pub before : List Record
   pub legal : Legal d l before
@@ -88,7 +88,7 @@ pub record IsReceipt (d : DefinitionData) (l : LimitsData) (e : Record) (r : Rec
   pub answers : r.reply ≡ reply_to d before e
   pub told_list : r.front ≡ reverse (controls d (e ∷ before))
 
--- a refusal of this record, behind some records that are legal within these limits
+-- a refusal of this record, after some records that are legal within these limits
 pub record IsRefusal (d : DefinitionData) (l : LimitsData) (e : Record) (told : Refusal) : Type 0 where
   pub before : List Record
   pub legal : Legal d l before

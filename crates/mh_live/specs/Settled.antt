@@ -1,4 +1,4 @@
--- What stands once all passes are back.
+-- The state after all passes are returned.
 use Rattle.std.specs.Prelude.{ℕ, ◌≡◌, ◌⊎◌, ◌+◌, ◌==◌, ◌<◌, ◌≤◌, List, [], ◌∷◌, length, reverse, refl}
 use Rattle.std.specs.Coded.{Coded, code_by, coded×, coded_ℕ, coded_list}
 use Rattle.std.specs.List.{All, count_by, sum_by}
@@ -20,7 +20,7 @@ use Rattle.mh_live.specs.Pasts.{coded_controls}
 use Rattle.mh_live.specs.declared.settle_fault.SettleFault.{SettleFault}
 use Rattle.mh_live.specs.declared.settle_fault.SettleFault.TheVariants.{MissingPass, NoMemory}
 
--- each worker has one pass among them, and the totals hold the ledgers of all
+-- each worker has exactly one pass among them, and the totals hold the ledgers of all
 pub record AreBack (t : TotalsState) (passes : List PassState) : Type 0 where
   pub once : (w : ℕ) → w < length t.shares → count_by (λ p. p.ledger.worker == w) passes ≡ 1
   pub held : All (λ p. Holds t p.ledger) passes
@@ -33,7 +33,7 @@ unflushed_by passes j = sum_by (λ p. at p.ledger.unflushed j) passes
 abbrev pub made_by : List PassState → ℕ → ℕ
 made_by passes j = sum_by (λ p. made p.ledger j) passes
 
--- of what the pass has seen and this list one begins the other
+-- of the list that the pass has seen and this list, one is a prefix of the other
 abbrev pub IsWithin : List Control → PassState → Type 0
 IsWithin front p = IsPrefix p.seen front ⊎ IsPrefix front p.seen
 
@@ -58,7 +58,7 @@ pub record IsSettled (d : DefinitionData) (l : LimitsData) (workers : ℕ) (s : 
   pub within : All (λ n. n ≤ most_hits_of_all) s.unflushed
   pub shows : s.front ≡ list_of s.book
 
--- an opening for so many workers, within the limits of a book, and the points that its office is to invalidate first: each call then means what it meant by the book
+-- an opening for this many workers, within a book's limits, and the points that its office invalidates first: calls keep their meaning
 pub record Reopens (again : List ℕ) (workers : ℕ) (b : BookState) (o : OpeningState) (invalid : List ℕ) : Type 0 where
   pub definition : o.definition ≡ renewed b.definition b.records again
   pub workers_are : o.workers ≡ workers
@@ -67,19 +67,19 @@ pub record Reopens (again : List ℕ) (workers : ℕ) (b : BookState) (o : Openi
   pub numbers : links o.definition ≡ links b.definition
   pub means : (new : BookState) → new.definition ≡ o.definition → new.records ≡ Invalidated invalid ∷ [] → MeansTheSame again b new
 
--- what these passes made of each link is its total and what they did not flush
+-- the hits of each link that these passes made are its total and the hits that they did not flush
 pub record Settles (d : DefinitionData) (passes : List PassState) (s : SettledState) : Type 0 where
   pub back : AreBack s.book.totals passes
   pub unflushed_is : (j : ℕ) → j < length (links d) → at s.unflushed j ≡ unflushed_by passes j
   pub made_is : (j : ℕ) → j < length (links d) → at s.book.totals.total j + at s.unflushed j ≡ made_by passes j
   pub fronts : All (IsWithin s.front) passes
 
--- by these totals not all passes are back; or they are, and memory ran out
+-- by these totals not all passes are returned; or they are, and memory ran out
 abbrev pub IsUnsettledBy : TotalsState → List PassState → SettleFault → Type 0
 IsUnsettledBy t passes MissingPass = AreBack t passes → ⊥
 IsUnsettledBy t passes NoMemory = AreBack t passes
 
--- why passes are not settled, by the totals of some legal records: of their list and what each pass has seen one begins the other
+-- why passes are not settled, by the totals of some legal records: of their list and what each pass has seen one is a prefix of the other
 pub record IsUnsettled (d : DefinitionData) (l : LimitsData) (workers : ℕ) (passes : List PassState) (fault : SettleFault) : Type 0 where
   pub totals : TotalsState
   pub are : AreTotalsOf d l workers totals

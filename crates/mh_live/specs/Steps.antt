@@ -1,4 +1,4 @@
--- What a published value takes in.
+-- The steps that a published value applies.
 use Rattle.mh_site.specs.Worlds.{after}
 use Rattle.mh_live.specs.declared.published.Published.{Published}
 use Rattle.mh_live.specs.declared.published.Publication.{Publication}

@@ -1,4 +1,4 @@
-//! Why calls are refused.
+//! Reasons to refuse calls.
 
 ghost use Rattle.std.specs.Prelude.{◌≡◌};
 ghost use Rattle.mh_live.specs.Faults.{call_fault_number};
@@ -6,29 +6,29 @@ ghost use Rattle.mh_live.specs.Faults.{call_fault_number};
 use mh_core::CalleeFault;
 use thiserror::Error;
 
-/// Why a call was refused: the first test that failed, in the order of their numbers, of which
-/// `NoMemory` comes last. A refused call counts no hit.
+/// The reason why a call was refused: the first test that failed, in the order of their numbers,
+/// but with `NoMemory` last. A refused call counts no hit.
 #[derive(Clone, Copy, Debug, PartialEq, Eq, Error)]
 pub enum CallFault {
     /// Out of memory: an allocation or a reference count was refused.
     #[error("1 NoMemory")]
     NoMemory,
-    /// A site that is not there.
+    /// The site does not exist.
     #[error("3 NoSite")]
     NoSite,
-    /// Arguments that do not fit the site's type.
+    /// The arguments do not fit the site's type.
     #[error("5 WrongType")]
     WrongType,
-    /// The call hits a link of which the pass holds as many unflushed hits as it may.
+    /// The call hits a link of which the pass holds as many unflushed hits as its limit allows.
     #[error("11 LedgerFull")]
     LedgerFull,
-    /// The office is gone, or the published world was behind what the pass has seen.
+    /// The office has ended, or the published world was behind the list that the pass has seen.
     #[error("15 NotEntered")]
     NotEntered,
 }
 
 impl CallFault {
-    /// The fault's number.
+    /// Returns the fault's number.
     pub fn number(self) -> u8
         ensures value { result ≡ call_fault_number self }
     {

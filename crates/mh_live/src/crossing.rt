@@ -1,4 +1,4 @@
-//! Laws of what crosses threads.
+//! Laws about types that cross threads.
 
 ghost use denote.Param.Send.{IsSend, IsSync};
 ghost use Rattle.mh_live.specs.contracts.live.Live as lives;
@@ -10,8 +10,9 @@ use mh_site::worlds_cross_threads;
 use mh_tree::trees_cross_threads;
 use mh_type::values_cross_threads;
 
-/// A pass may go to another thread, and threads may share a `Live`, where the name may. A body
-/// calls this where it gives them to threads: the search for so much by parts breaks off.
+/// Proves that a pass can be sent to another thread, and that threads can share a `Live`, provided
+/// that the name can cross threads. Call it in a function that hands them to threads: without it,
+/// the search for this fact gives up.
 pub fn cross_threads<N: ListName + Send + Sync>()
     ensures pass { IsSend (passes.the_row N.row N.ListName) }
     ensures live { IsSync (lives.the_row N.row N.ListName) }

@@ -1,4 +1,4 @@
-//! Why flushes are refused.
+//! Reasons to refuse flushes.
 
 ghost use Rattle.std.specs.Prelude.{◌≡◌};
 ghost use Rattle.mh_live.specs.Faults.{flush_fault_number};
@@ -6,7 +6,7 @@ ghost use Rattle.mh_live.specs.Faults.{flush_fault_number};
 use mh_core::Refusal;
 use thiserror::Error;
 
-/// Why the hits of a pass were not flushed. Nothing changed.
+/// The reason why the hits of a pass were not flushed. Nothing changed.
 #[derive(Clone, Copy, Debug, PartialEq, Eq, Error)]
 pub enum FlushFault {
     /// The totals do not hold the ledger. This is tested first.
@@ -18,7 +18,7 @@ pub enum FlushFault {
 }
 
 impl FlushFault {
-    /// The fault's number: 16, or that of the refusal.
+    /// Returns the fault's number: 16, or that of the refusal.
     pub fn number(self) -> u8
         ensures value { result ≡ flush_fault_number self }
     {

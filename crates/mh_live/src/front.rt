@@ -1,4 +1,4 @@
-//! The one list of controls. It exists in the proofs alone; what threads share is a word, its
+//! The one list of controls. It exists only in the proofs; at run time, threads share one word, its
 //! length.
 
 ghost use Rattle.std.specs.Prelude.{◌≡◌, ◌+◌, ◌<◌, ◌≤◌, ◌++◌, ◌∷◌, ◌⊎◌, [], length, IfSome, None as none_of};
@@ -32,7 +32,7 @@ impl Rule<Control, u64> for Law {
     ghost moves = { λ ask before after answer. Unit {0} };
 }
 
-/// Callers trade nothing.
+/// A marker: callers trade nothing.
 pub struct Nothing;
 
 impl Gain<Control, u64> for Nothing {
@@ -41,7 +41,7 @@ impl Gain<Control, u64> for Nothing {
     ghost after = { λ names about answer. ftrue };
 }
 
-/// The step that adds a control.
+/// A marker of the step that adds a control.
 pub struct Add;
 
 impl Play<Control, u64> for Add {
@@ -58,15 +58,15 @@ impl Plain<Control, Control, u64> for Add {
     ghost state = { λ control. None };
 }
 
-/// A beginning of the list that was reached. It has no bytes, and can be copied.
+/// A prefix of the list that was reached. It has no bytes, and can be copied.
 pub type Past = Seen<Control, u64, Law>;
 
 /// A control that is to be added. It has no bytes.
 pub type Intent = Offer<Control, u64, Law, Nothing>;
 
-/// Which list of controls it is, of which definition, within which limits and for how many workers:
+/// The identity of a list of controls, with its definition, its limits and its number of workers:
 /// an opening makes a list, and its office, passes and receipts all carry its name. A caller takes
-/// it as a type parameter and picks it where it opens.
+/// the name as a type parameter, and chooses it when it opens.
 pub trait ListName {
     ghost use Rattle.std.specs.Prelude.{ℕ};
     ghost use Rattle.logbook.specs.Pages.{Book};
@@ -112,7 +112,7 @@ pub struct Unnamed {
 }
 
 impl Unnamed {
-    /// An empty list, unlike any other.
+    /// Returns an empty list, different from every other.
     pub fn new() -> Unnamed {
         let (past, mut first, _second) = Seen::open(Start::alone(), 0, 0);
         Unnamed {
@@ -121,7 +121,7 @@ impl Unnamed {
         }
     }
 
-    /// The list under its name: the word, and the front without controls.
+    /// Returns the list under its name: the word, and the front without controls.
     pub fn with_name<N: ListName>(self) -> (Head<N>, Front<N>)
         requires name { self.past.book ≡ N.book }
         ensures value { result.1 ≡ [] }
@@ -139,7 +139,7 @@ impl Unnamed {
     }
 }
 
-/// A beginning of the list of controls that was reached. Contracts see it as its controls, oldest
+/// A prefix of the list of controls that was reached. Contracts see it as its controls, oldest
 /// first. It takes 8 bytes whatever its length.
 #[derive(Drop)]
 pub struct Front<N: ListName> {
@@ -162,7 +162,7 @@ impl<N: ListName> Model for Front<N> {
     ghost invariant = { λ f. (f.count ≡ length f.past.log) × (f.past.book ≡ N.book) × (f.past.names ≡ []) };
 }
 
-/// How many controls it has.
+/// Shows the number of its controls.
 impl<N: ListName> fmt::Debug for Front<N> {
     fn fmt<W: fmt::Write>(&self, f: &mut fmt::Formatter<W>) -> fmt::Result {
         write!(f, "Front({} controls)", self.len())
@@ -170,14 +170,14 @@ impl<N: ListName> fmt::Debug for Front<N> {
 }
 
 impl<N: ListName> Front<N> {
-    /// How many controls it has.
+    /// Returns the number of its controls.
     pub fn len(&self) -> u64
         ensures value { result ≡ length self.now }
     {
         self.count
     }
 
-    /// The same front.
+    /// Returns the same front.
     pub fn copy(&self) -> Front<N>
         ensures value { result ≡ self.now }
     {
@@ -188,8 +188,8 @@ impl<N: ListName> Front<N> {
         }
     }
 
-    /// Of two fronts of one list the one that is no longer begins the other. It runs no code: a
-    /// caller calls it for what it says.
+    /// States that, of two fronts of one list, the one that is not longer is a prefix of the other.
+    /// It does nothing at run time: a caller calls it for its clauses.
     pub fn compare(&self, other: &Front<N>)
         ensures shorter { length self.now ≤ length other.now → IsPrefix self.now other.now }
         ensures longer { length other.now ≤ length self.now → IsPrefix other.now self.now }
@@ -199,7 +199,7 @@ impl<N: ListName> Front<N> {
         let _ = &other.count;
     }
 
-    /// The longer of two fronts, which the other begins.
+    /// Returns the longer of two fronts, of which the other is a prefix.
     pub fn longer(&self, other: &Front<N>) -> Front<N>
         ensures one { (result ≡ self.now) ⊎ (result ≡ other.now) }
         ensures this { IsPrefix self.now result }
@@ -213,14 +213,14 @@ impl<N: ListName> Front<N> {
         }
     }
 
-    /// The beginning itself, for a value that is published.
+    /// Returns the prefix itself, for a value that is published.
     pub fn past(&self) -> Past
         ensures value { (result.log ≡ self.now) × (result.book ≡ N.book) × (result.names ≡ []) }
     {
         self.past.again()
     }
 
-    /// The front of a beginning that is so long.
+    /// Returns the front of a prefix with this length.
     pub fn of(past: &Past, count: u64) -> Front<N>
         requires past { (count ≡ length past.now.log) × (past.now.book ≡ N.book)
             × (past.now.names ≡ []) }
@@ -233,7 +233,7 @@ impl<N: ListName> Front<N> {
         }
     }
 
-    /// The control as one that is to be added.
+    /// Returns the control as one that is to be added.
     pub fn intend(&self, control: &Control) -> Intent
         ensures value { (result.ask ≡ control.now) × (result.state ≡ none_of)
             × (result.names ≡ []) }
@@ -241,7 +241,8 @@ impl<N: ListName> Front<N> {
         self.past.plain::<Nothing, Control, Add>(control)
     }
 
-    /// The front with the control at its end. None where the list is longer than this front.
+    /// Returns the front with the control appended, or `None` if the list is longer than this
+    /// front.
     pub fn with_control(&self, head: &Head<N>, mut intent: Intent) -> Option<Front<N>>
         requires room { length self.now < most_controls }
         requires intent { (intent.state ≡ none_of) × (intent.names ≡ []) }

@@ -1,18 +1,18 @@
-//! Running threads over a book: many threads call at once without a lock, while one at a time,
-//! under a lock, changes the world.
+//! Running threads over a book: many threads make calls concurrently without a lock, and one thread
+//! at a time, under a lock, changes the world.
 //!
-//! An `Opening` gives a `Live`, which all threads share, and a `Pass` for each worker. There are
-//! two copies of the world. Calls read one of them; a change is made in the other, which calls read
-//! from then on, and then in the first. So a call is answered by one world, and takes no lock, no
-//! memory for it and no owner of a tree.
+//! An `Opening` returns a `Live`, which all threads share, and a `Pass` for each worker. There are
+//! two copies of the world. Calls read one of them; a change is applied to the other, which calls
+//! read from then on, and then to the first. So a call is answered by one world, takes no lock,
+//! allocates nothing for that world, and counts no owner of a tree.
 //!
-//! All that changes a world is in one list of controls, of which each published world is the replay
-//! of a beginning. Of any two lists that passes have seen or that receipts name, the shorter begins
-//! the longer (`Front::compare`): a pass that has learnt a receipt answers by no world before it.
-//! `every_answer_is_right` states what is promised of all calls and plans.
+//! All changes of a world are in one list of controls, and each published world is the replay of a
+//! prefix of this list. Of any two lists that passes have seen or that receipts name, the shorter
+//! is a prefix of the longer (`Front::compare`): a pass that has learnt a receipt is never answered
+//! by a world before it. `every_answer_is_right` states the promise for all calls and plans.
 //!
-//! What its calls name of the crates below stands here too, and the whole of mh_core under its own
-//! name:
+//! The crate also exports the types of the crates below that its functions use, and the whole of
+//! mh_core under its own name:
 //!
 //! ```
 //! let opening = Opening::new(alloc, &definition, 2, limits)?;

@@ -26,17 +26,17 @@ use std::alloc::Global;
 use std::fmt;
 use std::sync::{Mutex, MutexGuard, Wait};
 
-/// An office that many threads share: one at a time, under a lock, changes the world that all
-/// passes read.
+/// An office that many threads share. One thread at a time, under a lock, changes the world that
+/// all passes read.
 ///
-/// A method that says `rt` may wait for the lock. One that changes the world also waits for the
-/// passes that are inside a call.
+/// A method with a parameter `rt` may wait for the lock. One that changes the world also waits for
+/// the passes that are inside a call.
 #[derive(Drop)]
 pub struct Live<N: ListName> {
     office: Mutex<Office<N>>,
 }
 
-/// Its name alone: what it keeps stands under its lock.
+/// Shows only the name of the type: its content is under its lock.
 impl<N: ListName> fmt::Debug for Live<N> {
     fn fmt<W: fmt::Write>(&self, f: &mut fmt::Formatter<W>) -> fmt::Result {
         f.write_str("Live")
@@ -44,30 +44,31 @@ impl<N: ListName> fmt::Debug for Live<N> {
 }
 
 impl<N: ListName> Live<N> {
-    /// The office, behind a lock.
+    /// Returns the office, behind a lock.
     pub(crate) fn new(office: Office<N>) -> Live<N> {
         Live {
             office: Mutex::new(office),
         }
     }
 
-    /// The office, which no other thread enters until what this gives is dropped: for what is asked
-    /// of one state of it, as its book, whether it is closed, or several changes with nothing
-    /// between them. Its methods say which records they append to. A thread that has it must call
-    /// no method here that says `rt`, which would wait for itself.
+    /// Locks the office, which no other thread enters until the result is dropped. Use it to read
+    /// one state of the office, such as its book or whether it is closed, or to make several
+    /// changes with nothing between them. Its methods say which records they append. While a thread
+    /// has it, the thread must not call any method of this type with a parameter `rt`, which would
+    /// wait for itself.
     pub fn office<R: Wait>(&self, rt: &R) -> MutexGuard<'_, Office<N>> {
         self.office.lock(rt)
     }
 
-    /// Gives a site another tree (`MutableCallSite.setTarget`). The receipt's list ends with that
+    /// Gives a site another tree (`MutableCallSite.setTarget`). The receipt's list ends with this
     /// control: a pass that learns the receipt sees it.
     ///
-    /// Refused with `NoSite`, also where the tree invokes a site past the last; with `WrongType`
-    /// where the tree is of another type than the site, or invokes a site with another type than
-    /// that site's; with `NoPoint` where it names a point past the last; with `WrongLevel` where it
-    /// invokes a site whose level is not below the site's; with `HistoryFull`, and then with
-    /// `NoMemory`; nothing is recorded and passes read what they read before. Where memory ran out
-    /// half way, each later control is refused so.
+    /// Fails with `NoSite` if the site, or a site that the tree invokes, does not exist; with
+    /// `WrongType` if the tree is not of the site's type, or invokes a site with a type other than
+    /// that site's; with `NoPoint` if it names a point that does not exist; with `WrongLevel` if it
+    /// invokes a site whose level is not below the site's; with `HistoryFull`; and otherwise only
+    /// with `NoMemory`. Then nothing is recorded, and passes read what they read before. If memory
+    /// ran out during the publication, each later control fails with `NoMemory`, too.
     pub fn set_target<R: Wait>(
         &self,
         rt: &R,
@@ -82,11 +83,11 @@ impl<N: ListName> Live<N> {
         self.office.lock(rt).target(rt, site, tree)
     }
 
-    /// Invalidates points (`SwitchPoint.invalidateAll`); they may be none, and may be invalid
-    /// already. The receipt's list ends with that control.
+    /// Invalidates points (`SwitchPoint.invalidateAll`). The list may be empty, and points may be
+    /// invalid already. The receipt's list ends with this control.
     ///
-    /// Refused with `NoPoint` where a number is past the last point, with `HistoryFull`, and then
-    /// with `NoMemory`, as `set_target` is.
+    /// Fails with `NoPoint` if one of the points does not exist, with `HistoryFull`, and otherwise
+    /// with `NoMemory`, as `set_target` does.
     pub fn invalidate<R: Wait>(&self, rt: &R, points: Listing<u32>) -> Result<Receipt<N>, Refusal>
         ensures receipt { IfOk result (IsReceipt N.definition N.limits (Invalidated points)) }
         ensures ends { IfOk result (λ r. (before : List Control)
@@ -96,12 +97,12 @@ impl<N: ListName> Live<N> {
         self.office.lock(rt).invalidate(rt, points)
     }
 
-    /// Takes a snapshot of the totals and of which points are valid, and answers its number, from
-    /// 1.
+    /// Takes a snapshot of the totals and of the validity of the points. The receipt has its
+    /// number, from 1.
     ///
-    /// Refused with `HistoryFull` also where there are 1,024 snapshots, with `GainTooLarge` where
-    /// the gains of its problem would add up to more than 2^62, and then with `NoMemory`; nothing
-    /// changes.
+    /// Fails with `HistoryFull`, also if there are 1,024 snapshots, with `GainTooLarge` if the sum
+    /// of the gains of its problem would exceed 2^62, and otherwise only with `NoMemory`; then
+    /// nothing changes.
     pub fn snapshot<R: Wait>(&self, rt: &R) -> Result<Receipt<N>, Refusal>
         ensures receipt { IfOk result (IsReceipt N.definition N.limits Snapped) }
         ensures refused { IfErr result (IsRefusal N.definition N.limits Snapped) }
@@ -109,9 +110,9 @@ impl<N: ListName> Live<N> {
         self.office.lock(rt).snapshot()
     }
 
-    /// The problem of the snapshot of this number.
+    /// Returns the problem of the snapshot with this number.
     ///
-    /// Refused with `NoSnapshot` where it was not taken, and then with `NoMemory`.
+    /// Fails with `NoSnapshot` if there is no such snapshot, and otherwise only with `NoMemory`.
     pub fn problem<R: Wait>(&self, rt: &R, snapshot: usize) -> Result<Problem, Refusal>
         ensures problem { IfOk result (IsProblem N.definition N.limits snapshot) }
         ensures refused { IfErr result (IsNoProblem N.definition N.limits snapshot) }
@@ -119,11 +120,13 @@ impl<N: ListName> Live<N> {
         self.office.lock(rt).book().problem(snapshot)
     }
 
-    /// Publishes a plan for the problem of a snapshot, and answers the plan and its number, from 1.
+    /// Publishes a plan for the problem of a snapshot. The receipt has the plan and its number,
+    /// from 1.
     ///
-    /// Refused with `NoSnapshot`, with `PlanRefused` where the checker refuses the plan, with
-    /// `HistoryFull` also where there are 1,024 plans, and then with `NoMemory`; where the checker
-    /// finds no memory, `NoMemory` stands in place of the last two. Nothing changes.
+    /// Fails with `NoSnapshot`, with `PlanRefused` if the checker rejects the plan, with
+    /// `HistoryFull`, also if there are 1,024 plans, and otherwise with `NoMemory`. If the checker
+    /// finds no memory, `NoMemory` is reported in place of `PlanRefused` and `HistoryFull`. On
+    /// failure, nothing changes.
     pub fn publish<R: Wait>(
         &self,
         rt: &R,
@@ -136,11 +139,11 @@ impl<N: ListName> Live<N> {
         self.office.lock(rt).publish(snapshot, plan)
     }
 
-    /// Installs the newest plan, and answers what became of each site that it or the links of now
-    /// concern. The receipt's list ends with that control.
+    /// Installs the newest plan. The receipt has the result for each site that has a link in the
+    /// plan or currently holds links, and its list ends with this control.
     ///
-    /// Refused with `NoPlan`, with `OldPlan` where a newer plan was published, with `HistoryFull`,
-    /// and then with `NoMemory`, as `set_target` is.
+    /// Fails with `NoPlan`, with `OldPlan` if a newer plan was published, with `HistoryFull`, and
+    /// otherwise with `NoMemory`, as `set_target` does.
     pub fn install<R: Wait>(&self, rt: &R, plan: usize) -> Result<Receipt<N>, Refusal>
         ensures receipt { IfOk result (IsReceipt N.definition N.limits (Installed plan)) }
         ensures ends { IfOk result (λ r. (before : List Control) × (changes : List Relinked)
@@ -150,11 +153,11 @@ impl<N: ListName> Live<N> {
         self.office.lock(rt).install(rt, plan)
     }
 
-    /// Adds the hits that a pass has not flushed to the totals. The pass learns the receipt.
+    /// Adds the unflushed hits of a pass to the totals. The pass learns the receipt.
     ///
-    /// Refused with `NotHeld` where the totals do not hold the pass's ledger, with `HistoryFull`,
-    /// with `TotalTooLarge` where some total would pass its limit, and then with `NoMemory`;
-    /// nothing changes.
+    /// Fails with `NotHeld` if the totals do not hold the pass's ledger, with `HistoryFull`, with
+    /// `TotalTooLarge` if some total would exceed its limit, and otherwise only with `NoMemory`;
+    /// then nothing changes.
     pub fn flush<R: Wait>(&self, rt: &R, pass: &mut Pass<N>) -> Result<Receipt<N>, FlushFault>
         ensures receipt { IfOk result
             (IsReceipt N.definition N.limits (Flushed pass.old.ledger.worker
@@ -173,11 +176,13 @@ impl<N: ListName> Live<N> {
         Ok(receipt)
     }
 
-    /// Takes the lock apart once all passes are back, in any order, and waits for the last readers
-    /// to leave. For each link, what the passes made is the total and what they have not flushed.
+    /// Ends the office once all passes are returned, in any order, and waits until the last readers
+    /// have left. For each link, the hits that the passes made are its total and the hits that they
+    /// have not flushed.
     ///
-    /// Refused with `MissingPass` where a worker's pass is not there, is there twice, or has a
-    /// ledger that the totals do not hold, and then with `NoMemory`; all is handed back as it was.
+    /// Fails with `MissingPass` if the pass of a worker is missing, is there twice, or has a ledger
+    /// that the totals do not hold, and otherwise only with `NoMemory`; then everything is handed
+    /// back unchanged.
     pub fn settle<R: Wait>(
         self,
         rt: &R,

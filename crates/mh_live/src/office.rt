@@ -23,8 +23,8 @@ use std::marker::Model;
 use std::mem::ManuallyDrop;
 use std::sync::Wait;
 
-/// A book with the writer of the published world. What changes the world is published in one step,
-/// and the book takes it after that. End it by `close`: a drop leaks the published world, since it
+/// A book with the writer of the published world. A change of the world is published in one step,
+/// and then recorded in the book. End it with `close`: a drop leaks the published world, since it
 /// may not wait for readers.
 pub struct Office<N: ListName> {
     book: Book,
@@ -51,7 +51,7 @@ impl<N: ListName> Model for Office<N> {
     ghost invariant = { λ o. InStep N.book N.definition N.limits N.workers o.writer.desk.shown.value (drop o.writer.behind o.writer.log.items) o.front o.book o.closed };
 }
 
-/// Its book.
+/// Shows its book.
 impl<N: ListName> fmt::Debug for Office<N> {
     fn fmt<W: fmt::Write>(&self, f: &mut fmt::Formatter<W>) -> fmt::Result {
         write!(f, "Office({:?})", self.book)
@@ -71,13 +71,13 @@ impl<N: ListName> Drop for Office<N> {
     }
 }
 
-/// Gives a writer up with no wait. Its two worlds are leaked.
+/// Gives a writer up without waiting. Its two worlds are leaked.
 pub fn leak<N: ListName>(writer: WorldWriter<N>) {
     let _leaked = unsafe { ManuallyDrop::new_unchecked(writer) };
 }
 
 impl<N: ListName> Office<N> {
-    /// The office of a book without records, and of the world before any control.
+    /// Returns the office of a book without records, and of the world before any control.
     pub(crate) fn new(
         book: Book,
         head: Head<N>,
@@ -100,7 +100,7 @@ impl<N: ListName> Office<N> {
         }
     }
 
-    /// The book.
+    /// Returns the book.
     pub fn book(&self) -> &Book
         ensures value { result.now ≡ self.now.book }
         ensures office { IsOffice N.definition N.limits N.workers self.now }
@@ -110,25 +110,26 @@ impl<N: ListName> Office<N> {
         &self.book
     }
 
-    /// The list of controls that passes read: that of the records.
+    /// Returns the list of controls that passes read, which is that of the records.
     pub fn front(&self) -> &Front<N>
         ensures value { result.now ≡ self.now.published }
     {
         &self.front
     }
 
-    /// Whether a publication was refused half way. From then on no control is accepted.
+    /// Returns whether a publication failed after it had begun. From then on no control is
+    /// accepted.
     pub fn closed(&self) -> bool
         ensures value { result ≡ self.now.closed }
     {
         self.closed
     }
 
-    /// Adds the hits that a ledger has not flushed to the totals. It changes no world, and
-    /// publishes nothing.
+    /// Adds the unflushed hits of a ledger to the totals. It changes no world, and publishes
+    /// nothing.
     ///
-    /// Refused with `NotHeld` where the totals do not hold the ledger, and then as by the book;
-    /// nothing changes.
+    /// Fails with `NotHeld` if the totals do not hold the ledger, and otherwise as the book does;
+    /// then nothing changes.
     pub fn flush(&mut self, ledger: &mut Ledger) -> Result<Receipt<N>, FlushFault>
         ensures office { IsOffice N.definition N.limits N.workers self.old }
         ensures totals { IsTotals self.old.book.totals }
@@ -154,10 +155,10 @@ impl<N: ListName> Office<N> {
         }
     }
 
-    /// Takes a snapshot, and answers its number, from 1. It changes no world, and publishes
+    /// Takes a snapshot. The receipt has its number, from 1. It changes no world, and publishes
     /// nothing.
     ///
-    /// Refused as by the book; nothing changes.
+    /// Fails as the book does; then nothing changes.
     pub fn snapshot(&mut self) -> Result<Receipt<N>, Refusal>
         ensures office { IsOffice N.definition N.limits N.workers self.old }
         ensures accepted { IfOk result (λ r. Accepts self.old Snapped r self.new) }
@@ -170,10 +171,10 @@ impl<N: ListName> Office<N> {
         Ok(Receipt::new(reply, self.front.copy()))
     }
 
-    /// Publishes a plan for the problem of a snapshot, and answers the plan and its number, from 1.
-    /// It changes no world, and passes read what they read before.
+    /// Publishes a plan for the problem of a snapshot. The receipt has the plan and its number,
+    /// from 1. It changes no world, and passes read what they read before.
     ///
-    /// Refused as by the book; nothing changes.
+    /// Fails as the book does; then nothing changes.
     pub fn publish(&mut self, snapshot: usize, plan: SharedPlan) -> Result<Receipt<N>, Refusal>
         ensures office { IsOffice N.definition N.limits N.workers self.old }
         ensures accepted { IfOk result
@@ -189,8 +190,9 @@ impl<N: ListName> Office<N> {
 
     /// Retargets a site (`MutableCallSite.setTarget`), by one publication.
     ///
-    /// Refused as by the book, and with `NoMemory` where no test fails and the office is closed, or
-    /// what passes read cannot be changed. Records and what passes read stay as they are.
+    /// Fails as the book does, and with `NoMemory` if no test fails but the office is closed, or
+    /// the world that passes read cannot be changed. The records, and the world that passes read,
+    /// are not changed then.
     pub fn target<R: Wait>(
         &mut self,
         rt: &R,
@@ -205,8 +207,9 @@ impl<N: ListName> Office<N> {
 
     /// Invalidates points (`SwitchPoint.invalidateAll`), by one publication.
     ///
-    /// Refused as by the book, and with `NoMemory` where no test fails and the office is closed, or
-    /// what passes read cannot be changed. Records and what passes read stay as they are.
+    /// Fails as the book does, and with `NoMemory` if no test fails but the office is closed, or
+    /// the world that passes read cannot be changed. The records, and the world that passes read,
+    /// are not changed then.
     pub fn invalidate<R: Wait>(
         &mut self,
         rt: &R,
@@ -218,10 +221,11 @@ impl<N: ListName> Office<N> {
         self.change(rt, Record::Invalidated { points })
     }
 
-    /// Installs the newest plan, by one publication, and answers what became of the sites.
+    /// Installs the newest plan, by one publication. The receipt has the results for the sites.
     ///
-    /// Refused as by the book, and with `NoMemory` where no test fails and the office is closed, or
-    /// what passes read cannot be changed. Records and what passes read stay as they are.
+    /// Fails as the book does, and with `NoMemory` if no test fails but the office is closed, or
+    /// the world that passes read cannot be changed. The records, and the world that passes read,
+    /// are not changed then.
     pub fn install<R: Wait>(&mut self, rt: &R, plan: usize) -> Result<Receipt<N>, Refusal>
         ensures changes { Changes N.definition N.limits N.workers self.old (Installed plan)
             result self.new }
@@ -229,7 +233,7 @@ impl<N: ListName> Office<N> {
         self.change(rt, Record::Installed { plan })
     }
 
-    // Takes in a change of the world, by one publication.
+    // Applies a change of the world, by one publication.
     fn change<R: Wait>(&mut self, rt: &R, entry: Record) -> Result<Receipt<N>, Refusal>
         requires world { ChangesWorld entry }
         ensures office { IsOffice N.definition N.limits N.workers self.old }
@@ -245,8 +249,8 @@ impl<N: ListName> Office<N> {
         self.accept(rt, change)
     }
 
-    // Publishes what a prepared change of the world changes, and then commits it. Where left_right
-    // refuses the publication of a control that it has taken, the office closes.
+    // Publishes the control of a prepared change of the world, and then commits the change. If
+    // left_right fails to publish a control that it has accepted, the office closes.
     fn accept<R: Wait>(&mut self, rt: &R, change: PendingChange) -> Result<Receipt<N>, Refusal>
         requires ready { IsReady self.old.book change }
         requires calls { change.calls ≡ 0 }
@@ -282,7 +286,7 @@ impl<N: ListName> Office<N> {
         }
     }
 
-    /// Waits for the readers, and gives the book and the list of its controls.
+    /// Waits for the readers, and returns the book and the list of its controls.
     pub(crate) fn close<R: Wait>(self, rt: &R) -> (Book, Front<N>)
         ensures office { IsOffice N.definition N.limits N.workers self }
         ensures book { result.0 ≡ self.book }

@@ -1,4 +1,4 @@
-//! Why nothing is opened.
+//! Reasons for which an opening fails.
 
 ghost use Rattle.std.specs.Prelude.{◌≡◌};
 ghost use Rattle.mh_live.specs.Faults.{open_fault_number};
@@ -7,7 +7,7 @@ use mh_base::NoMemory;
 use std::alloc::{AllocError, AllocFailed};
 use thiserror::Error;
 
-/// Why an office was not opened.
+/// The reason why an office was not opened.
 #[derive(Clone, Copy, Debug, PartialEq, Eq, Error)]
 pub enum OpenFault {
     /// Out of memory: an allocation or a reference count was refused.
@@ -19,7 +19,7 @@ pub enum OpenFault {
 }
 
 impl OpenFault {
-    /// The fault's number.
+    /// Returns the fault's number.
     pub fn number(self) -> u8
         ensures value { result ≡ open_fault_number self }
     {

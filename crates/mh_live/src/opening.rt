@@ -1,4 +1,4 @@
-//! What an office and its passes are made of.
+//! The parts of an office and its passes.
 
 ghost use Rattle.std.specs.Prelude.{◌≡◌, ◌+◌, ◌<◌, ◌≤◌, [], length, map, drop, vec_capacity, IfOk, IfErr};
 ghost use Rattle.std.specs.List.{All};
@@ -26,8 +26,7 @@ use std::alloc::{AllocError, Global};
 use std::fmt;
 use std::marker::Model;
 
-/// What an office and its passes are made of. It makes a list of controls, which still has to get
-/// its name.
+/// The parts of an office and its passes, with a new list of controls, which has no name yet.
 #[derive(Drop)]
 pub struct Opening {
     list: Unnamed,
@@ -63,7 +62,7 @@ impl Model for Opening {
     } o.book o.ledgers.items o.first o.second o.definition };
 }
 
-/// For how many workers it is, and the definition.
+/// Shows the number of workers, and the definition.
 impl fmt::Debug for Opening {
     fn fmt<W: fmt::Write>(&self, f: &mut fmt::Formatter<W>) -> fmt::Result {
         let (workers, definition) = (self.workers, &self.definition);
@@ -72,8 +71,8 @@ impl fmt::Debug for Opening {
 }
 
 impl Opening {
-    /// What the office of a definition and the passes of so many workers, 1 to 64, are made of.
-    /// Fails only if an allocation or a reference count is refused.
+    /// Makes the parts of the office of a definition and of the passes of `workers` workers, 1 to
+    /// 64. Fails only if an allocation or a reference count is refused.
     pub fn new(
         alloc: Global,
         definition: &Definition,
@@ -86,7 +85,7 @@ impl Opening {
         ensures limits { IfOk result (λ o. o.limits ≡ limits) }
         ensures refused { IfErr result (λ e. e ≡ OpenFault.NoMemory) }
     {
-        // Read for what a definition keeps.
+        // Names the invariant of the definition for the proof.
         let _sites = definition.sites();
         let shared = definition.share()?;
         let first = World::open(alloc, definition)?;
@@ -104,11 +103,11 @@ impl Opening {
         })
     }
 
-    /// The office, and a pass for each worker, in order. N names this opening: its book, its
-    /// definition, its limits and how many workers it has.
+    /// Returns the office, and a pass for each worker, in order. `N` names this opening: its book,
+    /// its definition, its limits and its number of workers.
     ///
-    /// Refused with `NoMemory`, which leaves nothing behind, and with `NoReader` where no reader of
-    /// the published world can be made, which leaks its two worlds.
+    /// Fails with `NoMemory`, which leaks nothing, or with `NoReader` if no reader of the published
+    /// world can be made, which leaks its two worlds.
     pub fn open<N: ListName>(self) -> Result<(Live<N>, Vec<Pass<N>>), OpenFault>
         requires name { self.name ≡ N.book }
         requires definition { self.definition ≡ N.definition }
@@ -130,7 +129,7 @@ impl Opening {
             workers,
             alloc,
         } = self;
-        // What a pass takes is made before the published world, which nothing here could give back.
+        // The parts of passes are made before the published world, which could not be freed here.
         let seats = make_seats(alloc, ledgers, &definition)?;
         let passes = Vec::with_capacity(alloc, seats.len())?;
         let (head, front) = list.with_name::<N>();
@@ -145,7 +144,7 @@ impl Opening {
     }
 }
 
-// What a pass is made of beside its reader.
+// The parts of a pass other than its reader.
 #[derive(Drop)]
 struct Seat {
     ledger: Ledger,
@@ -153,7 +152,7 @@ struct Seat {
     definition: Definition,
 }
 
-// The writer of the published world, with no control.
+// Returns the writer of the published world, with no control.
 fn desk<N: ListName>(
     alloc: Global,
     first: World,
@@ -180,7 +179,7 @@ fn desk<N: ListName>(
     WorldWriter::<N>::new(alloc, first, second, workers)
 }
 
-// A seat for each ledger, in order.
+// Returns a seat for each ledger, in order.
 fn make_seats(
     alloc: Global,
     ledgers: Vec<Ledger>,
@@ -200,7 +199,7 @@ fn make_seats(
     Ok(seats)
 }
 
-// A pass for each seat, in order, in the room that is there for them.
+// Returns a pass for each seat, in order, in the room that is reserved for them.
 fn seat_all<N: ListName>(
     writer: &WorldWriter<N>,
     front: &Front<N>,

@@ -1,4 +1,4 @@
-//! What one worker calls through, without a lock.
+//! Passes, through which workers make calls without a lock.
 
 ghost use Rattle.std.specs.Prelude.{◌≡◌, ◌+◌, ◌<◌, ◌≤◌, ◌⊎◌, ◌∷◌, ℕ, [], length, true, false, IfOk, IfErr, IfSome, IfNone, IsOk, OnOk, OnErr};
 ghost use mathlib.Core.List.{IsPrefix};
@@ -28,10 +28,11 @@ use mh_type::{Outcome, Value};
 use std::fmt;
 use std::marker::Model;
 
-/// What one worker calls through. A call takes no lock and waits for no other thread.
+/// The handle through which one worker makes calls. A call takes no lock and waits for no other
+/// thread.
 ///
-/// A pass that is inside a call holds up the next change of the world, and what waits behind it; a
-/// pass between calls holds up nobody.
+/// A pass that is inside a call delays the next change of the world, and everything that waits for
+/// that change; a pass between calls delays nothing.
 #[derive(Drop)]
 pub struct Pass<N: ListName> {
     reader: WorldReader<N>,
@@ -60,7 +61,7 @@ impl<N: ListName> Model for Pass<N> {
     ghost invariant = { λ p. (p.definition ≡ N.definition) × (length p.ledger.unflushed ≡ length (links N.definition)) };
 }
 
-/// Its worker, and the controls that it has seen.
+/// Shows its worker, and the list of controls that it has seen.
 impl<N: ListName> fmt::Debug for Pass<N> {
     fn fmt<W: fmt::Write>(&self, f: &mut fmt::Formatter<W>) -> fmt::Result {
         let (worker, front) = (self.worker(), &self.front);
@@ -68,18 +69,18 @@ impl<N: ListName> fmt::Debug for Pass<N> {
     }
 }
 
-/// What a call gave.
+/// The result of a call.
 #[derive(Debug, Drop)]
 pub struct PassAnswer {
-    /// A value, or a throw.
+    /// The value returned, or the exception thrown.
     pub outcome: Outcome,
-    /// The number of nodes that were entered.
+    /// The number of nodes evaluated.
     pub steps: u128,
-    /// The number of controls of the list by whose world it was answered.
+    /// The number of controls of the list whose world answered the call.
     pub front: u64,
 }
 
-// What is called, and the stack that it is evaluated on.
+// The site to call with its arguments, and the stack to evaluate it on.
 #[derive(Drop)]
 struct Request<'a> {
     stack: &'a mut Stack,
@@ -87,15 +88,15 @@ struct Request<'a> {
     arguments: &'a [Value],
 }
 
-// The list whose world was entered, and what the site gave there.
+// The list whose world was entered, and the result of the site in that world.
 #[derive(Drop)]
 struct Visited<N: ListName> {
     front: Front<N>,
     given: Result<(Outcome, u128), NoMemory>,
 }
 
-// Enters once, evaluates by the one world that is found there, and leaves. None where the world
-// could not be entered.
+// Enters once, evaluates by the one world that is published then, and leaves. Returns `None` if the
+// world could not be entered.
 fn visit<N: ListName>(
     reader: WorldReader<N>,
     request: Request<'_>,
@@ -133,7 +134,7 @@ fn visit<N: ListName>(
 }
 
 impl<N: ListName> Pass<N> {
-    /// The pass of a worker, which has seen no control.
+    /// Returns the pass of a worker, which has seen no control.
     pub(crate) fn new(
         reader: WorldReader<N>,
         front: Front<N>,
@@ -155,14 +156,14 @@ impl<N: ListName> Pass<N> {
         }
     }
 
-    /// The number of its worker, from 0.
+    /// Returns the number of its worker, from 0.
     pub fn worker(&self) -> usize
         ensures value { result ≡ self.now.ledger.worker }
     {
         self.ledger.worker()
     }
 
-    /// The number of links.
+    /// Returns the number of links.
     pub fn links(&self) -> usize
         ensures count { result ≡ length self.now.ledger.unflushed }
         ensures links { result ≡ length (links N.definition) }
@@ -170,7 +171,7 @@ impl<N: ListName> Pass<N> {
         self.ledger.links()
     }
 
-    /// All hits of a link that its calls made, flushed or not.
+    /// Returns the number of hits of a link that its calls made, flushed or not.
     pub fn made(&self, link: usize) -> u64
         requires inside { link < length self.now.ledger.unflushed }
         ensures value { result ≡ made self.now.ledger link }
@@ -178,7 +179,7 @@ impl<N: ListName> Pass<N> {
         self.ledger.made(link)
     }
 
-    /// The hits of a link since its last flush.
+    /// Returns the number of hits of a link since its last flush.
     pub fn unflushed(&self, link: usize) -> u64
         requires inside { link < length self.now.ledger.unflushed }
         ensures value { result ≡ at self.now.ledger.unflushed link }
@@ -186,33 +187,33 @@ impl<N: ListName> Pass<N> {
         self.ledger.unflushed(link)
     }
 
-    /// The list of controls that it has seen or learnt.
+    /// Returns the list of controls that it has seen or learnt.
     pub fn front(&self) -> &Front<N>
         ensures value { result.now ≡ self.now.seen }
     {
         &self.front
     }
 
-    /// Its worker's ledger.
+    /// Returns its worker's ledger.
     pub fn ledger(&self) -> &Ledger
         ensures value { result.now ≡ self.now.ledger }
     {
         &self.ledger
     }
 
-    /// Calls a site (`MutableCallSite.dynamicInvoker`), without a lock and with no wait.
+    /// Calls a site (`MutableCallSite.dynamicInvoker`), without a lock and without waiting.
     ///
-    /// It is answered by one world, the one after a single list of controls that begins with all
-    /// that this pass has seen or learnt, and so are the sites that its trees invoke: the outcome
+    /// The call, and the sites that its trees invoke, are answered by one world: the one after a
+    /// single list of controls that begins with all that this pass has seen or learnt. The outcome
     /// is what the site's base tree means over the base trees, and the steps are those of its
-    /// linked tree over the linked trees. Where the argument at the site's key place is the key of
+    /// linked tree over the linked trees. If the argument at the site's key position is the key of
     /// one of its links, the ledger counts a hit of that link.
     ///
-    /// Refused with `NoSite`, with `WrongType` where the arguments do not fit the site's type, with
-    /// `LedgerFull`, with `NotEntered` where the office is gone or the published world is behind
-    /// what this pass has seen, and then with `NoMemory`, which is not returned where no node that
-    /// is entered has String in its type; no hit is counted. At the last the pass may have seen
-    /// more controls than before.
+    /// Fails with `NoSite`, with `WrongType` if the arguments do not fit the site's type, with
+    /// `LedgerFull`, with `NotEntered` if the office has ended or the published world is behind
+    /// what this pass has seen, and otherwise only with `NoMemory`, which is not returned if no
+    /// node that is evaluated has String in its type. Then no hit is counted. With `NoMemory`, the
+    /// pass may have seen more controls than before.
     pub fn call(&mut self, site: usize, arguments: &[Value]) -> Result<PassAnswer, CallFault>
         ensures passes { OnOk result (MayCall N.definition self.old.ledger site arguments.now) }
         ensures answer { IfOk result (λ answer. AnswersBy N.definition self.new.seen site
@@ -233,7 +234,7 @@ impl<N: ListName> Pass<N> {
             → TakesNoMemory N.definition self.new.seen site arguments.now → ⊥) }
     {
         let link = test_callee(&self.definition, site, arguments)?;
-        // Read for what a ledger keeps.
+        // Names the invariant of the ledger for the proof.
         let _limit = self.ledger.limit();
         if !has_room(&self.ledger, link) {
             return Err(CallFault::LedgerFull);
@@ -247,7 +248,7 @@ impl<N: ListName> Pass<N> {
         })
     }
 
-    // What the site gives by one world that is not behind what was seen.
+    // Returns the result of the site by one world that is not behind what was seen.
     fn enter(&mut self, site: usize, arguments: &[Value]) -> Result<(Outcome, u128), CallFault>
         requires callable { IsCallable N.definition site arguments.now }
         ensures outcome { IfOk result (λ r. let w = world_after N.definition self.new.seen in
@@ -286,8 +287,8 @@ impl<N: ListName> Pass<N> {
         }
     }
 
-    /// From now on it answers by no list that is shorter than the receipt's, and so sees what the
-    /// receipt is of.
+    /// Makes sure that the pass sees the event of a receipt: from now on no call is answered by a
+    /// list that is shorter than the receipt's.
     pub fn learn(&mut self, receipt: &Receipt<N>)
         ensures one { (self.new.seen ≡ self.old.seen) ⊎ (self.new.seen ≡ receipt.now.front) }
         ensures seen { IsPrefix self.old.seen self.new.seen }

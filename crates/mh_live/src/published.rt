@@ -1,4 +1,4 @@
-//! What passes read: a world, and the list whose replay it is.
+//! The published values: a world, and the list whose replay it is.
 
 use crate::front::Past;
 use left_right::Absorb;
@@ -6,22 +6,22 @@ use mh_site::{Control, World};
 use std::alloc::AllocError;
 use std::collections::LinkedList;
 
-/// A world and its list of controls. There are two, of which calls read one.
+/// A world and its list of controls. There are two of them, and calls read one.
 #[derive(Drop)]
 pub struct Published {
     pub world: World,
     pub past: Past,
 }
 
-/// A control, and the list that has it at its end: the two steps of a change.
+/// A control, and the list that ends with it: the two steps of a change.
 #[derive(Drop)]
 pub enum Publication {
     Change(Control),
     Stamp(Past),
 }
 
-/// What a reader has seen: the list of each world that it entered, newest first. No value of it is
-/// made.
+/// The history of a reader: the list of each world that it entered, newest first. No value of it
+/// exists at run time.
 pub struct View {
     pub entered: LinkedList<LinkedList<Control>>,
 }

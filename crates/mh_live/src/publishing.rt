@@ -1,4 +1,4 @@
-//! How a control reaches the published world.
+//! Publishing a control.
 
 ghost use Rattle.std.specs.Prelude.{◌≡◌, ◌++◌, ◌∷◌, ◌<◌, [], drop, fold, length, IfErr, IfOk, MatchBool, MatchResult, OnErr, OnOk};
 ghost use Rattle.mh_core.specs.Standing.{AreStanding};
@@ -16,16 +16,16 @@ use mh_site::Control;
 use std::alloc::AllocError;
 use std::sync::Wait;
 
-// How far a control came that was not published.
+// The progress of a control whose publication failed.
 #[derive(Clone, Copy, PartialEq, Eq)]
 pub(crate) enum Halt {
-    // Nothing of it is left.
+    // No part of it remains.
     Before,
     // It is pending, so nothing more can be published.
     Midway,
 }
 
-// Shows what is pending, in one step.
+// Publishes the pending steps, all at once.
 fn publish<N: ListName, R: Wait>(
     writer: WorldWriter<N>,
     rt: &R,
@@ -42,7 +42,7 @@ fn publish<N: ListName, R: Wait>(
     writer.publish_as::<Sees<N>, R>(rt)
 }
 
-// Makes a step pending, and says whether there was memory for it.
+// Makes a step pending, and returns whether there was memory for it.
 fn append<N: ListName>(writer: &mut WorldWriter<N>, step: Publication) -> bool
     ensures desk { writer.new.desk ≡ writer.old.desk }
     ensures pending { MatchBool result (drop writer.new.behind writer.new.log.items

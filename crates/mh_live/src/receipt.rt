@@ -1,4 +1,4 @@
-//! What the office answers.
+//! Receipts of an office.
 
 ghost use Rattle.std.specs.Prelude.{◌≡◌};
 
@@ -7,7 +7,7 @@ use mh_core::Reply;
 use std::fmt;
 use std::marker::Model;
 
-/// The reply to an event that was accepted, and the list of controls up to it. Contracts see both.
+/// The reply to an accepted event, and the list of controls up to it. Contracts see both.
 #[derive(Drop)]
 pub struct Receipt<N: ListName> {
     reply: Reply,
@@ -24,7 +24,7 @@ impl<N: ListName> Model for Receipt<N> {
     ghost view = { λ r. record { reply = r.reply; front = r.front } };
 }
 
-/// What was answered, and the list of controls up to it.
+/// Shows the reply, and the list of controls up to it.
 impl<N: ListName> fmt::Debug for Receipt<N> {
     fn fmt<W: fmt::Write>(&self, f: &mut fmt::Formatter<W>) -> fmt::Result {
         write!(f, "Receipt({:?}, {:?})", self.reply, self.front)
@@ -32,21 +32,22 @@ impl<N: ListName> fmt::Debug for Receipt<N> {
 }
 
 impl<N: ListName> Receipt<N> {
-    /// The receipt of a reply.
+    /// Returns the receipt of a reply.
     pub(crate) fn new(reply: Reply, front: Front<N>) -> Receipt<N>
         ensures value { result ≡ record { reply = reply; front = front } }
     {
         Receipt { reply, front }
     }
 
-    /// What was answered.
+    /// Returns the reply.
     pub fn reply(&self) -> &Reply
         ensures value { result.now ≡ self.now.reply }
     {
         &self.reply
     }
 
-    /// The list of controls up to the event, with that of the event itself where it is a control.
+    /// Returns the list of controls up to the event, including the event's own control, if it has
+    /// one.
     pub fn front(&self) -> &Front<N>
         ensures value { result.now ≡ self.now.front }
     {

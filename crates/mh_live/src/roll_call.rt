@@ -1,4 +1,4 @@
-//! Which passes are back, and what they have not flushed.
+//! Finding which passes are returned, and the hits that they have not flushed.
 
 ghost use Rattle.std.specs.Prelude.{◌≡◌, ◌<◌, ◌==◌, ◌↔◌, ◌≤◌, ℕ, length, map, IfErr, IfOk, IsTrue, OnOk};
 ghost use Rattle.std.specs.List.{All, count_by, range_with_len};
@@ -14,7 +14,7 @@ use crate::settle_fault::SettleFault;
 use mh_ledger::Totals;
 use std::alloc::Global;
 
-// The hits of each link that the passes have not flushed, where all passes are back.
+// Returns the hits of each link that the passes have not flushed, if all passes are returned.
 pub(crate) fn unflushed_hits<N: ListName>(
     alloc: Global,
     office: &Office<N>,
@@ -29,7 +29,7 @@ pub(crate) fn unflushed_hits<N: ListName>(
     ensures refused { IfErr result (IsUnsettledBy office.now.book.totals passes.now) }
 {
     let totals = office.book().totals();
-    // Read for what totals keep.
+    // Names the invariant of the totals for the proof.
     let _links = totals.links();
     if !are_back(totals, passes) {
         return Err(SettleFault::MissingPass);
@@ -43,26 +43,27 @@ pub(crate) fn unflushed_hits<N: ListName>(
     Ok(hits)
 }
 
-// The hits of a link that the passes have not flushed.
+// Returns the hits of a link that the passes have not flushed.
 fn unflushed_of<N: ListName>(totals: &Totals, passes: &[Pass<N>], link: usize) -> u128
     requires back { AreBack totals.now passes.now }
     requires inside { link < length totals.now.total }
     ensures value { result ≡ unflushed_by passes.now link }
     ensures within { result ≤ most_hits_of_all }
 {
-    // Read for what totals keep.
+    // Names the invariant of the totals for the proof.
     let _links = totals.links();
     let mut hits = 0u128;
     for pass in passes {
         let ledger = pass.ledger();
-        // Read for what a ledger keeps.
+        // Names the invariant of the ledger for the proof.
         let _links = ledger.links();
         hits += u128::from(ledger.unflushed(link));
     }
     hits
 }
 
-// Whether each worker has one pass among these, and the totals hold the ledgers of all.
+// Returns whether each worker has exactly one pass among these, and the totals hold the ledgers of
+// all.
 fn are_back<N: ListName>(totals: &Totals, passes: &[Pass<N>]) -> bool
     ensures decides { IsTrue result ↔ AreBack totals.now passes.now }
 {
@@ -70,7 +71,7 @@ fn are_back<N: ListName>(totals: &Totals, passes: &[Pass<N>]) -> bool
     once && are_held(totals, passes)
 }
 
-// Whether each worker has one pass.
+// Returns whether each worker has exactly one pass.
 fn has_each_once<N: ListName>(workers: usize, passes: &[Pass<N>]) -> bool
     ensures decides { IsTrue result
         ↔ ((w : ℕ) → w < workers → count_by (λ p. p.ledger.worker == w) passes.now ≡ 1) }
@@ -83,21 +84,21 @@ fn has_each_once<N: ListName>(workers: usize, passes: &[Pass<N>]) -> bool
     true
 }
 
-// How many passes a worker has.
+// Returns the number of passes of a worker.
 fn passes_of<N: ListName>(worker: usize, passes: &[Pass<N>]) -> usize
     ensures value { result ≡ count_by (λ p. p.ledger.worker == worker) passes.now }
 {
     passes.iter().filter(|pass| pass.worker() == worker).count()
 }
 
-// Whether the totals hold the ledgers of all passes.
+// Returns whether the totals hold the ledgers of all passes.
 fn are_held<N: ListName>(totals: &Totals, passes: &[Pass<N>]) -> bool
     ensures decides { IsTrue result ↔ All (λ p. Holds totals.now p.ledger) passes.now }
 {
     passes.iter().all(|pass| totals.holds(pass.ledger()))
 }
 
-// Of what each pass has seen and the list one begins the other.
+// States that, of the list that each pass has seen and this list, one is a prefix of the other.
 pub(crate) fn compare_all<N: ListName>(passes: &[Pass<N>], front: &Front<N>)
     ensures within { All (IsWithin front.now) passes.now }
 {

@@ -7,7 +7,7 @@ use left_right::reader::Reader;
 use left_right::writer::Writer;
 use std::marker::PhantomData;
 
-/// Each published world is the replay of a beginning of the list that N names, its trees are of
+/// Each published world is the replay of a prefix of the list that `N` names, its trees are of
 /// their sites' types and mean what the base trees mean, and no reader enters a list shorter than
 /// one that it has seen.
 pub struct Fronts<N: ListName> {
@@ -22,7 +22,7 @@ impl<N: ListName> Protocol<Published, View> for Fronts<N> {
     ghost first = { newcomer };
 }
 
-/// A reader that enters, and a writer that publishes.
+/// The transitions: a reader that enters, and a writer that publishes.
 pub struct Sees<N: ListName> {
     of: PhantomData<N>,
 }
@@ -33,8 +33,8 @@ impl<N: ListName> Outcome<Published, View> for Sees<N> {
     ghost then = { Looks N.book N.definition };
 }
 
-/// What a pass enters the published world by.
+/// The reader with which a pass enters the published world.
 pub type WorldReader<N> = Reader<Published, View, Fronts<N>>;
 
-/// What an office publishes by.
+/// The writer with which an office publishes.
 pub type WorldWriter<N> = Writer<Published, Publication, View, Fronts<N>>;

@@ -1,23 +1,24 @@
-//! Why running threads are not settled.
+//! Reasons to refuse a settlement.
 
 ghost use Rattle.std.specs.Prelude.{◌≡◌};
 ghost use Rattle.mh_live.specs.Faults.{settle_fault_number};
 
 use thiserror::Error;
 
-/// Why a settlement was refused.
+/// The reason why running threads were not settled.
 #[derive(Clone, Copy, Debug, PartialEq, Eq, Error)]
 pub enum SettleFault {
-    /// A growth was refused.
+    /// An allocation was refused.
     #[error("1 NoMemory")]
     NoMemory,
-    /// A worker's pass is not there, is there twice, or has a ledger that the totals do not hold.
+    /// The pass of a worker is missing, is there twice, or has a ledger that the totals do not
+    /// hold.
     #[error("2 MissingPass")]
     MissingPass,
 }
 
 impl SettleFault {
-    /// The fault's number.
+    /// Returns the fault's number.
     pub fn number(self) -> u8
         ensures value { result ≡ settle_fault_number self }
     {

@@ -1,4 +1,4 @@
-//! What stands once all passes are back.
+//! The state after all passes are returned.
 
 ghost use Rattle.std.specs.Prelude.{◌≡◌, ◌+◌, ◌<◌, ◌≤◌, length, IfErr, IfOk, OnOk};
 ghost use Rattle.std.specs.List.{All};
@@ -22,8 +22,8 @@ use std::alloc::Global;
 use std::fmt;
 use std::marker::Model;
 
-/// What running threads leave once all their passes are back: the book, and for each link how often
-/// the passes hit it.
+/// The state that running threads leave after all their passes are returned: the book, and for each
+/// link the number of hits that the passes made.
 #[derive(Drop)]
 pub struct Settled<N: ListName> {
     book: Book,
@@ -47,7 +47,7 @@ impl<N: ListName> Model for Settled<N> {
     } };
 }
 
-/// The list of controls of its office.
+/// Shows the list of controls of its office.
 impl<N: ListName> fmt::Debug for Settled<N> {
     fn fmt<W: fmt::Write>(&self, f: &mut fmt::Formatter<W>) -> fmt::Result {
         write!(f, "Settled({:?})", self.front)
@@ -55,8 +55,8 @@ impl<N: ListName> fmt::Debug for Settled<N> {
 }
 
 impl<N: ListName> Settled<N> {
-    /// The book of an office with the list of its controls, and for each link the hits that were
-    /// not flushed.
+    /// Returns the state of the book of an office with the list of its controls, and with the
+    /// unflushed hits of each link.
     pub(crate) fn new(book: Book, unflushed: Vec<u128>, front: Front<N>) -> Settled<N>
         requires settled { IsSettled N.definition N.limits N.workers record
             { book = book; unflushed = unflushed.items; front = front } }
@@ -70,7 +70,7 @@ impl<N: ListName> Settled<N> {
         }
     }
 
-    /// The number of links.
+    /// Returns the number of links.
     pub fn links(&self) -> usize
         ensures count { result ≡ length (links N.definition) }
         ensures settled { IsSettled N.definition N.limits N.workers self.now }
@@ -78,7 +78,7 @@ impl<N: ListName> Settled<N> {
         self.unflushed.len()
     }
 
-    /// All hits of a link that the passes made, flushed or not.
+    /// Returns the number of hits of a link that the passes made, flushed or not.
     pub fn made(&self, link: usize) -> u128
         requires inside { link < length (links N.definition) }
         ensures value { result ≡ at self.now.book.totals.total link + at self.now.unflushed link }
@@ -86,19 +86,19 @@ impl<N: ListName> Settled<N> {
         u128::from(self.total(link)) + self.unflushed(link)
     }
 
-    /// The hits of a link that the passes flushed.
+    /// Returns the number of hits of a link that the passes flushed.
     pub fn total(&self, link: usize) -> u64
         requires inside { link < length (links N.definition) }
         ensures value { result ≡ at self.now.book.totals.total link }
         ensures within { result ≤ greatest_limit }
     {
         let totals = self.book.totals();
-        // Read for what totals keep.
+        // Names the invariant of the totals for the proof.
         let _links = totals.links();
         totals.total(link)
     }
 
-    /// The hits of a link that no pass flushed.
+    /// Returns the number of hits of a link that no pass flushed.
     pub fn unflushed(&self, link: usize) -> u128
         requires inside { link < length (links N.definition) }
         ensures value { result ≡ at self.now.unflushed link }
@@ -107,29 +107,29 @@ impl<N: ListName> Settled<N> {
         self.unflushed[link]
     }
 
-    /// The list of all controls.
+    /// Returns the list of all controls.
     pub fn front(&self) -> &Front<N>
         ensures value { result.now ≡ self.now.front }
     {
         &self.front
     }
 
-    /// The book, with all records.
+    /// Returns the book, with all records.
     pub fn book(&self) -> &Book
         ensures value { result.now ≡ self.now.book }
     {
         &self.book
     }
 
-    /// What the next office and its passes are made of, for so many workers, 1 to 64, within the
-    /// same limits, and the points that it is to invalidate first, ascending: from then on each
-    /// site's calls mean what they meant here, and the same points are valid, beside those that are
-    /// to be valid again. Of these each that is invalid gives way to its fallback in the base trees.
-    /// Points, sites and links keep their numbers. Hits count from 0; what was hit stands here.
-    /// In the time of `Book::renewed`, beside that of `Opening::new`.
+    /// Returns the parts of the next office and its passes, for `workers` workers, 1 to 64, within
+    /// the same limits, and the points that this office is to invalidate first, ascending. From
+    /// then on each site's calls mean what they meant here, and the same points are valid, as well
+    /// as those in `again`. In the base trees, each invalid point in `again` is replaced by its
+    /// fallback. Points, sites and links keep their numbers. Hits count from 0 again; the earlier
+    /// ones remain here. Takes the time of `Book::renewed` plus that of `Opening::new`.
     ///
-    /// Refused with `NoPoint` where a number of a point that is to be valid again is past the last
-    /// point, and then with `NoMemory`.
+    /// Fails with `NoPoint` if a point that is to be valid again does not exist, and otherwise only
+    /// with `NoMemory`.
     pub fn renew(
         &self,
         alloc: Global,
@@ -151,7 +151,7 @@ impl<N: ListName> Settled<N> {
         Ok((opening, invalid))
     }
 
-    // An opening of a definition, within the limits of now.
+    // Returns an opening of a definition, within the current limits.
     fn reopen(
         &self,
         alloc: Global,
@@ -169,18 +169,18 @@ impl<N: ListName> Settled<N> {
     }
 }
 
-/// What could not be settled, as it was.
+/// The parts of a settlement that failed, unchanged.
 #[derive(Drop)]
 pub struct Unsettled<N: ListName> {
     /// The office that threads share.
     pub live: Live<N>,
-    /// The passes, as they were handed in.
+    /// The passes that were handed in.
     pub passes: Vec<Pass<N>>,
-    /// Why it was not settled.
+    /// The reason why it was not settled.
     pub fault: SettleFault,
 }
 
-/// Why it was not settled.
+/// Shows the reason why it was not settled.
 impl<N: ListName> fmt::Debug for Unsettled<N> {
     fn fmt<W: fmt::Write>(&self, f: &mut fmt::Formatter<W>) -> fmt::Result {
         write!(f, "Unsettled({:?})", self.fault)

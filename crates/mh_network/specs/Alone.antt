@@ -7,19 +7,19 @@ use Rattle.mh_network.specs.Problems.{ProblemData, IsProblem, needs_point, sum_o
 use Rattle.mh_network.specs.Parts.{IsPartOf, PartsJoin, part_at, part_problem, place_of, restricted}
 use Rattle.mh_network.specs.Selection.{member, worth}
 
--- where links and a value are worth all gains in each part, they are so in the whole
+-- if links and a value add up to all gains in each part, they do so in the whole
 abbrev pub PartsAddUp : ProblemData → List Part → Type 0
 PartsAddUp P parts = (S : ℕ → Bool) → ((j : ℕ) → S j ≡ true → j < length P.links) → (value : ℕ → ℕ) →
     ((i : ℕ) → i < length parts →
     worth (part_problem P (part_at parts i)) (restricted S (part_at parts i)) +ℤ pos (value i) ≡ pos (sum_of_gains (part_problem P (part_at parts i)))) →
     worth P S +ℤ pos (sum_below (length parts) value) ≡ pos (sum_of_gains P)
 
--- each number of a list has its place, and each place its number
+-- each number of a list has its index, and each index its number
 pub record AreNumbered (xs : List ℕ) : Type 0 where
   pub place : (p : ℕ) → member xs p ≡ true → (place_of xs p < length xs) × (slice_index_or xs (place_of xs p) 0 ≡ p)
   pub number : (k : ℕ) → k < length xs → (member xs (slice_index_or xs k 0) ≡ true) × (place_of xs (slice_index_or xs k 0) ≡ k)
 
--- each part is a problem of its own: its links and points are numbered, and need each other as they do in the whole
+-- each part is a problem of its own: its links and points are numbered, and need each other as in the whole
 pub record StandAlone (P : ProblemData) (parts : List Part) : Type 0 where
   pub part : (i : ℕ) → IsPartOf P (part_at parts i)
   pub problem : (i : ℕ) → IsProblem (part_problem P (part_at parts i))

@@ -1,4 +1,4 @@
--- The block of links between two scales as a problem of its own, and how blocks give the scale up to which each link is chosen.
+-- The block of links between two scales as a problem of its own, and how blocks determine the scale up to which each link is chosen.
 use Rattle.std.specs.Prelude.{ℕ, ◌+◌, ◌*◌, ◌≡◌, ◌≤◌, ◌<◌, ◌⊎◌, ◌&&◌, ◌||◌, not, Bool, true, false, length, map, nat_lt}
 use Rattle.std.specs.List.{filter}
 use Rattle.std.specs.List.Sorted.{IsStrictlyIncreasing}
@@ -9,14 +9,14 @@ use Rattle.mh_network.specs.Selection.{IsLeast, member, union_of_needs}
 use Rattle.mh_network.specs.Parts.{part_problem, place_of}
 use Rattle.mh_network.specs.Scales.{IsUntil, net_of, scaled}
 
--- the problem in which links need these points alone
+-- the problem in which links need only these points
 abbrev pub needing_row : (ℕ → Bool) → LinkRow → LinkRow
 needing_row V r = record { gain = r.gain; eligible = r.eligible; needs = filter V r.needs; charge = r.charge }
 
 abbrev pub needing : ProblemData → (ℕ → Bool) → ProblemData
 needing P V = record { links = map (needing_row V) P.links; costs = P.costs }
 
--- the links that low has and high has not, ascending, and points that high does not need, with all of these that the links need
+-- the links that low has and high has not, ascending, and points that high does not need, including all of these that the links need
 pub record IsBlock (P : ProblemData) (low high : ℕ → Bool) (part : Part) : Type 0 where
   pub links : IsStrictlyIncreasing part.links
   pub points : IsStrictlyIncreasing part.points
@@ -26,7 +26,7 @@ pub record IsBlock (P : ProblemData) (low high : ℕ → Bool) (part : Part) : T
   pub unpaid : (p : ℕ) → member part.points p ≡ true → union_of_needs P high p ≡ false
   pub needs_in : (j p : ℕ) → member part.links j ≡ true → needs_point P j p ≡ true → union_of_needs P high p ≡ false → member part.points p ≡ true
 
--- a block as a problem of its own, with its links and points numbered anew: what high needs is paid for
+-- a block as a problem of its own, with its links and points renumbered: the needs of high are paid for
 abbrev pub block_problem : ProblemData → Part → ProblemData
 block_problem P part = part_problem (needing P (member part.points)) part
 
@@ -34,11 +34,11 @@ block_problem P part = part_problem (needing P (member part.points)) part
 abbrev pub with_block : (ℕ → Bool) → Part → (ℕ → Bool) → ℕ → Bool
 with_block high part V j = (member part.links j && V (place_of part.links j)) || high j
 
--- the least best links of the block, by its numbers, make with those of high the least best links of all
+-- the least best links of the block, by its numbers, are with those of high the least best links of all
 abbrev pub BlockJoins : ProblemData → (ℕ → Bool) → Part → Type 0
 BlockJoins P high part = (V : ℕ → Bool) → IsLeast (block_problem P part) V → IsLeast P (with_block high part V)
 
--- what a block ends with: the least best links at that scale, or none, as past the greatest scale
+-- the end of a block: the least best links at that scale, or none, as past the greatest scale
 abbrev pub IsEnd : ProblemData → ℕ → (ℕ → Bool) → Type 0
 IsEnd P k high = IsLeast (scaled P k) high ⊎ ((j : ℕ) → high j ≡ false)
 
@@ -49,7 +49,7 @@ block_row P part j = record { gain = 1000 * net_of P j; eligible = (link_at P j)
 abbrev pub scaled_block : ProblemData → ℕ → Part → ProblemData
 scaled_block P k part = record { links = map (block_row P part) part.links; costs = map (λ p. k * cost_of P p) part.points }
 
--- between two scales, the least best links of the block make the least best links of all with those of the upper end
+-- between two scales, the least best links of the block are with those of the upper end the least best links of all
 abbrev pub ScaleBlocksJoin : ProblemData → Type 0
 ScaleBlocksJoin P = (first k last : ℕ) → first ≤ k → k ≤ last → (low high : ℕ → Bool) → IsLeast (scaled P first) low → IsEnd P last high → (part : Part) → IsBlock P low high part →
     (V : ℕ → Bool) → IsLeast (scaled_block P k part) V → IsLeast (scaled P k) (with_block high part V)
@@ -62,17 +62,17 @@ gaining_links P j = nat_lt 0 (net_of P j)
 abbrev pub IsSolved : ProblemData → ℕ → ℕ → (ℕ → Bool) → (ℕ → Bool) → (ℕ → ℕ) → Type 0
 IsSolved P first last low high until = (k : ℕ) → first ≤ k → k < last → IsLeast (scaled P k) (λ j. high j || (low j && nat_lt k (until j)))
 
--- how blocks are solved, from all links that gain between no costs and a scale past the most
+-- how blocks are solved, starting with all links that gain between costs of 0 and a scale past the greatest
 pub record BlocksSolve (P : ProblemData) : Type 0 where
-  -- where costs are nothing, all links that gain are chosen
+  -- if costs are 0, all links that gain are chosen
   pub free : IsLeast (scaled P 0) (gaining_links P)
   -- between a scale and the next
   pub one : (first : ℕ) (low high : ℕ → Bool) (until : ℕ → ℕ) → IsLeast (scaled P first) low → ((j : ℕ) → high j ≡ true → low j ≡ true) →
       ((j : ℕ) → low j ≡ true → high j ≡ false → first < until j) → IsSolved P first (first + 1) low high until
-  -- where no link leaves
+  -- if no link leaves
   pub same : (first last : ℕ) (low high : ℕ → Bool) (until : ℕ → ℕ) → IsLeast (scaled P first) low → IsEnd P last high → ((j : ℕ) → low j ≡ high j) →
       IsSolved P first last low high until
-  -- of two blocks that meet
+  -- for two adjacent blocks
   pub two : (first k last : ℕ) (low mid high : ℕ → Bool) (until : ℕ → ℕ) → ((j : ℕ) → high j ≡ true → mid j ≡ true) → ((j : ℕ) → mid j ≡ true → low j ≡ true) →
       ((j : ℕ) → low j ≡ true → mid j ≡ false → until j ≤ k) → ((j : ℕ) → mid j ≡ true → high j ≡ false → k < until j) →
       IsSolved P first k low mid until → IsSolved P k last mid high until → IsSolved P first last low high until
@@ -82,7 +82,7 @@ pub record BlocksSolve (P : ProblemData) : Type 0 where
   -- all of them
   pub whole : (most : ℕ) (until : ℕ → ℕ) → ((j : ℕ) → gaining_links P j ≡ false → until j ≡ 0) → IsSolved P 0 (most + 1) (gaining_links P) (λ _. false) until → IsUntil P most until
 
--- how blocks begin and split: at the links between, in those of the block's links and in the others, which do not pay for the points of the former
+-- how blocks begin and split: at the links in between, into those links and the others, which do not pay for the points of the former
 pub record BlocksSplit (P : ProblemData) : Type 0 where
   pub first : (part : Part) → IsStrictlyIncreasing part.links → IsStrictlyIncreasing part.points → ((j : ℕ) → member part.links j ≡ gaining_links P j) →
       ((p : ℕ) → member part.points p ≡ nat_lt p (length P.costs)) → IsBlock P (gaining_links P) (λ _. false) part

@@ -1,14 +1,14 @@
 -- The limits of problems.
 use Rattle.std.specs.Prelude.{ℕ, ◌^◌}
 
--- the most links, and the most points, of a problem that `Problem::new` makes
+-- the greatest number of links, and of points, of a problem that `Problem::new` makes
 abbrev pub most_links : ℕ
 most_links = 16384
 
 abbrev pub most_points : ℕ
 most_points = 4096
 
--- the most links, the most points, and the most needs of a link, of a problem that `Problem::large` makes: no problem has more
+-- the greatest number of links, of points, and of needs of a link, of a problem that `Problem::large` makes: no problem has more
 abbrev pub greatest_count : ℕ
 greatest_count = 1048576
 

@@ -1,4 +1,4 @@
--- The parts of a problem: the classes of links and points that chains of needs join.
+-- The parts of a problem: the classes of links and points that are joined by chains of needs.
 use Rattle.std.specs.Prelude.{ℕ, suc, ◌+◌, ◌≡◌, ◌<◌, ◌==◌, ◌&&◌, List, [], ◌∷◌, Bool, true, cond, length, map, nat_lt}
 use Rattle.std.specs.List.{slice_index_or}
 use Rattle.std.specs.List.Sorted.{IsStrictlyIncreasing}
@@ -32,7 +32,7 @@ abbrev pub holds : Part → Item → Bool
 holds part (link j) = member part.links j
 holds part (point p) = member part.points p
 
--- parts with a link stand by their least link, and the others, of points, after them
+-- parts with a link are ordered by their least link, and the others, of points, come after them
 abbrev pub part_key : ProblemData → Part → ℕ
 part_key P part = slice_index_or part.links 0 (length P.links + slice_index_or part.points 0 0)
 
@@ -55,17 +55,17 @@ pub record IsPartOf (P : ProblemData) (part : Part) : Type 0 where
   pub points_in : (p : ℕ) → member part.points p ≡ true → p < length P.costs
   pub needs_in : (j p : ℕ) → member part.links j ≡ true → needs_point P j p ≡ true → member part.points p ≡ true
 
--- where a number stands in a list
+-- the index of a number in a list
 abbrev pub place_of : List ℕ → ℕ → ℕ
 place_of [] p = 0
 place_of (x ∷ xs) p = cond (x == p) 0 (suc (place_of xs p))
 
--- a table with the place of each point of a list in that list
+-- a table with the index of each point of a list in that list
 pub record ArePlaces (points : List ℕ) (bound : ℕ) (places : List ℕ) : Type 0 where
   pub count : length places ≡ bound
   pub value : (p : ℕ) → member points p ≡ true → slice_index_or places p 0 ≡ place_of points p
 
--- a part as a problem of its own, with its links and points numbered anew
+-- a part as a problem of its own, with its links and points renumbered
 abbrev pub part_row : ProblemData → Part → ℕ → LinkRow
 part_row P part j = record { gain = (link_at P j).gain; eligible = (link_at P j).eligible; needs = map (place_of part.points) (link_at P j).needs; charge = (link_at P j).charge }
 

@@ -14,18 +14,18 @@ use Rattle.mh_base.specs.Limits.{most_needs}
 use Rattle.mh_network.specs.Limits.{most_links, most_points, greatest_count, greatest_sum}
 use Rattle.mh_network.specs.Problems.{no_link, problem_of, sum_of_gains, sum_of_costs, sum_of_charges}
 
--- the first link of which a fact does not hold, where there is one
+-- the first link of which a fact does not hold, if there is one
 abbrev pub IsFirstNot : (LinkRow → Type 0) → List LinkRow → Option ℕ → Type 0
 IsFirstNot Fact rows found = MatchOption found (All Fact rows) (λ j. (j < length rows) × HoldsAt (λ r. Fact r → ⊥) rows j × AllWithin Fact rows 0 j)
 
 abbrev pub misfit : ProblemFault → ProblemPlace → ProblemMisfit
 misfit fault place = record { fault = fault; place = place }
 
--- out of memory, which is reported of all
+-- lack of memory, which is attributed to the whole
 abbrev pub out_of_memory : ProblemMisfit
 out_of_memory = misfit NoMemory Whole
 
--- the links in turn: where the fact fails for one, its needs have the fault
+-- the links in turn: if the fact fails for one, its needs have the fault
 abbrev pub tests_of_needs : (LinkRow → Type 0) → ProblemFault → List LinkRow → Tests ProblemMisfit → Tests ProblemMisfit
 tests_of_needs Fact fault rows later =
     tests_of_each (λ j. test (Fact (slice_index_or rows j no_link)) (only (misfit fault (Needs j)))) (range_with_len 0 (length rows)) later

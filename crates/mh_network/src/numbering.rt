@@ -1,4 +1,4 @@
-//! A part of a problem as a problem of its own.
+//! Parts of a problem as problems of their own.
 
 ghost use Rattle.std.specs.Prelude.{◌≡◌, ◌<◌, ◌≤◌, All, IfOk, length, map, true};
 ghost use Rattle.std.specs.List.Sorted.{IsStrictlyIncreasing};
@@ -14,9 +14,10 @@ use mh_base::{Listing, NoMemory};
 use std::alloc::Global;
 
 impl Problem {
-    /// A part as a problem of its own: its links and points get the numbers from 0 on, in their
-    /// order. `places` is working memory, a number for each point of the problem: what it holds
-    /// does not matter, and one serves all parts. O(links, needs and points of the part).
+    /// Returns a part as a problem of its own: its links and points are numbered from 0, in their
+    /// order. `places` is working memory, with one element for each point of the problem: its
+    /// content does not matter, and it can be used for all parts. O(links, needs and points of the
+    /// part).
     pub fn part(&self, alloc: Global, part: &Part, places: &mut [u32]) -> Result<Problem, NoMemory>
         requires part { IsPartOf self.now part.now }
         requires room { length places.old ≡ length self.now.costs }
@@ -32,7 +33,7 @@ impl Problem {
     }
 }
 
-// Writes the place of each of these points among them.
+// Stores the index of each of these points in their list.
 fn set_places(places: &mut [u32], points: &[u32])
     requires inside { All (λ p. p < length places.old) points.now }
     requires ascending { IsStrictlyIncreasing points.now }
@@ -64,7 +65,7 @@ fn part_rows(
     Ok(Listing::from_vec(rows))
 }
 
-// A link of a part, with its needs by the part's numbers.
+// Returns a link of a part, with its needs by the part's numbers.
 fn part_row(
     alloc: Global,
     problem: &Problem,

@@ -1,9 +1,9 @@
-//! Where a fault of rows and costs stands.
+//! Places of faults of rows and costs.
 
 use crate::fault::ProblemFault;
 use mh_base::NoMemory;
 
-/// What of rows and costs has a fault.
+/// The part of rows and costs that has a fault.
 #[derive(Clone, Copy, Debug, PartialEq, Eq)]
 pub enum ProblemPlace {
     /// All of it.
@@ -16,12 +16,12 @@ pub enum ProblemPlace {
     Needs(usize),
 }
 
-/// Why rows and costs make no problem, and where.
+/// The reason why rows and costs do not make a problem, and the place of the fault.
 #[derive(Clone, Copy, Debug, PartialEq, Eq)]
 pub struct ProblemMisfit {
     /// The first test that fails.
     pub fault: ProblemFault,
-    /// What has the fault. Where it is of a link, it is the first that has it.
+    /// The part that has the fault. If the fault is of a link, it is the first link that has it.
     pub place: ProblemPlace,
 }
 

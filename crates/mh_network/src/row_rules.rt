@@ -14,20 +14,20 @@ use crate::link_row::LinkRow;
 use crate::place::{ProblemMisfit, ProblemPlace};
 use mh_base::{are_below, demand, is_ascending};
 
-/// The most links of a problem that `Problem::new` makes.
+/// The greatest number of links of a problem that `Problem::new` makes.
 pub const MOST_LINKS: usize = 16384;
 
-/// The most points of a problem that `Problem::new` makes.
+/// The greatest number of points of a problem that `Problem::new` makes.
 pub const MOST_POINTS: usize = 4096;
 
-/// The most links, the most points, and the most needs of a link, of a problem that
+/// The greatest number of links, of points, and of needs of a link, of a problem that
 /// `Problem::large` makes.
 pub const GREATEST_COUNT: usize = 1048576;
 
 /// The greatest sum of gains, and of costs and charges.
 pub const GREATEST_SUM: u64 = 1 << 62;
 
-/// The most links, the most points, and the most needs of a link.
+/// The greatest number of links, of points, and of needs of a link.
 #[derive(Drop)]
 pub(crate) struct Limits {
     pub(crate) links: usize,
@@ -35,7 +35,7 @@ pub(crate) struct Limits {
     pub(crate) needs: usize,
 }
 
-// All tests, in order.
+// Runs all tests, in order.
 pub(crate) fn test(rows: &[LinkRow], costs: &[u64], limits: &Limits) -> Result<(), ProblemMisfit>
     ensures value { MatchResult result
         (λ _. Passes (limited_tests limits.now.links limits.now.points limits.now.needs
@@ -75,7 +75,7 @@ pub(crate) fn test(rows: &[LinkRow], costs: &[u64], limits: &Limits) -> Result<(
     )
 }
 
-// A test, and the fault that is reported where it fails, with its place.
+// Tests a condition, and reports this fault with its place if it does not hold.
 fn demand_at(passes: bool, fault: ProblemFault, place: ProblemPlace) -> Result<(), ProblemMisfit>
     ensures value { MatchResult result (λ _. passes ≡ true)
         (λ e. (passes ≡ false) × (e ≡ misfit fault place)) }
@@ -83,7 +83,8 @@ fn demand_at(passes: bool, fault: ProblemFault, place: ProblemPlace) -> Result<(
     demand(passes, ProblemMisfit { fault, place })
 }
 
-// The fault of the first link that fails a test, where there is one, with its needs as the place.
+// Reports this fault for the first link that fails a test, if there is one, with its needs as the
+// place.
 fn demand_none(failing: Option<usize>, fault: ProblemFault) -> Result<(), ProblemMisfit>
     ensures value { MatchResult result (λ _. failing ≡ None)
         (λ e. (j : ℕ) × (failing ≡ Some j) × (e ≡ misfit fault (Needs j))) }
@@ -97,7 +98,7 @@ fn demand_none(failing: Option<usize>, fault: ProblemFault) -> Result<(), Proble
     }
 }
 
-// The first link with more needs than these.
+// Returns the first link with more than `most` needs.
 fn with_many_needs(rows: &[LinkRow], most: usize) -> Option<usize>
     ensures value { IsFirstNot (λ r. length r.needs ≤ most) rows.now result }
 {
@@ -105,7 +106,7 @@ fn with_many_needs(rows: &[LinkRow], most: usize) -> Option<usize>
         .position(|row| row.needs.as_slice().len() > most)
 }
 
-// The first link that needs a point past the last of so many.
+// Returns the first link that needs a point that does not exist, given the number of points.
 fn with_unknown_need(rows: &[LinkRow], points: usize) -> Option<usize>
     ensures value { IsFirstNot (λ r. All (λ p. p < points) r.needs) rows.now result }
 {
@@ -113,7 +114,7 @@ fn with_unknown_need(rows: &[LinkRow], points: usize) -> Option<usize>
         .position(|row| !are_below(row.needs.as_slice(), points))
 }
 
-// The first link whose needs do not ascend.
+// Returns the first link whose needs are not ascending.
 fn out_of_order(rows: &[LinkRow]) -> Option<usize>
     ensures value { IsFirstNot (λ r. IsStrictlyIncreasing r.needs) rows.now result }
 {
@@ -121,7 +122,8 @@ fn out_of_order(rows: &[LinkRow]) -> Option<usize>
         .position(|row| !is_ascending(row.needs.as_slice()))
 }
 
-// Whether the gains that count fit. The sum stops at 2^64 - 1, so that nothing wraps.
+// Returns whether the gains that count are within the limit. The sum saturates at 2^64 - 1, so that
+// it does not wrap.
 fn gains_fit(rows: &[LinkRow]) -> bool
     ensures value { result ≡ nat_le (sum_by kept_gain rows.now) greatest_sum }
 {
@@ -132,7 +134,7 @@ fn gains_fit(rows: &[LinkRow]) -> bool
     sum <= GREATEST_SUM
 }
 
-// Whether the costs and the charges of all links fit.
+// Returns whether the costs and the charges of all links are within the limit.
 fn costs_fit(rows: &[LinkRow], costs: &[u64]) -> bool
     ensures value { result ≡ nat_le (sum costs.now + sum_by (λ r. r.charge) rows.now) greatest_sum }
 {

@@ -1,4 +1,4 @@
-//! What all links gain, and what a flow carries.
+//! Totals of the gains of all links, and of a flow.
 
 ghost use Rattle.std.specs.Prelude.{◌≡◌, ◌≤◌, ◌^◌};
 ghost use Rattle.mh_network.specs.Problems.{sum_of_gains};
@@ -7,7 +7,7 @@ ghost use Rattle.mh_network.specs.Limits.{greatest_sum};
 
 use crate::problem::Problem;
 
-/// What all links of a problem gain together, at most 2^62. O(links).
+/// Returns the sum of the gains of all links of a problem, at most 2^62. O(links).
 pub fn all_gains(problem: &Problem) -> u64
     ensures value { result ≡ sum_of_gains problem.now }
     ensures small { result ≤ greatest_sum }
@@ -19,8 +19,8 @@ pub fn all_gains(problem: &Problem) -> u64
     sum
 }
 
-/// What the rows of a flow and its charges carry together, whatever rows they are: no number of
-/// them makes the sum wrap. A flow of a problem carries at most 2^62. O(rows).
+/// Returns the value of a flow with these rows and charges, whatever they are: the sum never wraps.
+/// A flow of a problem has at most the value 2^62. O(rows).
 pub fn carried(flow: &[(u32, u32, u64)], charges: &[(u32, u64)]) -> u128
     ensures value { result ≡ value_of flow.now charges.now }
 {

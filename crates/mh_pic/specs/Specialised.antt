@@ -1,8 +1,8 @@
--- A tree specialised for needs, which are points that are valid, and for a key, which the argument at the key place is. The
--- walk goes down from the root through points and guards, by the first case that fits:
+-- A tree specialised for needs, which are points that are valid, and for a key, which the argument at the key position equals. The walk
+-- goes down from the root through points and guards, by the first case that fits:
 --   1. a point that is needed: its specialised target;
 --   2. any other point: the point over its specialised branches;
---   3. a guard by a key test of the key's kind: its specialised target where the keys are equal, else its specialised fallback;
+--   3. a guard by a key test of the key's kind: its specialised target if the keys are equal, otherwise its specialised fallback;
 --   4. any other guard: its test without needed points, and its specialised branches;
 --   5. any other node: the node over its parts without needed points.
 use Rattle.std.specs.Prelude.{◌≡◌, ◌≤◌, ℕ, Bool, true, false, Option, Some, None, List, ◌==◌, ◌||◌, if◌then◌else◌, slice_index_or}
@@ -22,7 +22,7 @@ use Rattle.mh_pic.specs.Keys.{key_in, decided}
 abbrev pub is_among : List ℕ → ℕ → Bool
 is_among ps p = list_any (λ q. q == p) ps
 
--- where v holds each need valid
+-- v has each need valid
 abbrev pub AreValid : Environment → List ℕ → Type 0
 AreValid v needs = (p : ℕ) → is_among needs p ≡ true → is_valid v p ≡ true
 
@@ -60,20 +60,20 @@ retired ps t = resolved false ps t
 abbrev pub retired_tree : List ℕ → TypedTree → TypedTree
 retired_tree ps h = record { tree = retired ps h.tree; signature = h.signature }
 
--- How a tree goes on meaning what it meant in v where these points are taken as valid, or as invalid: so v holds each of them, and
--- w holds each other point as v does. Invocations give the same, in at most as many steps.
+-- How a tree keeps in w the meaning that it had in v if these points are taken as valid, or as invalid: v has each of them so, and w has
+-- each other point as v does. Invocations return the same, in at most as many steps.
 pub record Resolves (valid : Bool) (ps : List ℕ) (v w : Environment) : Type 0 where
   pub taken : (p : ℕ) → is_among ps p ≡ true → is_valid v p ≡ valid
   pub others : (p : ℕ) → is_among ps p ≡ false → is_valid w p ≡ is_valid v p
   pub calls : (s : ℕ) → (a : List Value) → w.calls s a ≡ v.calls s a
   pub quick : (s : ℕ) → (a : List Value) → w.call_steps s a ≤ v.call_steps s a
 
--- of which points are valid: these were not, whatever they are now, and each other point is as it was
+-- the validity of points before and after: these were invalid, whatever they are now, and each other point is as it was
 pub record Retires (ps : List ℕ) (old new : List Bool) : Type 0 where
   pub taken : (p : ℕ) → is_among ps p ≡ true → slice_index_or old p false ≡ false
   pub others : (p : ℕ) → is_among ps p ≡ false → slice_index_or new p false ≡ slice_index_or old p false
 
--- the branch that a decided test takes; a guard where it is not decided
+-- the branch that a decided test takes, or a guard if it is not decided
 abbrev pub branch : Option Bool → Tree → Tree → Tree → Tree
 branch (Some true) c x y = x
 branch (Some false) c x y = y
@@ -112,7 +112,7 @@ abbrev mutual
 abbrev pub NamesNone : List ℕ → Tree → Type 0
 NamesNone needs t = names needs t ≡ false
 
--- the tree serves for the base, of type m, where the needs are valid and the argument at place q is the key
+-- the tree can replace the base, of type m, if the needs are valid and the argument at position q is the key
 pub record Serves (needs : List ℕ) (q : ℕ) (key : Value) (tree base : Tree) (m : Signature) : Type 0 where
   pub typed : IsTyped tree m
   pub unnamed : NamesNone needs tree

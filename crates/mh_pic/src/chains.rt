@@ -21,21 +21,23 @@ use mh_code::Prepared;
 use mh_tree::{Declared, Handle};
 use std::alloc::Global;
 
-/// The inline cache of a site with this base tree (Hölzle, Chambers and Ungar, Optimizing
+/// Returns the inline cache of a site with this base tree (Hölzle, Chambers and Ungar, Optimizing
 /// Dynamically-Typed Object-Oriented Languages With Polymorphic Inline Caches, 1991).
 ///
-/// *Type*: the base's.
+/// *Type*: that of the base.
 ///
-/// *Pseudo-code*: for the entries in order, `adapter(a..) = if a[key_place] == key { if valid[needs[0]]
-/// && .. { specialised(a..) } else { base(a..) } } else { the rest of the entries, and last
-/// base(a..) }`, where `specialised` is what `specialise` makes of the base.
+/// *Pseudo-code*: for the entries in order, `adapter(a..) = if a[key_place] == key { if
+/// valid[needs[0]] && .. { specialised(a..) } else { base(a..) } } else { the rest of the entries,
+/// and finally base(a..) }`, where `specialised` is the result of `specialise` for the base.
 ///
-/// *Example*: over a base of type `(int)int` with point 0, the one entry of key 1 and need 0 makes
-/// `guard(ieq behind 1, point(0, the base for 1 without point 0, base), base)`.
+/// *Example*: over a base of type `(int)int` with point 0, the single entry with key 1 and need 0
+/// makes `guard(ieq with 1 inserted, point(0, the base specialised for 1 without point 0, base),
+/// base)`.
 ///
-/// The handle gives what the base gives, whichever points are valid. It takes time linear in the
-/// size of the base, for each entry. `may_chain` tests what it asks for: there are at most 4
-/// entries, each of at most 8 needs; the key place is a parameter, and each key is of its kind.
+/// The handle returns what the base returns, whichever points are valid. It takes time linear in
+/// the size of the base, for each entry. `may_chain` tests the preconditions: there are at most 4
+/// entries, each with at most 8 needs; the key position is that of a parameter, and each key is of
+/// its kind.
 pub fn chain(
     alloc: Global,
     base: &Declared,
@@ -58,7 +60,7 @@ pub fn chain(
     Ok(cache)
 }
 
-// The cache over a base that is within the limits of declared trees.
+// Returns the cache over a base that is within the limits of declared trees.
 fn chain_over(
     alloc: Global,
     base: &Handle,
@@ -80,16 +82,16 @@ fn chain_over(
     Ok(cache)
 }
 
-// The handle without its code.
+// Returns the handle without its code.
 fn handle_of(prepared: &Prepared) -> Result<Handle, NoMemory>
     ensures value { IfOk result (λ h. h ≡ prepared.now) }
 {
     prepared.handle().share()
 }
 
-/// Returns the inline cache of `chain` with its code, in which the base's code is shared: only key
-/// tests and specialised trees are prepared. The base is within the limits of declared trees; the
-/// rest is as for `chain`. An installation installs these caches.
+/// Returns the inline cache of `chain` with its code. The code of the base is shared: only key
+/// tests and specialised trees are prepared. The base must be within the limits of declared trees;
+/// the other preconditions are those of `chain`. An installation installs these caches.
 pub fn prepared_chain(
     alloc: Global,
     base: &Prepared,
@@ -112,7 +114,7 @@ pub fn prepared_chain(
     Ok(cache)
 }
 
-// The guards of all entries, the last over the base.
+// Returns the guards of all entries, the last over the base.
 fn link_all(
     alloc: Global,
     base: &Prepared,
@@ -136,7 +138,7 @@ fn link_all(
     Ok(cache)
 }
 
-// The guard of an entry over the cache of the others.
+// Returns the guard of an entry over the cache of the others.
 fn link(
     alloc: Global,
     base: &Prepared,
@@ -169,7 +171,8 @@ fn link(
     Ok(cache)
 }
 
-// The base specialised for an entry, with its code, which is the base's where that is the same tree.
+// Returns the base specialised for an entry, with its code, which is the base's if the tree is the
+// same.
 fn specialised_base(
     alloc: Global,
     base: &Prepared,
@@ -189,7 +192,7 @@ fn specialised_base(
     }
 }
 
-// The target while all these points are valid, and the base from when one is not.
+// Returns the handle that runs the target while all these points are valid, and otherwise the base.
 fn points(
     alloc: Global,
     needs: &[u32],

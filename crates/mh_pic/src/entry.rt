@@ -7,12 +7,12 @@ use mh_base::MOST_NEEDS;
 use mh_type::{MethodType, Value};
 use std::marker::Model;
 
-/// The most entries of a chain.
+/// The greatest number of entries of a chain.
 pub const MOST_ENTRIES: usize = 4;
 
-/// A case that an inline cache holds (Hölzle, Chambers and Ungar, Optimizing Dynamically-Typed
-/// Object-Oriented Languages With Polymorphic Inline Caches, 1991): a key, and the points that the
-/// tree for it needs.
+/// An entry of an inline cache (Hölzle, Chambers and Ungar, Optimizing Dynamically-Typed
+/// Object-Oriented Languages With Polymorphic Inline Caches, 1991): a key, and the points that its
+/// tree needs.
 #[derive(Debug, Drop)]
 pub struct Entry {
     key: Value,
@@ -28,21 +28,21 @@ impl Model for Entry {
 }
 
 impl Entry {
-    /// The case of a key, with the points that have to be valid while it is used, ascending.
+    /// Returns the entry of a key, with the points that must be valid while it is used, ascending.
     pub fn new(key: Value, needs: Vec<u32>) -> Entry
         ensures value { result ≡ record { key = key; needs = needs.items } }
     {
         Entry { key, needs }
     }
 
-    /// The key.
+    /// Returns the key.
     pub fn key(&self) -> &Value
         ensures value { result.now ≡ self.now.key }
     {
         &self.key
     }
 
-    /// The points that have to be valid.
+    /// Returns the points that must be valid.
     pub fn needs(&self) -> &[u32]
         ensures value { result.now ≡ self.now.needs }
     {
@@ -50,9 +50,9 @@ impl Entry {
     }
 }
 
-/// Whether `chain` may make a cache of these entries over a base of this type: the key place is a
-/// parameter, there are at most 4 entries, and each has a key of the kind of that parameter and at
-/// most 8 needs.
+/// Returns whether `chain` may make a cache of these entries over a base of this type: the key
+/// position is that of a parameter, there are at most 4 entries, and each has a key of the kind of
+/// that parameter and at most 8 needs.
 pub fn may_chain(base: &MethodType, key_place: usize, entries: &[Entry]) -> bool
     ensures same { IsTrue result ↔ MayChain base.now key_place entries.now }
 {

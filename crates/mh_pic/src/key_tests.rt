@@ -12,7 +12,7 @@ use mh_tree::Handle;
 use mh_type::{Kind, Op, Value};
 use std::alloc::Global;
 
-// The equality of a kind.
+// Returns the equality operation of a kind.
 fn equality(kind: Kind) -> Op
     ensures value { result ≡ equality_of kind }
 {
@@ -24,14 +24,14 @@ fn equality(kind: Kind) -> Op
     }
 }
 
-// Another owner of a value.
+// Returns another owner of a value.
 fn share(value: &Value) -> Result<Value, NoMemory>
     ensures value { IfOk result (λ v. v ≡ value.now) }
 {
     value.share().map_err(|_| NoMemory)
 }
 
-// The test whether the first argument is the key.
+// Returns the test of whether the first argument is the key.
 fn first_test(alloc: Global, key: &Value) -> Result<Handle, NoMemory>
     ensures value { IfOk result (λ h. h ≡ record {
       tree = first_test_of key.now;
@@ -45,7 +45,7 @@ fn first_test(alloc: Global, key: &Value) -> Result<Handle, NoMemory>
     Ok(test)
 }
 
-/// The test whether the argument behind these kinds is the key.
+/// Returns the test of whether the argument after these kinds is the key.
 pub(crate) fn key_test(alloc: Global, before: &[Kind], key: &Value) -> Result<Handle, NoMemory>
     requires few { length before.now < most_parameters }
     ensures value { IfOk result (λ h. h ≡ record {

@@ -7,7 +7,7 @@ ghost use Rattle.mh_pic.specs.Keys.{decided, equality_kind as kind_of_equality, 
 use mh_tree::Node;
 use mh_type::{Kind, Op, Value, same_kinds, same_value};
 
-// The kind whose equality an operation is.
+// Returns the kind whose equality an operation is.
 fn equality_kind(op: Op) -> Option<Kind>
     ensures value { result ≡ kind_of_equality op }
 {
@@ -20,7 +20,7 @@ fn equality_kind(op: Op) -> Option<Kind>
     }
 }
 
-// The key of a test of the first argument; none of any other tree.
+// Returns the key of a test of the first argument, or `None` for any other tree.
 fn first_key(node: &Node) -> Option<&Value>
     ensures value { option_copied result ≡ first_key_in (tree_of node.now) }
 {
@@ -41,7 +41,7 @@ fn first_key(node: &Node) -> Option<&Value>
     one_of_kind(equality_kind(*op), values)
 }
 
-// The one value of a list, if it has the kind.
+// Returns the only value of a list, if it has the kind.
 fn one_of_kind(kind: Option<Kind>, values: &[Value]) -> Option<&Value>
     ensures value { option_copied result ≡ one_of kind values.now }
 {
@@ -52,7 +52,7 @@ fn one_of_kind(kind: Option<Kind>, values: &[Value]) -> Option<&Value>
     }
 }
 
-/// The key of a key test behind these kinds; none of any other tree.
+/// Returns the key of a key test after these kinds, or `None` for any other tree.
 pub fn key_in<'a>(node: &'a Node, before: &[Kind]) -> Option<&'a Value>
     ensures value { option_copied result ≡ key_in_tree before.now (tree_of node.now) }
 {
@@ -73,8 +73,8 @@ pub fn key_in<'a>(node: &'a Node, before: &[Kind]) -> Option<&'a Value>
     first_key(target)
 }
 
-/// What a key test of this key, if it is one of the other key's kind, answers where the argument is
-/// the other key.
+/// Returns the answer of a key test if the argument is `key`, given the key that it tests. Returns
+/// `None` if there is no such test, or if its key is of another kind.
 pub fn decide_by_key(key: &Value, tested: Option<&Value>) -> Option<bool>
     ensures value { result ≡ decided key.now (option_copied tested.entry) }
 {

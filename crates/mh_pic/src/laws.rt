@@ -1,5 +1,5 @@
-//! Laws of the definitions: what specialised trees and chains do, for every tree. The functions
-//! compute nothing.
+//! Laws of the definitions: the behaviour of specialised trees and chains, for every tree. The
+//! functions compute nothing.
 
 ghost use Rattle.std.specs.Prelude.{◌≡◌, ◌<◌, ◌≤◌, ℕ, Bool, false, true, List, Some, length, map, take};
 ghost use Rattle.mh_type.specs.declared.kind.Kind.{Kind};
@@ -24,8 +24,8 @@ ghost use Rattle.mh_tree.specs.Handle.{TypedTree};
 ghost use Rattle.mh_tree.specs.Sites.{InvokesBelow, IsLawful, target_at, with_sites};
 ghost use Rattle.mh_type.specs.Fits.{Fits};
 
-/// A key test answers whether the argument at the key place is its key, where it is of the key's
-/// kind; and `key_in` gives the key of each key test, and none of any other tree.
+/// Proves that a key test answers whether the argument at the key position is its key, if it is of
+/// the key's kind; and that `key_in` returns the key of each key test, and none for any other tree.
 pub fn key_tests_ask_for_keys()
     ensures answers { (v : Environment) → (kinds : List Kind) → (key : Value) → (a : List Value)
         → length kinds < length a → kind_of (argument a (length kinds)) ≡ kind_of key
@@ -38,9 +38,9 @@ pub fn key_tests_ask_for_keys()
         → t ≡ key_test kinds key }
 {}
 
-/// A specialised tree has the type of its tree and names no need; it is no deeper, no larger, and
-/// names no other point. Where all needs are valid and the argument at the key place is the key, it
-/// gives what the tree gives, in at most as many steps.
+/// Proves that a specialised tree has the type of its tree and names no need; that it is no deeper
+/// and no larger, and names no other point. If all needs are valid and the argument at the key
+/// position is the key, it returns what the tree returns, in at most as many steps.
 pub fn specialised_trees_agree()
     ensures same { (needs : List ℕ) → (kinds : List Kind) → (key : Value) → (v : Environment)
         → AreValid v needs → (a : List Value) → length kinds < length a
@@ -62,11 +62,11 @@ pub fn specialised_trees_agree()
         → point_bound (specialised needs kinds key t) ≤ point_bound t }
 {}
 
-/// A tree without points, each of which gave way to its fallback, has the type of its tree and names
-/// none of them; it is the tree itself where that named none of them. It is no deeper, no larger,
-/// names no other point, and invokes what its tree invokes. It gives what the tree gave where these
-/// points were invalid, in at most as many steps, whatever they are now; and so does each site's
-/// tree, where all sites' trees are without them.
+/// Proves that a tree in which points are replaced by their fallbacks has the type of its tree and
+/// names none of them; it is the tree itself if that named none of them. It is no deeper and no
+/// larger, names no other point, and invokes what its tree invokes. It returns what the tree
+/// returned when these points were invalid, in at most as many steps, whether they are now valid or
+/// not; and so does each site's tree, if these points are replaced in all sites' trees.
 pub fn retired_points_keep_meaning()
     ensures same { (ps : List ℕ) → (v : Environment) → (w : Environment) → Resolves false ps v w
         → (t : Tree) → (m : Signature) → IsTyped t m → (a : List Value)
@@ -91,10 +91,10 @@ pub fn retired_points_keep_meaning()
         → (l : ℕ) → InvokesBelow levels targets l t → InvokesBelow levels targets l (retired ps t) }
 {}
 
-/// A chain has the type of its base, and gives what its base gives, whichever points are valid. It
-/// names points of its base and of its needs alone, and invokes what its base invokes. With at most
-/// 4 entries of at most 8 needs, over a declared tree, it is at most 76 deep and has at most 151,600
-/// nodes.
+/// Proves that a chain has the type of its base, and returns what its base returns, whichever
+/// points are valid. It names only points of its base and of its needs, and invokes what its base
+/// invokes. With at most 4 entries of at most 8 needs, over a declared tree, it is at most 76 deep
+/// and has at most 151,600 nodes.
 pub fn chains_are_faithful()
     ensures faithful { (m : Signature) → (q : ℕ) → q < length m.parameters
         → length m.parameters ≤ most_parameters → (base : Tree) → IsTyped base m
@@ -115,7 +115,7 @@ pub fn chains_are_faithful()
         → InvokesBelow levels targets l (chain kinds base entries) }
 {}
 
-/// With faithful trees in the place of the sites' bases, every lawful tree keeps its meaning.
+/// Proves that every lawful tree keeps its meaning if faithful trees replace the sites' bases.
 pub fn faithful_trees_keep_meaning()
     ensures same { (valid : List Bool) → (levels : List ℕ) → (trees : List TypedTree)
         → (bases : List TypedTree) → AreFaithful trees bases → (t : Tree) → (m : Signature)

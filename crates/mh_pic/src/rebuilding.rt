@@ -1,4 +1,4 @@
-//! Nodes over parts of which some were made anew: a part is made, or none where the old one stays.
+//! Nodes over parts of which some are new: a part is `None` if the old one is kept.
 
 ghost use Rattle.std.specs.Prelude.{◌≡◌, ◌||◌, true, IfOk};
 ghost use Rattle.std.specs.Option.{is_some};
@@ -13,7 +13,7 @@ use mh_type::{Kind, MethodType, Value, copy_values};
 use std::alloc::Global;
 use std::sync::Arc;
 
-// The part that was made, or a further owner of the old one.
+// Returns the new part, or another owner of the old one.
 pub(crate) fn owner(made: Option<Arc<Node>>, old: &Arc<Node>) -> Result<Arc<Node>, NoMemory>
     ensures value { IfOk result (λ a. tree_of (arc_value a) ≡ made_or made
         (tree_of (arc_value old.now))) }
@@ -24,7 +24,7 @@ pub(crate) fn owner(made: Option<Arc<Node>>, old: &Arc<Node>) -> Result<Arc<Node
     }
 }
 
-// A node that was made.
+// Returns a new node.
 pub(crate) fn root(alloc: Global, node: Node) -> Result<Option<Arc<Node>>, NoMemory>
     ensures value { IfOk result (λ o. (t : _) → made_or o t ≡ tree_of node) }
     ensures made { IfOk result (λ o. is_some o ≡ true) }
@@ -33,7 +33,7 @@ pub(crate) fn root(alloc: Global, node: Node) -> Result<Option<Arc<Node>>, NoMem
     Ok(Some(node))
 }
 
-// `MethodHandles.insertArguments` over a target.
+// Returns `MethodHandles.insertArguments` over a target.
 pub(crate) fn insert(
     alloc: Global,
     target: Option<Arc<Node>>,
@@ -58,7 +58,7 @@ pub(crate) fn insert(
     )
 }
 
-// `MethodHandles.dropArguments` over a target.
+// Returns `MethodHandles.dropArguments` over a target.
 pub(crate) fn discard(
     alloc: Global,
     target: Option<Arc<Node>>,
@@ -83,7 +83,7 @@ pub(crate) fn discard(
     )
 }
 
-// `MethodHandles.permuteArguments` over a target.
+// Returns `MethodHandles.permuteArguments` over a target.
 pub(crate) fn permute(
     alloc: Global,
     target: Option<Arc<Node>>,
@@ -110,14 +110,14 @@ pub(crate) fn permute(
     )
 }
 
-/// Filters that were looked at one by one, and whether one of them was made anew.
+/// Filters that were visited one by one, and whether one of them was replaced.
 #[derive(Drop)]
 pub(crate) struct FilterList {
     pub(crate) filters: Vec<Option<Arc<Node>>>,
     pub(crate) changed: bool,
 }
 
-// `MethodHandles.filterArguments` over a target and filters that were looked at one by one.
+// Returns `MethodHandles.filterArguments` over a target and filters that were visited one by one.
 pub(crate) fn filter(
     alloc: Global,
     made: Option<Arc<Node>>,
@@ -144,7 +144,7 @@ pub(crate) fn filter(
     )
 }
 
-// `MethodHandles.filterReturnValue` over a target and a filter.
+// Returns `MethodHandles.filterReturnValue` over a target and a filter.
 pub(crate) fn filter_return(
     alloc: Global,
     made: Option<Arc<Node>>,
@@ -168,7 +168,7 @@ pub(crate) fn filter_return(
     }
 }
 
-// `MethodHandles.foldArguments` over a target and a combiner.
+// Returns `MethodHandles.foldArguments` over a target and a combiner.
 pub(crate) fn fold(
     alloc: Global,
     made: Option<Arc<Node>>,
@@ -192,7 +192,7 @@ pub(crate) fn fold(
     }
 }
 
-// `SwitchPoint.guardWithTest` over a target and a fallback.
+// Returns `SwitchPoint.guardWithTest` over a target and a fallback.
 pub(crate) fn point(
     alloc: Global,
     point: u32,
@@ -224,7 +224,7 @@ pub(crate) fn point(
     }
 }
 
-// `MethodHandles.guardWithTest` over a test, a target and a fallback.
+// Returns `MethodHandles.guardWithTest` over a test, a target and a fallback.
 pub(crate) fn guard(
     alloc: Global,
     asked: Option<Arc<Node>>,

@@ -1,4 +1,4 @@
-//! Trees in which some points are decided, as valid or as invalid.
+//! Trees in which some points are decided to be valid or invalid.
 
 ghost use Rattle.std.specs.Prelude.{◌≡◌, IfOk};
 ghost use Rattle.std.specs.Option.{is_some};
@@ -16,11 +16,11 @@ use mh_tree::Node;
 use std::alloc::Global;
 use std::sync::Arc;
 
-// The tree in which these points are taken as valid, so that each gives way to its target, or as
-// invalid, so that each gives way to its fallback; none just where it names none of them, so that a
-// caller keeps the old part. What is made shares the parts that stay. It takes time linear in the
-// size, times the number of points at each node of a point, and no time without points.
-// Refused with `NoMemory` alone.
+// Returns the tree in which these points are taken as valid, so that each is replaced by its
+// target, or as invalid, so that each is replaced by its fallback. Returns `None` if and only if
+// the tree names none of them, so that a caller keeps the old part. The result shares the parts
+// that do not change. It takes time linear in the size, times the number of points at each node of
+// a point, and no time without points. Fails only with `NoMemory`.
 #[cycle(resolves)]
 pub(crate) fn resolve(
     alloc: Global,
@@ -91,7 +91,7 @@ pub(crate) fn resolve(
     }
 }
 
-// The filter of these parts, in which the points are decided.
+// Returns the filter of these parts, in which the points are decided.
 #[cycle(resolves)]
 fn resolve_filter(
     alloc: Global,
@@ -113,7 +113,7 @@ fn resolve_filter(
     filter(alloc, made, target, position, list)
 }
 
-// The filter of the result of these parts, in which the points are decided.
+// Returns the filter of the result of these parts, in which the points are decided.
 #[cycle(resolves)]
 fn resolve_filter_return(
     alloc: Global,
@@ -134,7 +134,7 @@ fn resolve_filter_return(
     filter_return(alloc, made, target, last, filter)
 }
 
-// The fold of these parts, in which the points are decided.
+// Returns the fold of these parts, in which the points are decided.
 #[cycle(resolves)]
 fn resolve_fold(
     alloc: Global,
@@ -155,7 +155,7 @@ fn resolve_fold(
     fold(alloc, made, target, first, combiner)
 }
 
-// The guard of these parts, in which the points are decided.
+// Returns the guard of these parts, in which the points are decided.
 #[cycle(resolves)]
 fn resolve_guard(
     alloc: Global,
@@ -178,8 +178,8 @@ fn resolve_guard(
     guard(alloc, asked, test, made, target, other, fallback)
 }
 
-// The switch of these parts by a point, in which the points are decided: where it is one of them,
-// its target or its fallback alone.
+// Returns the switch of these parts by a point, in which the points are decided: if it is one of
+// them, only its target or its fallback.
 #[cycle(resolves)]
 fn resolve_point(
     alloc: Global,
@@ -209,7 +209,7 @@ fn resolve_point(
     Ok(Some(owner(made, fallback)?))
 }
 
-// The filters, in each of which the points are decided.
+// Returns the filters, in each of which the points are decided.
 #[cycle(resolves)]
 fn resolve_filters(
     alloc: Global,

@@ -1,4 +1,4 @@
-//! Declared trees without points that are invalid.
+//! Removing invalid points from declared trees.
 
 ghost use Rattle.std.specs.Prelude.{◌≡◌, unwrap_or, IfOk};
 ghost use Rattle.mh_tree.specs.Handle.{IsDeclared, IsSound};
@@ -10,12 +10,12 @@ use mh_base::NoMemory;
 use mh_tree::{Declared, Handle};
 use std::alloc::Global;
 
-/// The declared tree without these points, each of which gives way to its fallback, so that none of
-/// them is named any more. It has the tree's type, is no deeper and no larger, and invokes what the
-/// tree invokes. Whatever these points are from then on, it gives what the tree gives where all of
-/// them are invalid, in at most as many steps, as the law `retired_points_keep_meaning` says.
-/// Parts that stay are shared. It takes time linear in the size, times the number of these points
-/// at each node of a point.
+/// Returns the declared tree with each of these points replaced by its fallback, so that it no
+/// longer names them. It has the tree's type, is no deeper and no larger, and invokes what the tree
+/// invokes. Whether these points are later valid or not, it returns what the tree returns if all of
+/// them are invalid, in at most as many steps, as the law `retired_points_keep_meaning` says. The
+/// result shares the parts that do not change. It takes time linear in the size, times the number
+/// of these points at each node of a point.
 ///
 /// Fails only if an allocation or a reference count is refused.
 pub fn retire(alloc: Global, tree: &Declared, points: &[u32]) -> Result<Declared, NoMemory>
@@ -28,7 +28,7 @@ pub fn retire(alloc: Global, tree: &Declared, points: &[u32]) -> Result<Declared
     }
 }
 
-// The tree of a handle without these points; none where it is the handle itself.
+// Returns the tree of a handle without these points, or `None` if it is the handle itself.
 fn retire_changed(
     alloc: Global,
     handle: &Handle,
@@ -45,7 +45,7 @@ fn retire_changed(
     }
 }
 
-// A handle within the limits of declared trees.
+// Returns a handle within the limits of declared trees as a declared tree.
 #[tactic(auto, using(crate::proofs::RetiredTrees::declared_is))]
 fn declare(handle: &Handle) -> Result<Declared, NoMemory>
     requires declared { IsDeclared handle.now }

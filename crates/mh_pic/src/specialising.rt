@@ -1,4 +1,4 @@
-//! Trees specialised for needs and a key.
+//! Specialising trees for needs and a key.
 
 ghost use Rattle.std.specs.Prelude.{◌≡◌, ◌<◌, List, length, nat_lt, take, unwrap_or, IfOk};
 ghost use Rattle.std.specs.List.{list_any};
@@ -20,12 +20,12 @@ use mh_type::{Kind, Value};
 use std::alloc::Global;
 use std::sync::Arc;
 
-/// The tree of a site's handle for needs, which are points that are valid, and for a key, which the
-/// argument at the key place is. It has the handle's type and names no need. Where all needs are
-/// valid and the argument at the key place is the key, it gives what the handle gives, in at most
-/// as many steps. Parts that stay are shared. It takes time linear in the size, times the number of
-/// needs at each point; where no need is below `Handle::point_bound`, in that of the guards and
-/// points through which a key is looked for.
+/// Returns the tree of a site's handle specialised for the assumptions that the points in `needs`
+/// are valid and that the argument at the key position equals `key`. It has the handle's type and
+/// names no need. If both assumptions hold, it returns what the handle returns, in at most as many
+/// steps. The result shares the parts that do not change. It takes time linear in the size, times
+/// the number of needs at each point; if no need is below `Handle::point_bound`, it takes the time
+/// of the guards and points through which a key is looked for.
 pub fn specialise(
     alloc: Global,
     handle: &Handle,
@@ -49,7 +49,7 @@ pub fn specialise(
     }
 }
 
-// The handle that `specialise` gives; none where it is the handle itself.
+// Returns the result of `specialise`, or `None` if it is the handle itself.
 pub(crate) fn specialise_changed(
     alloc: Global,
     handle: &Handle,
@@ -76,7 +76,8 @@ pub(crate) fn specialise_changed(
     }
 }
 
-// The needs, or none where the handle names no point that is as small as they.
+// Returns the needs, or the empty list if each need is greater than all points that the handle
+// names.
 fn named<'a>(handle: &Handle, needs: &'a [u32]) -> &'a [u32]
     ensures value { (kinds : List KindData) → (key : ValueData)
         → specialised result.now kinds key handle.now.tree
@@ -88,14 +89,14 @@ fn named<'a>(handle: &Handle, needs: &'a [u32]) -> &'a [u32]
     &[]
 }
 
-// Whether a point is below a bound.
+// Returns whether some point is below a bound.
 fn has_below(points: &[u32], bound: usize) -> bool
     ensures value { result ≡ list_any (λ p. nat_lt p bound) points.now }
 {
     points.iter().any(|point| (*point as usize) < bound)
 }
 
-// The tree that was made, as a handle of the old one's type.
+// Returns the new tree as a handle of the old one's type.
 pub(crate) fn rebuild(alloc: Global, old: &Handle, root: Arc<Node>) -> Result<Handle, NoMemory>
     requires sound { IsSound (tree_of (arc_value root)) old.now.signature }
     ensures value { IfOk result (λ h. h ≡ record {
@@ -107,8 +108,9 @@ pub(crate) fn rebuild(alloc: Global, old: &Handle, root: Arc<Node>) -> Result<Ha
     Handle::from_root(alloc, root, old.method_type())
 }
 
-// The tree for needs that are valid and a key that the argument behind these kinds is; none where
-// it is the same tree, so that a caller keeps the old one. What is made shares the parts that stay.
+// Returns the tree specialised for needs that are valid and a key that the argument after these
+// kinds equals. Returns `None` if the tree is the same, so that a caller keeps the old one. The
+// result shares the parts that do not change.
 #[cycle(specialises)]
 fn specialise_node(
     alloc: Global,
@@ -151,7 +153,7 @@ fn specialise_node(
     }
 }
 
-// The guard of these parts, for the needs and the key.
+// Returns the guard of these parts, specialised for the needs and the key.
 #[cycle(specialises)]
 fn specialise_guard(
     alloc: Global,

@@ -1,4 +1,4 @@
-//! Trees without needed points.
+//! Removing needed points from trees.
 
 ghost use Rattle.std.specs.Prelude.{◌≡◌, IfOk};
 ghost use Rattle.std.specs.Option.{is_some};
@@ -12,11 +12,10 @@ use mh_tree::Node;
 use std::alloc::Global;
 use std::sync::Arc;
 
-/// The tree without the needed points, each of which gives way to its target; none just where it
-/// names none of them, so that a caller keeps the old part. What is made shares the parts that stay.
-/// It takes time linear in the size, times the number of needs at each point, and no time without
-/// needs.
-/// Refused with `NoMemory` alone.
+/// Returns the tree with each needed point replaced by its target, or `None` if and only if it
+/// names none of them, so that a caller keeps the old part. The result shares the parts that do not
+/// change. It takes time linear in the size, times the number of needs at each point, and no time
+/// without needs. Fails only with `NoMemory`.
 pub fn strip(alloc: Global, node: &Node, needs: &[u32]) -> Result<Option<Arc<Node>>, NoMemory>
     ensures value { IfOk result (λ o. made_or o (tree_of node.now) ≡ stripped needs.now
         (tree_of node.now)) }

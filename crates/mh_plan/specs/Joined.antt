@@ -32,7 +32,7 @@ charges_of parts run i = map (whole_charge (part_at parts i)) (run i).charges
 abbrev pub links_of : List Part → (ℕ → FlowData) → ℕ → List ℕ
 links_of parts run i = map (whole_link (part_at parts i)) (run i).reached
 
--- rises with the link, and then with the point
+-- ascends with the link, and then with the point
 abbrev pub row_key : Row → ℕ
 row_key r = r.0 * 4294967296 + r.1
 

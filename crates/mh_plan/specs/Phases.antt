@@ -1,4 +1,4 @@
--- How many phases the parts of a problem took.
+-- The number of phases that the parts of a problem took.
 use Rattle.std.specs.Prelude.{ℕ, ◌+◌, ◌≡◌, ◌≤◌, ◌<◌, List, length}
 use Rattle.std.specs.List.{slice_index_or}
 use Rattle.std.specs.List.Sorted.{IsPermutation}

@@ -1,4 +1,4 @@
--- What the run of a part gives.
+-- The result of the run of a part.
 use Rattle.std.specs.Prelude.{ℕ, ◌+◌, ◌≡◌, ◌≤◌, ◌<◌, List, [], All, AllPairs, length, pos, ◌+ℤ◌}
 use Rattle.mh_network.specs.declared.part.Part.{Part}
 use Rattle.mh_network.specs.Problems.{ProblemData, sum_of_gains}
@@ -10,7 +10,7 @@ use Rattle.mh_flow.specs.Phases.{IsRunOf}
 abbrev pub no_run : FlowData
 no_run = record { rows = []; charges = []; reached = []; phases = 0 }
 
--- a greatest flow of Q, in order, the least best links, and the phases that it took
+-- a maximum flow of Q, in order, the least best links, and the number of phases that it took
 pub record IsSolved (Q : ProblemData) (run : FlowData) : Type 0 where
   pub flow : IsFlow Q run.rows run.charges
   pub positive : All (λ r. 0 < r.2) run.rows

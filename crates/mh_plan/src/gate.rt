@@ -1,12 +1,12 @@
-//! Reports of the work as it goes on.
+//! Reports of progress.
 
-/// Called by the worker that plans a part when it begins and when it ends. Parts are counted from 0,
-/// in the order of `Problem::parts`.
+/// A receiver of reports, called by the worker that plans a part when it begins and when it ends.
+/// Parts are numbered from 0, in the order of `Problem::parts`.
 pub trait Gate: Sync {
-    /// The planning of a part begins.
+    /// Reports that the planning of a part begins.
     fn enter(&self, part: usize);
 
-    /// The planning of a part is over, also if it ran out of memory.
+    /// Reports that the planning of a part is over, also if it ran out of memory.
     fn leave(&self, part: usize);
 }
 

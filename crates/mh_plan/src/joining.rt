@@ -1,4 +1,4 @@
-//! What the parts' runs give together, by the numbers of the whole problem.
+//! Joining the results of the parts' runs, by the numbers of the whole problem.
 
 ghost use Rattle.std.specs.Prelude.{◌≡◌, ◌<◌, ◌+◌, ◌*◌, ◌++◌, All, IfOk, OnOk, length, map};
 ghost use Rattle.std.specs.List.Sorted.{IsNonDecreasingBy, IsPermutation};
@@ -17,7 +17,7 @@ pub(crate) type Row = (u32, u32, u64);
 /// A link and an amount.
 pub(crate) type Charge = (u32, u64);
 
-/// The links that the source reaches, part after part.
+/// Returns the links that the source reaches, part after part.
 pub(crate) fn join_links(alloc: Global, parts: &[Part], runs: &Runs) -> Result<Vec<u32>, NoMemory>
     requires shared { AreShared parts.now runs.now }
     requires inside { (i : _) → i < length parts.now
@@ -45,7 +45,7 @@ fn push_links(links: &mut Vec<u32>, part: &Part, reached: &[u32]) -> Result<(), 
     Ok(())
 }
 
-/// The rows of the flows, by link and then point.
+/// Returns the rows of the flows, by link and then point.
 pub(crate) fn join_rows(alloc: Global, parts: &[Part], runs: &Runs) -> Result<Vec<Row>, NoMemory>
     requires shared { AreShared parts.now runs.now }
     requires links { (i : _) → i < length parts.now
@@ -87,7 +87,7 @@ fn sort(rows: &mut Vec<Row>)
     rows.sort_unstable_by_key(|row| u64::from(row.0) * 4294967296 + u64::from(row.1));
 }
 
-/// What links pay of their charges, by link.
+/// Returns the amounts that links pay of their charges, by link.
 pub(crate) fn join_charges(
     alloc: Global,
     parts: &[Part],

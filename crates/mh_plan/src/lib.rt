@@ -1,5 +1,5 @@
-//! The planner: the least best links of a problem, with a flow that shows them to be best, part by
-//! part and on any number of workers.
+//! The planner: it computes the least best links of a problem, with a flow that proves them best,
+//! part by part and on any number of workers.
 //!
 //! ```
 //! let plan = plan(rt, alloc, &problem, 2, &OpenGate)?;

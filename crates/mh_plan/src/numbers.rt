@@ -11,7 +11,7 @@ use mh_base::NoMemory;
 use mh_network::Problem;
 use std::alloc::Global;
 
-/// These numbers in ascending order, each once. O(bound + numbers).
+/// Returns these numbers in ascending order, each once. O(bound + numbers).
 pub(crate) fn ascending(alloc: Global, bound: usize, numbers: &[u32]) -> Result<Vec<u32>, NoMemory>
     requires inside { All (λ j. j < bound) numbers.now }
     requires small { bound ≤ greatest_count }
@@ -36,7 +36,7 @@ fn mark(marks: &mut Vec<bool>, numbers: &[u32])
     }
 }
 
-/// The numbers that are marked.
+/// Returns the numbers that are marked.
 fn list_marked(alloc: Global, marks: &[bool]) -> Result<Vec<u32>, NoMemory>
     requires small { length marks.now ≤ greatest_count }
     ensures ascending { IfOk result (λ listed. IsStrictlyIncreasing listed.items) }
@@ -52,7 +52,7 @@ fn list_marked(alloc: Global, marks: &[bool]) -> Result<Vec<u32>, NoMemory>
     Ok(listed)
 }
 
-/// The needs of these links, one link after another.
+/// Returns the needs of these links, one link after another.
 pub(crate) fn needs_of(
     alloc: Global,
     problem: &Problem,

@@ -1,4 +1,4 @@
-//! Plans of problems.
+//! Planning problems.
 
 ghost use Rattle.std.specs.Prelude.{◌≡◌, ◌<◌, ◌≤◌, ◌^◌, ◌-ℤ◌, IfOk, length, pos};
 ghost use Rattle.std.specs.List.Sorted.{IsPermutation};
@@ -25,10 +25,10 @@ use mh_network::{
 use std::alloc::Global;
 use std::thread::Threads;
 
-/// The best plan of a problem with the fewest links, and a flow that shows that no links are worth
-/// more. It does not depend on the number of workers, from 1 to 64: worker k plans the parts k,
-/// k + workers and so on, each worker in a thread of its own where one can be started, and
-/// reports to `gate` when it begins and ends a part.
+/// Computes the best plan of a problem with the fewest links, and a flow that proves that no set of
+/// links is worth more. The result does not depend on the number of workers, 1 to 64. Worker k
+/// plans the parts k, k + workers and so on, each worker in a thread of its own if one can be
+/// started, and reports to `gate` when it begins and ends a part.
 ///
 /// Fails only if an allocation is refused.
 pub fn plan<R: Threads + Sync, G: Gate>(
@@ -47,9 +47,9 @@ pub fn plan<R: Threads + Sync, G: Gate>(
     Ok(plan)
 }
 
-/// The plan that `plan` gives, and for each part, in the order of `Problem::parts`, how many phases
-/// its flow took: 1 where it carries nothing over needs, else more, and at most 2 more than it has
-/// links and points.
+/// Returns the plan that `plan` returns, and for each part, in the order of `Problem::parts`, the
+/// number of phases that its flow took: 1 if it carries nothing over needs, otherwise more, and at
+/// most 2 more than it has links and points.
 ///
 /// Fails only if an allocation is refused.
 pub fn plan_counted<R: Threads + Sync, G: Gate>(
@@ -73,8 +73,8 @@ pub fn plan_counted<R: Threads + Sync, G: Gate>(
     Ok((plan, phases))
 }
 
-/// The plan that `plan` gives, made on the thread of the caller: it starts no thread, and needs no
-/// runtime that could.
+/// Returns the plan that `plan` returns, computed on the thread of the caller: it starts no thread,
+/// and needs no runtime that could.
 ///
 /// Fails only if an allocation is refused.
 pub fn plan_alone(alloc: Global, problem: &Problem) -> Result<Plan, NoMemory>
@@ -86,7 +86,7 @@ pub fn plan_alone(alloc: Global, problem: &Problem) -> Result<Plan, NoMemory>
     join_plan(alloc, problem, &parts, &runs)
 }
 
-/// The plan that the parts' runs give together.
+/// Returns the plan that the results of the parts' runs make together.
 fn join_plan(
     alloc: Global,
     problem: &Problem,
@@ -120,7 +120,7 @@ fn join_plan(
     })
 }
 
-/// What a flow leaves of all gains.
+/// Returns what a flow leaves of all gains.
 fn left_of_gains(problem: &Problem, flow: &[Row], charges: &[Charge]) -> i64
     requires small { value_of flow.now charges.now ≤ greatest_sum }
     ensures value { result ≡ pos (sum_of_gains problem.now) -ℤ pos (value_of flow.now charges.now) }
@@ -128,7 +128,7 @@ fn left_of_gains(problem: &Problem, flow: &[Row], charges: &[Charge]) -> i64
     all_gains(problem) as i64 - carried(flow, charges) as i64
 }
 
-/// The phases of each part.
+/// Returns the number of phases of each part.
 fn phases_of(alloc: Global, parts: &[Part], runs: &Runs) -> Result<Vec<u64>, NoMemory>
     requires shared { AreShared parts.now runs.now }
     ensures counted { IfOk result (λ phases. AreCounted parts.now (run_at runs.now) phases.items) }

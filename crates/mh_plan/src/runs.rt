@@ -1,4 +1,4 @@
-//! The runs of all parts, as the workers hand them in.
+//! The runs of all parts, as the workers deliver them.
 
 ghost use Rattle.std.specs.Prelude.{◌≡◌, ◌<◌, ◌≤◌, ◌+◌, ◌^◌, ◌↔◌, length, All, IfOk, IsOk, IsTrue};
 ghost use Rattle.mh_network.specs.Parts.{AreParts};
@@ -15,7 +15,7 @@ use std::alloc::Global;
 use std::thread;
 use std::thread::Threads;
 
-/// The runs of a worker's parts, in their order, or that it found no memory.
+/// The runs of a worker's parts, in their order, or the error that it found no memory.
 pub(crate) type Share = Result<Listing<FlowRun>, NoMemory>;
 
 /// The shares of the workers, one after another.
@@ -25,7 +25,7 @@ pub(crate) struct Runs {
     workers: usize,
 }
 
-/// Plans all parts: one worker on the thread of the caller, and more in threads of their own.
+/// Plans all parts: a single worker on the thread of the caller, several in threads of their own.
 pub(crate) fn solve_all<R: Threads + Sync, G: Gate>(
     rt: &R,
     alloc: Global,
@@ -47,8 +47,8 @@ pub(crate) fn solve_all<R: Threads + Sync, G: Gate>(
     solve_parts(rt, alloc, problem, parts, workers, gate)
 }
 
-/// Plans all parts, worker k of `workers` the parts k, k + workers and so on, each in a thread of
-/// its own where one can be started.
+/// Plans all parts, with worker k of `workers` planning the parts k, k + workers and so on, each in
+/// a thread of its own if one can be started.
 fn solve_parts<R: Threads + Sync, G: Gate>(
     rt: &R,
     alloc: Global,
@@ -103,7 +103,7 @@ fn are_ok(shares: &[Share]) -> bool
 }
 
 impl Runs {
-    /// The run of a part.
+    /// Returns the run of a part.
     pub(crate) fn run(&self, parts: &[Part], part: usize) -> Result<&FlowRun, NoMemory>
         requires shared { AreShared parts.now self.now }
         requires part { part < length parts.now }

@@ -1,4 +1,4 @@
-//! What a worker does: it plans each part of its share in turn.
+//! The work of one worker: it plans each part of its share in turn.
 
 ghost use Rattle.std.specs.Prelude.{◌≡◌, ◌<◌, ◌+◌, ◌^◌, length, IfOk};
 ghost use Rattle.mh_network.specs.Parts.{AreParts, IsPartOf, part_problem};
@@ -42,8 +42,8 @@ pub(crate) fn plan_share<G: Gate>(
     Ok(Listing::from_vec(runs))
 }
 
-/// A greatest flow of a part, by the part's numbers. `places` is working memory, a number for each
-/// point of the problem.
+/// Returns a maximum flow of a part, by the part's numbers. `places` is working memory, with one
+/// element for each point of the problem.
 fn solve(
     alloc: Global,
     problem: &Problem,

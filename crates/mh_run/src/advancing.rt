@@ -1,4 +1,4 @@
-//! Pieces that take no memory, one after another.
+//! Running consecutive pieces that allocate nothing.
 
 ghost use Rattle.std.specs.Prelude.{◌≡◌, ◌-◌, ◌<◌, ◌≤◌, ◌∷◌, ℕ, ℤ, false, [], length, get_or, map, max, vec_capacity, IfSome, IfNone};
 ghost use Rattle.std.specs.Arc.{arc_value};
@@ -22,7 +22,8 @@ use mh_code::{Index, KeyTest, Piece};
 use mh_type::{Op, Value};
 use std::sync::Arc;
 
-// The piece that follows one, and the steps: of choices, and of the further arms that are given.
+// Returns the piece that follows, and the steps: for choices, and for the further arms that are
+// given.
 macro_rules! following {
     (
         $here:expr, $piece:expr, $arguments:expr, $locals:expr, $before:expr,
@@ -89,7 +90,8 @@ macro_rules! following {
     };
 }
 
-// The piece that a choice on numbers or truths leads to, where no local is kept, and the steps.
+// Returns the piece that a choice by numbers or truths leads to, if no local is stored, and the
+// steps.
 #[inline(always)]
 pub(crate) fn choose<'a>(here: &Here<'_>, reached: Reached<'a>) -> Option<(&'a Piece, u64)>
     requires may { MayGo (setting (4 - reached.depth) here.now.valid.now here.now.targets.now)
@@ -103,7 +105,8 @@ pub(crate) fn choose<'a>(here: &Here<'_>, reached: Reached<'a>) -> Option<(&'a P
     following!(here, reached.piece, arguments, &[], reached.total, {})
 }
 
-// The piece that follows a choice on numbers or truths, or one that puts one, and the steps.
+// Returns the piece that follows a choice by numbers or truths, or a piece that stores one as a
+// local, and the steps.
 #[inline(always)]
 pub(crate) fn advance<'a>(
     locals: &mut Vec<Value>,
@@ -151,7 +154,7 @@ pub(crate) fn advance<'a>(
     })
 }
 
-// Whether a value is true.
+// Returns whether a value is true.
 #[inline(always)]
 pub(crate) fn is_true(value: &Value) -> bool
     ensures value { result ≡ is_truth value.now }
@@ -162,7 +165,7 @@ pub(crate) fn is_true(value: &Value) -> bool
     }
 }
 
-// Whether the argument of a key's test is the key.
+// Returns whether the argument of a key's test equals the key.
 #[inline(always)]
 pub(crate) fn is_key(arguments: &[Value], test: &KeyTest) -> bool
     requires inside { test.now.place < length arguments.now }
@@ -175,7 +178,7 @@ pub(crate) fn is_key(arguments: &[Value], test: &KeyTest) -> bool
     }
 }
 
-// The piece that a switch leads to, and the steps of its tests.
+// Returns the piece that a switch leads to, and the steps of its tests.
 #[inline(always)]
 pub(crate) fn switched<'a>(
     arguments: &[Value],
@@ -197,7 +200,7 @@ pub(crate) fn switched<'a>(
     }
 }
 
-// The row of an index that holds of an argument, and the steps down to it.
+// Returns the row of an index whose test an argument passes, and the steps up to it.
 #[inline(always)]
 #[tactic(auto, using(crate::proofs::Switches::no_row, crate::proofs::Switches::no_steps))]
 fn found(arguments: &[Value], place: u32, index: &Index) -> (usize, u64)
@@ -210,7 +213,7 @@ fn found(arguments: &[Value], place: u32, index: &Index) -> (usize, u64)
     }
 }
 
-// The int at a place of the arguments, where there is one.
+// Returns the int at an index of the arguments, if there is one.
 #[inline(always)]
 fn int_at(arguments: &[Value], place: u32) -> Option<i32>
     ensures int { IfSome result (λ n. argument arguments.now place ≡ ValueData.Int n) }

@@ -20,14 +20,14 @@ use mh_code::{Piece, Prepared};
 use mh_eval::{Answer, operate, outcome_of, outcome_of_number};
 use mh_type::{Outcome, Value};
 
-/// The outcome of a prepared handle's tree on arguments, and the number of its nodes entered, where
-/// `valid` says which points are valid, and each site has a tree: what `eval` gives for its handle
-/// and theirs, by the code that was prepared.
+/// Runs the code of a prepared handle on arguments, and returns the outcome of its tree and the
+/// number of nodes evaluated. `here` says which points are valid, and has the tree of each site. It
+/// returns the same as `eval` for the handle and the sites' handles.
 ///
-/// A guard's test, a fold's combiner and a site get as many of the leading arguments as they have
-/// parameters. A throw of any part that runs is the outcome, and nothing after it runs. Fails only
-/// with `NoMemory`, and not where no node that is entered, in the trees of sites too, has String in
-/// its type; the stack is as before.
+/// A guard's test, a fold's combiner and a site are passed as many of the leading arguments as they
+/// have parameters. If a part that runs throws, this is the outcome, and nothing after it runs.
+/// Fails only with `NoMemory`, and never if no node that is evaluated, also in the trees of sites,
+/// has String in its type; the stack is as before.
 #[inline(always)]
 pub fn run<'a>(
     stack: &mut Stack,
@@ -59,13 +59,13 @@ pub fn run<'a>(
     if let Some(found) = leaf_outcome(piece, arguments, total) {
         return Ok(found);
     }
-    // In a closure, so that its result slot is zeroed only when it is called.
+    // A closure, so that its result slot is zeroed only when it is called.
     let mut by_call = || run_any(stack, here, piece, arguments, total, depth);
     by_call()
 }
 
-// The outcome of a leaf that is a number, and the steps. Whether this is inlined is left to the
-// compiler, which then simplifies it first, so that the result is written by few stores.
+// Returns the outcome of a leaf that is a number, and the steps. The compiler decides whether to
+// inline it; it then simplifies it first, so that the result is written by few stores.
 #[inline]
 fn leaf_outcome(piece: &Piece, arguments: &[Value], before: u64) -> Option<(Outcome, u128)>
     requires may { (v : Setting) × MayGo v arguments.now [] (routine_of piece.now) before }
@@ -112,7 +112,7 @@ fn run_any(
         }
         return outcome_of(answer, total);
     }
-    // In a closure, as in `run`.
+    // A closure, as in `run`.
     let mut on_level = || {
         let (answer, steps) = run_at(stack, here, piece, arguments, before, depth);
         outcome_of(answer, steps)
@@ -120,7 +120,7 @@ fn run_any(
     on_level()
 }
 
-// The answer of a piece on the level of its tree, and the steps.
+// Returns the answer of a piece on the level of its tree, and the steps.
 #[inline(never)]
 fn run_at(
     stack: &mut Stack,

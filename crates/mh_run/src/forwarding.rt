@@ -1,4 +1,4 @@
-//! The way to the piece that gives the answer, where nothing is kept on it.
+//! The way to the piece that answers, as long as nothing is stored on the way.
 
 ghost use Rattle.std.specs.Prelude.{◌≡◌, ◌-◌, ◌≤◌, []};
 ghost use Rattle.mh_code.specs.PieceOf.{routine_of};
@@ -12,7 +12,7 @@ use crate::here::Here;
 use mh_code::Piece;
 use mh_type::Value;
 
-/// A piece that is left to run, how many trees it stands below the one that is called, its
+/// A piece that remains to run, the number of trees between it and the one that was called, its
 /// arguments, and the steps so far.
 #[derive(Clone, Copy)]
 pub(crate) struct Reached<'a> {
@@ -22,7 +22,7 @@ pub(crate) struct Reached<'a> {
     pub(crate) total: u64,
 }
 
-// The piece behind choices on numbers and truths.
+// Returns the piece after choices by numbers and truths.
 #[inline(always)]
 fn lead<'a>(here: &Here<'_>, reached: Reached<'a>) -> Reached<'a>
     requires may { MayGo (setting (4 - reached.depth) here.now.valid.now here.now.targets.now)
@@ -41,8 +41,8 @@ fn lead<'a>(here: &Here<'_>, reached: Reached<'a>) -> Reached<'a>
     left
 }
 
-// The piece behind such choices and behind sites that are invoked on leading arguments, which have
-// one tree after another.
+// Returns the piece after such choices and after sites that are invoked on leading arguments, of
+// which each runs one tree after another.
 #[inline(always)]
 pub(crate) fn reach<'a>(here: &Here<'a>, piece: &'a Piece, arguments: &'a [Value]) -> Reached<'a>
     requires may { MayRun (setting 4 here.now.valid.now here.now.targets.now) arguments.now []

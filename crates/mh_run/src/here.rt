@@ -2,10 +2,10 @@
 
 use mh_code::Prepared;
 
-/// Which points are valid, and the tree of each site.
+/// The validity of the points, and the tree of each site.
 #[derive(Clone, Copy, Debug)]
 pub struct Here<'a> {
-    /// Whether each point is valid.
+    /// For each point, by number, whether it is valid.
     pub valid: &'a [bool],
     /// The tree of each site.
     pub targets: &'a [Prepared],

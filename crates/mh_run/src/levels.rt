@@ -1,4 +1,4 @@
-//! The memory of runs, level by level: what a tree invokes runs in a level of its own.
+//! The memory of runs, level by level: a tree that is invoked runs in a level of its own.
 
 ghost use Rattle.std.specs.Prelude.{◌≡◌, ◌+◌, ◌-◌, ◌≤◌, ℕ, []};
 ghost use Rattle.mh_code.specs.PieceOf.{routine_of};
@@ -18,24 +18,24 @@ use std::alloc::Global;
 pub(crate) struct Level<L: Lower> {
     /// The locals of the run that is under way.
     pub(crate) locals: Vec<Value>,
-    /// The arguments of what it invokes.
+    /// The arguments of the site that it invokes.
     pub(crate) passed: Vec<Value>,
-    /// Where that runs.
+    /// The level in which that site's tree runs.
     pub(crate) below: L,
 }
 
-/// Below the lowest level: what runs there invokes nothing.
+/// The level below the lowest: a tree that runs there invokes nothing.
 #[derive(Drop)]
 pub(crate) struct Bottom;
 
-/// Where the tree of a site runs that is invoked.
+/// The level in which the tree of an invoked site runs.
 pub(crate) trait Lower: Drop {
-    // how many trees deep invocations may be that run here
+    // The greatest depth of the invocations that run here, counted in trees.
     ghost deep: { ℕ };
 
     ghost is_ready: { Self → Type 0 };
 
-    /// The answer of a piece on arguments, after so many steps, and all steps.
+    /// Runs a piece on arguments, after `before` steps, and returns the answer and all steps.
     fn run(
         &mut self,
         alloc: Global,

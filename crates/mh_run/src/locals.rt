@@ -16,7 +16,7 @@ use mh_eval::{Answer, put_owner};
 use mh_tree::Operand;
 use mh_type::Value;
 
-// The value of an operand.
+// Returns the value of an operand.
 #[inline(always)]
 pub(crate) fn read<'a>(
     arguments: &'a [Value],
@@ -33,7 +33,7 @@ pub(crate) fn read<'a>(
     }
 }
 
-// Puts a value as the local of a place; those behind it are let go.
+// Stores a value as the local with a number, and drops the locals after it.
 #[inline(always)]
 pub(crate) fn put(locals: &mut Vec<Value>, place: u32, value: Value) -> Result<(), NoMemory>
     requires inside { place ≤ length locals.old.items }
@@ -50,7 +50,7 @@ pub(crate) fn put(locals: &mut Vec<Value>, place: u32, value: Value) -> Result<(
     Ok(())
 }
 
-// Lets go of all locals but so many.
+// Drops all locals but the first `count`.
 #[inline(always)]
 fn cut(locals: &mut Vec<Value>, count: usize)
     ensures rest { locals.new.items ≡ take count locals.old.items }
@@ -70,7 +70,7 @@ fn cut_by_call(locals: &mut Vec<Value>, count: usize)
     locals.truncate(count);
 }
 
-// Lets go of all locals, the last first.
+// Drops all locals, the last first.
 #[inline(always)]
 pub(crate) fn clear(locals: &mut Vec<Value>)
     ensures empty { locals.new.items ≡ [] }
@@ -79,7 +79,7 @@ pub(crate) fn clear(locals: &mut Vec<Value>)
     while let Some(_) = locals.pop() {}
 }
 
-// Puts the value of an answer as the local of a place. What is no value ends the run.
+// Stores the value of an answer as the local with a number. An answer without a value ends the run.
 #[inline(always)]
 pub(crate) fn keep(locals: &mut Vec<Value>, place: u32, answer: Answer) -> Result<(), Answer>
     requires inside { place ≤ length locals.old.items }
@@ -101,7 +101,7 @@ pub(crate) fn keep(locals: &mut Vec<Value>, place: u32, answer: Answer) -> Resul
     put(locals, place, value).map_err(|_| Answer::NoMemory)
 }
 
-// Puts the values of operands into an empty list.
+// Appends the values of operands to an empty list.
 pub(crate) fn pass(
     passed: &mut Vec<Value>,
     operands: &[Operand],

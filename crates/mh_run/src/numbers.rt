@@ -1,4 +1,4 @@
-//! Results that are numbers or truths, and take no memory.
+//! Results that are numbers or truths, which need no memory.
 
 ghost use Rattle.std.specs.Prelude.{◌≡◌, ◌<◌, ◌≤◌, ◌∷◌, [], length, vec_capacity, IfSome, IsTrue, IsFalse};
 ghost use Rattle.mh_code.specs.inner.Runs.{put as put_in_place};
@@ -13,7 +13,8 @@ use crate::locals::{put, read};
 use mh_tree::Operand;
 use mh_type::{Op, Value};
 
-// What is done with a result of two operands of a kind, and what with others.
+// Applies `$use` to a result of two operands of a kind; evaluates `$other` for operands of other
+// kinds.
 macro_rules! two {
     (
         $kind:ident, $pair:expr,
@@ -29,7 +30,8 @@ macro_rules! two {
     };
 }
 
-// What is done with a result of a first operand of a kind, and what with others.
+// Applies `$use` to a result of a first operand of a kind; evaluates `$other` for one of another
+// kind.
 macro_rules! one {
     (
         $kind:ident, $pair:expr,
@@ -45,7 +47,7 @@ macro_rules! one {
     };
 }
 
-// The truth that an operation on numbers or truths gives.
+// Returns the truth of an operation on numbers or truths, if it is one that returns a truth.
 #[inline(always)]
 pub(crate) fn truth(op: Op, first: &Value, second: &Value) -> Option<bool>
     ensures value { IfSome result (λ b. operated op (first.now ∷ second.now ∷ [])
@@ -63,8 +65,8 @@ pub(crate) fn truth(op: Op, first: &Value, second: &Value) -> Option<bool>
     }
 }
 
-// Puts the result of an operation on numbers or truths as the local of a place. One on texts, and a
-// throw, puts nothing.
+// Stores the result of an operation on numbers or truths as the local with a number, and returns
+// whether it did. It stores nothing if the operation is on texts or throws.
 #[inline(always)]
 #[tactic(auto, using(std::proofs::lemmas::Int::wraps))]
 pub(crate) fn calculate(
@@ -134,7 +136,8 @@ pub(crate) fn calculate(
     }
 }
 
-// Puts the value of an operand, where it is no text, as the local of a place.
+// Stores the value of an operand as the local with a number, unless it is a text, and returns
+// whether it did.
 #[inline(always)]
 pub(crate) fn copy(
     locals: &mut Vec<Value>,
@@ -167,7 +170,7 @@ pub(crate) fn copy(
     }
 }
 
-// Puts an int.
+// Stores an int.
 #[inline(always)]
 fn int(locals: &mut Vec<Value>, place: u32, number: i32) -> bool
     requires inside { place ≤ length locals.old.items }
@@ -179,7 +182,7 @@ fn int(locals: &mut Vec<Value>, place: u32, number: i32) -> bool
     put(locals, place, Value::Int(number)).is_ok()
 }
 
-// Puts a long.
+// Stores a long.
 #[inline(always)]
 fn long(locals: &mut Vec<Value>, place: u32, number: i64) -> bool
     requires inside { place ≤ length locals.old.items }
@@ -191,7 +194,7 @@ fn long(locals: &mut Vec<Value>, place: u32, number: i64) -> bool
     put(locals, place, Value::Long(number)).is_ok()
 }
 
-// Puts a truth.
+// Stores a truth.
 #[inline(always)]
 fn boolean(locals: &mut Vec<Value>, place: u32, truth: bool) -> bool
     requires inside { place ≤ length locals.old.items }

@@ -28,7 +28,8 @@ use mh_tree::Operand;
 use mh_type::{Op, Value};
 use std::alloc::Global;
 
-// The answer of a piece on a level without locals, after so many steps, and all steps.
+// Runs a piece on a level without locals, after `before` steps, and returns the answer and all
+// steps.
 #[inline(always)]
 pub(crate) fn run_on<L: Lower>(
     level: &mut Level<L>,
@@ -69,7 +70,7 @@ pub(crate) fn run_on<L: Lower>(
     }
 }
 
-// The piece behind those that take no memory, and the steps of its tree.
+// Returns the piece after those that allocate nothing, and the steps of its tree.
 #[inline(always)]
 fn go_on<'a>(
     locals: &mut Vec<Value>,
@@ -97,7 +98,7 @@ fn go_on<'a>(
     (node, total)
 }
 
-// The answer of a leaf or of an operation, and all steps.
+// Returns the answer of a leaf or of an operation, and all steps.
 #[inline(always)]
 fn finish(
     alloc: Global,
@@ -133,7 +134,8 @@ fn finish(
     }
 }
 
-// The piece that is left to run once a piece is entered, or the answer that ends it, and the steps.
+// Enters a piece, and returns the piece that remains to run, or the answer that ends the run, and
+// the steps.
 #[inline(never)]
 fn enter<'a, L: Lower>(
     level: &mut Level<L>,
@@ -277,7 +279,7 @@ fn enter<'a, L: Lower>(
     }
 }
 
-// A kept answer, and the piece that goes on with it.
+// Stores an answer, and returns the piece that follows.
 #[inline(always)]
 fn kept<'a>(
     locals: &mut Vec<Value>,
@@ -300,7 +302,7 @@ fn kept<'a>(
     }
 }
 
-// One of two pieces, by an answer that is a truth.
+// Chooses one of two pieces by an answer that is a truth.
 #[inline(always)]
 fn chosen<'a>(answer: Answer, target: &'a Piece, fallback: &'a Piece) -> Result<&'a Piece, Answer>
     ensures value { IfOk result (λ p. (o : OutcomeData) → Gives answer o
@@ -316,7 +318,7 @@ fn chosen<'a>(answer: Answer, target: &'a Piece, fallback: &'a Piece) -> Result<
     }
 }
 
-// The answer of an operation whose truth chooses.
+// Returns the answer of an operation whose truth chooses.
 #[inline(always)]
 fn tested(alloc: Global, op: Op, first: &Value, second: &Value) -> Answer
     ensures value { Gives result (operated op (first.now ∷ second.now ∷ [])) }
@@ -328,7 +330,7 @@ fn tested(alloc: Global, op: Op, first: &Value, second: &Value) -> Answer
     }
 }
 
-// The answer of a site's tree on the values of operands, and its steps.
+// Returns the answer of a site's tree on the values of operands, and its steps.
 #[inline(never)]
 fn invoke<L: Lower>(
     level: &mut Level<L>,
@@ -360,7 +362,7 @@ fn invoke<L: Lower>(
     (answer, steps)
 }
 
-// The answer of a site's tree on so many of the leading arguments, and its steps.
+// Returns the answer of a site's tree on `count` leading arguments, and its steps.
 #[inline(never)]
 fn forward<L: Lower>(
     below: &mut L,

@@ -10,17 +10,17 @@ use std::alloc::Global;
 use std::fmt;
 use std::marker::Model;
 
-// The room for the locals of each tree.
+// The number of locals reserved for each tree.
 const LOCALS_ROOM: usize = 6144;
 
-// The room for the arguments of what a tree invokes.
+// The number of arguments reserved for the site that a tree invokes.
 const PASSED_ROOM: usize = 16;
 
-/// The levels of a tree and of those that may be invoked below it, four below one another.
+/// The levels of a tree and of the trees that may be invoked below it, four below one another.
 pub(crate) type Levels = Level<Level<Level<Level<Level<Bottom>>>>>;
 
-/// The memory on which code runs. One stack serves any number of calls, one at a time; between
-/// calls it is empty, after `NoMemory` too.
+/// The memory in which code runs. One stack serves any number of calls, one at a time; between
+/// calls it is empty, also after `NoMemory`.
 #[derive(Drop)]
 pub struct Stack {
     pub(crate) alloc: Global,
@@ -39,7 +39,7 @@ impl Model for Stack {
     ghost invariant = { λ s. AreReady s.levels };
 }
 
-/// It is empty between calls, so its name is all.
+/// Shows only the name of the type, since the stack is empty between calls.
 impl fmt::Debug for Stack {
     fn fmt<W: fmt::Write>(&self, f: &mut fmt::Formatter<W>) -> fmt::Result {
         f.write_str("Stack")
@@ -47,7 +47,7 @@ impl fmt::Debug for Stack {
 }
 
 impl Stack {
-    /// A stack over this allocator. Fails only if an allocation is refused.
+    /// Returns a stack over this allocator. Fails only if an allocation is refused.
     pub fn new(alloc: Global) -> Result<Stack, NoMemory>
         ensures empty { IfOk result (λ s. s ≡ []) }
     {
@@ -57,7 +57,7 @@ impl Stack {
     }
 }
 
-// A level over those below.
+// Returns a level above the levels below it.
 fn level<L: Lower>(alloc: Global, below: L) -> Result<Level<L>, NoMemory>
     requires below { L.is_ready below }
     ensures ready { IfOk result (λ s. IsReady (L.is_ready) s) }

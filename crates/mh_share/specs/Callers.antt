@@ -1,4 +1,4 @@
--- What contracts see of a caller, and what its calls count and are refused.
+-- The view of a caller that contracts use, and the counts and refusals of its calls.
 use Rattle.std.specs.Prelude.{◌≡◌, ℕ, ◌<◌, true, List, length, refl}
 use Rattle.std.specs.Coded.{Coded, code_by, coded×}
 use Rattle.mh_base.specs.Tests.{Tests, test, only}
@@ -13,7 +13,7 @@ use Rattle.mh_core.specs.Refusals.{memory_last}
 use Rattle.mh_core.specs.declared.refusal.Refusal.{Refusal}
 use Rattle.mh_core.specs.declared.refusal.Refusal.TheVariants.{NoSite, WrongType, LedgerFull}
 
--- the book whose world it calls by, as it was when that was shown, and the ledger of its worker
+-- the book whose world answers its calls, as it was when that was shown, and the ledger of its worker
 pub record CallerState : Type 0 where
   pub shown : BookState
   pub ledger : LedgerState
@@ -21,11 +21,11 @@ pub record CallerState : Type 0 where
 abbrev pub coded_caller : Coded CallerState
 coded_caller = code_by (BookState × LedgerState) (coded× coded_book coded_ledger) (λ c. (c.shown, c.ledger)) (λ p. record { shown = p.0; ledger = p.1 }) (λ _. refl)
 
--- by this book
+-- a caller by this book
 abbrev pub caller_by : BookState → LedgerState → CallerState
 caller_by b l = record { shown = b; ledger = l }
 
--- it may count the hit of a call, if that hits a link
+-- the caller may count the hit of a call, if that hits a link
 abbrev pub HasRoom : CallerState → ℕ → List Value → Type 0
 HasRoom c s a = (j : ℕ) → hits c.shown.definition s a j ≡ true → at c.ledger.unflushed j < c.ledger.limit
 

@@ -1,4 +1,4 @@
--- What contracts see of a desk.
+-- The view of a desk that contracts use.
 use Rattle.std.specs.Prelude.{◌≡◌, ◌⊎◌, ℕ, List, length, map, refl}
 use Rattle.std.specs.Coded.{Coded, code_by, coded×}
 use Rattle.std.specs.List.{range_with_len}
@@ -14,7 +14,7 @@ use Rattle.mh_core.specs.declared.refusal.Refusal.{Refusal}
 use Rattle.mh_core.specs.declared.refusal.Refusal.TheVariants.{NoMemory, NoWorker}
 use Rattle.mh_share.specs.Callers.{CallerState, caller_by}
 
--- its book, and that book as it was when the shown world was its newest
+-- the desk's book, and that book as it was when the shown world was its newest
 pub record DeskState : Type 0 where
   pub book : BookState
   pub shown : BookState
@@ -22,7 +22,7 @@ pub record DeskState : Type 0 where
 abbrev pub coded_desk : Coded DeskState
 coded_desk = code_by (BookState × BookState) (coded× coded_book coded_book) (λ d. (d.book, d.shown)) (λ p. record { book = p.0; shown = p.1 }) (λ _. refl)
 
--- before its first record
+-- a desk before its first record
 abbrev pub opened_desk : DefinitionData → ℕ → LimitsData → DeskState
 opened_desk d workers l = record { book = opened_book d workers l; shown = opened_book d workers l }
 
@@ -39,6 +39,6 @@ flush_of l = Flushed l.worker (hits_in l.unflushed)
 abbrev pub RefusesFlush : BookState → LedgerState → Refusal → Type 0
 RefusesFlush b l told = ((told ≡ NoWorker) × (Holds b.totals l → ⊥)) ⊎ (Holds b.totals l × MayRefuse b 0 (flush_of l) told)
 
--- the book does not hold the ledger, or out of memory is reported
+-- the book does not hold the ledger, or lack of memory is reported
 abbrev pub RefusesLook : BookState → LedgerState → Refusal → Type 0
 RefusesLook b l told = ((told ≡ NoWorker) × (Holds b.totals l → ⊥)) ⊎ (Holds b.totals l × (told ≡ NoMemory))

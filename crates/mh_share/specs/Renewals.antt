@@ -1,4 +1,4 @@
--- What a renewal makes of a desk and its callers, and what it is refused.
+-- The effect of a renewal on a desk and its callers, and its refusals.
 use Rattle.std.specs.Prelude.{◌≡◌, ℕ, List, [], ◌∷◌, length, map}
 use Rattle.mh_base.specs.Tests.{Tests, test, only}
 use Rattle.mh_ledger.specs.Ledgers.{AreHeld, Holds, LedgerState}
@@ -15,11 +15,11 @@ use Rattle.mh_share.specs.Callers.{CallerState}
 abbrev pub with_ledger : CallerState → LedgerState → CallerState
 with_ledger c l = record { shown = c.shown; ledger = l }
 
--- of what its ledger has flushed what goes on counting is left; the world of its last look stays
+-- the flushed hits of its ledger are reduced to the part that is kept; the world of its last look does not change
 abbrev pub renewed_caller : OldHits → CallerState → CallerState
 renewed_caller h c = with_ledger c (renewed_ledger h c.ledger)
 
--- each of what has a ledger with the one at its place, as far as there are ledgers
+-- each owner of a ledger with the one at its index, as far as there are ledgers
 abbrev pub with_each : {C : Type 0} → (C → LedgerState → C) → List C → List LedgerState → List C
 with_each put [] ls = []
 with_each put (c ∷ cs) [] = c ∷ cs

@@ -1,4 +1,4 @@
-//! What one thread calls through.
+//! Callers, through which threads make calls.
 
 ghost use Rattle.std.specs.Prelude.{◌≡◌, length, IfErr, IfOk, OnErr, OnOk};
 ghost use Rattle.std.specs.Arc.{arc_value};
@@ -27,8 +27,8 @@ use std::marker::Model;
 use std::mem::swap;
 use std::sync::Arc;
 
-/// What one thread calls through: the world of its last look, the ledger of its worker, and a
-/// stack. It takes no lock, and waits for no other thread.
+/// The handle through which one thread makes calls: the world of its last look, the ledger of its
+/// worker, and a stack. It takes no lock, and waits for no other thread.
 ///
 /// A contract sees the book as it was when that world was shown, and the ledger.
 #[derive(Drop)]
@@ -54,7 +54,7 @@ impl Model for Caller {
         ≡ length (links (arc_value c.shown).definition)) };
 }
 
-/// Its worker.
+/// Shows its worker.
 impl fmt::Debug for Caller {
     fn fmt<W: fmt::Write>(&self, f: &mut fmt::Formatter<W>) -> fmt::Result {
         write!(f, "Caller(worker {})", self.worker())
@@ -62,7 +62,7 @@ impl fmt::Debug for Caller {
 }
 
 impl Caller {
-    // The caller of a worker, by a shown world. Fails only if an allocation is refused.
+    // Returns the caller of a worker, with a shown world. Fails only if an allocation is refused.
     pub(crate) fn new(alloc: Global, shown: Arc<Shown>, ledger: Ledger) -> Result<Caller, NoMemory>
         requires links { length ledger.unflushed ≡ length (links (arc_value shown).definition) }
         ensures value { IfOk result (λ c. c ≡ caller_by (arc_value shown) ledger) }
@@ -75,14 +75,14 @@ impl Caller {
         })
     }
 
-    /// The number of its worker, from 0.
+    /// Returns the number of its worker, from 0.
     pub fn worker(&self) -> usize
         ensures value { result ≡ self.now.ledger.worker }
     {
         self.ledger.worker()
     }
 
-    /// What is declared, as of its last look.
+    /// Returns the definition, as of its last look.
     pub fn definition(&self) -> &Definition
         ensures value { result.now ≡ self.now.shown.definition }
         ensures book { IsBook self.now.shown }
@@ -90,7 +90,7 @@ impl Caller {
         self.shown.definition()
     }
 
-    /// The world of its last look, by which calls are answered.
+    /// Returns the world of its last look, which answers its calls.
     pub fn world(&self) -> &World
         ensures value { result.now ≡ self.now.shown.world }
         ensures book { IsBook self.now.shown }
@@ -98,7 +98,7 @@ impl Caller {
         self.shown.world()
     }
 
-    /// Its worker's ledger.
+    /// Returns its worker's ledger.
     pub fn ledger(&self) -> &Ledger
         ensures value { result.now ≡ self.now.ledger }
         ensures links { length self.now.ledger.unflushed ≡ length (links self.now.shown.definition) }
@@ -106,7 +106,7 @@ impl Caller {
         &self.ledger
     }
 
-    /// Exchanges its ledger for another one, of as many links.
+    /// Exchanges its ledger for another one, with as many links.
     pub fn exchange(&mut self, ledger: &mut Ledger)
         requires links { length ledger.old.unflushed ≡ length self.old.ledger.unflushed }
         ensures given { ledger.new ≡ self.old.ledger }
@@ -115,13 +115,14 @@ impl Caller {
         swap(&mut self.ledger, ledger);
     }
 
-    /// What a call of a site gives, and the number of nodes that it entered
-    /// (`MutableCallSite.dynamicInvoker`), after the records of its last look: the outcome is what
+    /// Returns the outcome of a call of a site, and the number of nodes evaluated
+    /// (`MutableCallSite.dynamicInvoker`), after the records of its last look. The outcome is what
     /// the site's base tree means over the base trees, the steps are those of its linked tree over
     /// the linked trees, and the hit of its link is counted in the ledger. It takes no lock.
     ///
-    /// Refused with `NoSite`, `WrongType`, `LedgerFull`, and then with `NoMemory`, which is not
-    /// reported where no node that is entered has String in its type; nothing changes.
+    /// Fails with the first that applies of `NoSite`, `WrongType` and `LedgerFull`, and otherwise
+    /// only with `NoMemory`, which is not reported if no node that is evaluated has String in its
+    /// type; then nothing changes.
     pub fn call(&mut self, site: usize, arguments: &[Value]) -> Result<(Outcome, u128), Refusal>
         ensures passes { OnOk result (Passes (call_tests self.old site arguments.now)) }
         ensures answer { IfOk result (λ p. Called p.0 p.1
@@ -146,11 +147,11 @@ impl Caller {
         Ok((outcome, steps))
     }
 
-    /// Looks at what a desk shows: from now on its calls are answered by that world. The ledger
-    /// stays as it is. O(1); the world of before is given back by the last of its callers.
+    /// Looks at the world that a desk shows: from now on its calls are answered by that world. The
+    /// ledger is not changed. O(1); the previous world is freed by the last of its callers.
     ///
-    /// Refused with `NoWorker` where the ledger is not one that the desk holds, and then with
-    /// `NoMemory` where a reference count is refused; nothing changes.
+    /// Fails with `NoWorker` if the ledger is not one that the desk holds, and otherwise only with
+    /// `NoMemory`, if a reference count is refused; then nothing changes.
     pub fn look(&mut self, desk: &Desk) -> Result<(), Refusal>
         ensures held { OnOk result (Holds desk.now.book.totals self.old.ledger) }
         ensures looks { OnOk result (self.new ≡ record {

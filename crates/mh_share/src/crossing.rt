@@ -1,4 +1,4 @@
-//! Laws of what crosses threads.
+//! Laws about types that cross threads.
 
 ghost use denote.Param.Send.{IsSend};
 ghost use Rattle.mh_share.specs.contracts.caller.Caller as callers;
@@ -8,8 +8,8 @@ use mh_core::runtimes_cross_threads;
 use mh_run::stacks_cross_threads;
 use mh_site::worlds_cross_threads;
 
-/// A desk and a caller may each go to another thread. A body calls this where it gives them to
-/// threads: the search for so much by parts breaks off.
+/// Proves that a desk and a caller can each be sent to another thread. Call it in a function that
+/// hands them to threads: without it, the search for this fact gives up.
 pub fn desks_cross_threads()
     ensures desk { IsSend desks.the_row }
     ensures caller { IsSend callers.the_row }

@@ -1,4 +1,4 @@
-//! What takes the records, under a lock of the host's own.
+//! Desks, which take the records, under a lock of the host's own.
 
 ghost use Rattle.std.specs.Prelude.{◌≡◌, ◌+◌, List, length, map, slice_set, IfErr, IfOk, OnErr, OnOk};
 ghost use Rattle.std.specs.Arc.{arc_value};
@@ -22,8 +22,8 @@ use std::fmt;
 use std::marker::Model;
 use std::sync::Arc;
 
-/// A book, and the world that it shows to callers. A record changes the book alone: callers see it
-/// after the next `show`, and a look of their own.
+/// A book, and the world that it shows to callers. A record changes only the book: callers see it
+/// after the next `show`, followed by a look of their own.
 ///
 /// A contract sees the book, and the book as it was when the shown world was the newest.
 #[derive(Drop)]
@@ -48,7 +48,7 @@ impl Model for Desk {
     ghost invariant = { λ d. links (arc_value d.shown).definition ≡ links d.book.definition };
 }
 
-/// Its book.
+/// Shows its book.
 impl fmt::Debug for Desk {
     fn fmt<W: fmt::Write>(&self, f: &mut fmt::Formatter<W>) -> fmt::Result {
         let book = self.book();
@@ -56,7 +56,7 @@ impl fmt::Debug for Desk {
     }
 }
 
-// An owner of the world of a book, for all who share it.
+// Returns an owner of the world of a book, for all who share it.
 fn show(alloc: Global, book: &Book) -> Result<Arc<Shown>, NoMemory>
     ensures value { IfOk result (λ s. arc_value s ≡ book.now) }
 {
@@ -64,7 +64,7 @@ fn show(alloc: Global, book: &Book) -> Result<Arc<Shown>, NoMemory>
     Arc::new(alloc, shown).map_err(|_| NoMemory)
 }
 
-// Another owner of a shown world.
+// Returns another owner of a shown world.
 fn share(shown: &Arc<Shown>) -> Result<Arc<Shown>, NoMemory>
     ensures value { IfOk result (λ s. arc_value s ≡ arc_value shown.now) }
 {
@@ -72,9 +72,9 @@ fn share(shown: &Arc<Shown>) -> Result<Arc<Shown>, NoMemory>
 }
 
 impl Desk {
-    /// The desk of a definition, without records, which shows its world, and a caller for each of so
-    /// many workers, in order, whose ledgers it holds. Fails only if an allocation or a reference
-    /// count is refused.
+    /// Returns the desk of a definition, without records, which shows its world, and a caller for
+    /// each of `workers` workers, in order, whose ledgers it holds. Fails only if an allocation or
+    /// a reference count is refused.
     pub fn open(
         alloc: Global,
         definition: &Definition,
@@ -91,7 +91,7 @@ impl Desk {
         Ok((Desk { alloc, book, shown }, callers))
     }
 
-    /// The book.
+    /// Returns the book.
     pub fn book(&self) -> &Book
         ensures value { result.now ≡ self.now.book }
         ensures book { IsBook self.now.book }
@@ -100,9 +100,9 @@ impl Desk {
         &self.book
     }
 
-    /// Shows the world of now: callers have it from their next look on. O(points + sites).
+    /// Shows the current world: callers have it from their next look on. O(points + sites).
     ///
-    /// Fails only if an allocation or a reference count is refused; nothing changes.
+    /// Fails only if an allocation or a reference count is refused; then nothing changes.
     pub fn show(&mut self) -> Result<(), NoMemory>
         ensures value { OnOk result (self.new ≡ record {
           book = self.old.book;
@@ -114,12 +114,12 @@ impl Desk {
         Ok(())
     }
 
-    /// Adds the hits that a caller has not flushed to the totals. It stays held, and so do all
+    /// Adds the unflushed hits of a caller to the totals. Its ledger stays held, and so do all
     /// others. O(links).
     ///
-    /// Refused with `NoWorker` where the ledger is not one that this desk holds, with `HistoryFull`,
-    /// with `TotalTooLarge` where some total would pass its limit, and then with `NoMemory`; nothing
-    /// changes.
+    /// Fails with `NoWorker` if the ledger is not one that this desk holds, with `HistoryFull`,
+    /// with `TotalTooLarge` if some total would exceed its limit, and otherwise only with
+    /// `NoMemory`; then nothing changes.
     pub fn flush(&mut self, caller: &mut Caller) -> Result<(), Refusal>
         ensures held { OnOk result (Holds self.old.book.totals caller.old.ledger) }
         ensures taken { OnOk result (Takes self.old.book 0 (flush_of caller.old.ledger)
@@ -139,7 +139,7 @@ impl Desk {
         self.book.flush(&mut caller.ledger)
     }
 
-    /// Gives a site another tree (`MutableCallSite.setTarget`): as `Book::target`.
+    /// Gives a site another tree (`MutableCallSite.setTarget`), as `Book::target` does.
     pub fn target(&mut self, site: usize, tree: Declared) -> Result<(), Refusal>
         ensures taken { OnOk result (Takes self.old.book 0 (Targeted site tree) self.new.book) }
         ensures totals { self.new.book.totals ≡ self.old.book.totals }
@@ -150,7 +150,7 @@ impl Desk {
         self.book.target(site, tree)
     }
 
-    /// Invalidates points (`SwitchPoint.invalidateAll`): as `Book::invalidate`.
+    /// Invalidates points (`SwitchPoint.invalidateAll`), as `Book::invalidate` does.
     pub fn invalidate(&mut self, points: Listing<u32>) -> Result<(), Refusal>
         ensures taken { OnOk result (Takes self.old.book 0 (Invalidated points) self.new.book) }
         ensures totals { self.new.book.totals ≡ self.old.book.totals }
@@ -161,7 +161,7 @@ impl Desk {
         self.book.invalidate(points)
     }
 
-    /// Takes a snapshot, and gives its number: as `Book::snapshot`.
+    /// Takes a snapshot, and returns its number, as `Book::snapshot` does.
     pub fn snapshot(&mut self) -> Result<usize, Refusal>
         ensures taken { OnOk result (Takes self.old.book 0 Snapped self.new.book) }
         ensures number { IfOk result (λ number. number ≡ length self.old.book.snapshots + 1) }
@@ -173,7 +173,8 @@ impl Desk {
         self.book.snapshot()
     }
 
-    /// Publishes a plan for the problem of a snapshot, and gives its number: as `Book::publish`.
+    /// Publishes a plan for the problem of a snapshot, and returns its number, as `Book::publish`
+    /// does.
     pub fn publish(&mut self, snapshot: usize, plan: SharedPlan) -> Result<usize, Refusal>
         ensures taken { OnOk result (Takes self.old.book 0 (Published snapshot plan)
             self.new.book) }
@@ -186,7 +187,7 @@ impl Desk {
         self.book.publish(snapshot, plan)
     }
 
-    /// Installs the newest plan, and reports what became of its sites: as `Book::install`.
+    /// Installs the newest plan, and reports the result for its sites, as `Book::install` does.
     pub fn install(&mut self, plan: usize) -> Result<InstallReport, Refusal>
         ensures taken { OnOk result (Takes self.old.book 0 (Installed plan) self.new.book) }
         ensures report { IfOk result (λ told. told
@@ -199,7 +200,7 @@ impl Desk {
         self.book.install(plan)
     }
 
-    // What a caller may look at: another owner of the shown world, where its ledger is held here.
+    // Returns another owner of the shown world for a caller, if its ledger is held here.
     pub(crate) fn shown_to(&self, ledger: &Ledger) -> Result<Arc<Shown>, Refusal>
         ensures value { IfOk result (λ s. arc_value s ≡ self.now.shown) }
         ensures held { OnOk result (Holds self.now.book.totals ledger.now) }
@@ -216,7 +217,7 @@ impl Desk {
     }
 }
 
-// A caller for each ledger, in order, by one shown world.
+// Returns a caller for each ledger, in order, with one shown world.
 fn callers(alloc: Global, shown: &Arc<Shown>, ledgers: Vec<Ledger>) -> Result<Vec<Caller>, NoMemory>
     requires links { All (λ l. length l.unflushed ≡ length (links (arc_value shown.now).definition))
         ledgers.items }

@@ -1,7 +1,7 @@
-//! Calls from several threads without a lock: worlds that nobody changes, shared by their callers.
+//! Calls from several threads without a lock: worlds that never change, shared by their callers.
 //!
-//! A `Desk` has the book, and shows a world of it. Each thread calls through a `Caller`, by the
-//! world of its last look, while the desk takes records under a lock of the host's own. Nothing
+//! A `Desk` has the book, and shows a world of it. Each thread makes calls through a `Caller`, by
+//! the world of its last look, while the desk takes records under a lock of the host's own. Nothing
 //! here waits for another thread.
 //!
 //! ```

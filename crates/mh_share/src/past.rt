@@ -1,4 +1,4 @@
-//! What a shown world was made of, for proofs alone.
+//! The book of a shown world, for proofs only.
 
 ghost use Rattle.std.specs.Prelude.{◌≡◌};
 ghost use Rattle.mh_core.specs.Books.{BookState, coded_book};
@@ -18,7 +18,7 @@ impl Model for Past {
 }
 
 impl Past {
-    // The book as it is.
+    // Returns the book as it is.
     pub(crate) fn of(_book: &Book) -> Past
         ensures { result.book ≡ _book.now }
     {

@@ -1,4 +1,4 @@
-//! How a desk begins a new history.
+//! Renewing a desk, which begins a new history.
 
 ghost use Rattle.std.specs.Prelude.{◌≡◌, ◌<◌, ◌↔◌, ℕ, length, map, IfErr, IfOk, IsTrue, OnErr, OnOk};
 ghost use Rattle.std.specs.List.{All, range_with_len};
@@ -16,14 +16,15 @@ use mh_ledger::{Ledger, Totals};
 
 impl Desk {
     /// Begins a new history, as `Runtime::renew` does, with the callers of all workers, in their
-    /// order; none of them can be in a call. Each site's calls mean what they meant, the same points
-    /// are valid, beside those that are to be valid again, and sites, points and links keep their
-    /// numbers. Callers go on by the worlds of their last looks, and have the new one from their next
-    /// look behind a show on. Hits that they have not flushed stay with them, and count in the new
-    /// history from their next flush on.
+    /// order; none of them can be in a call. Each site's calls mean what they meant before, the
+    /// same points are valid, and also those that are to be valid again, and sites, points and
+    /// links keep their numbers. Callers continue with the worlds of their last looks, and get the
+    /// new one with their first look after the next `show`. Hits that they have not flushed stay
+    /// with them, and count in the new history from their next flush on.
     ///
-    /// Refused with `NoWorker` where these are not the callers of this desk, one of each worker in
-    /// order, and then as `Runtime::renew` is, where `NoMemory` may come first; nothing changes.
+    /// Fails with `NoWorker` if these are not the callers of this desk, one of each worker in
+    /// order, and otherwise as `Runtime::renew` does, except that `NoMemory` may come first; then
+    /// nothing changes.
     pub fn renew(&mut self, callers: &mut Vec<Caller>, renewal: Renewal<'_>) -> Result<(), Refusal>
         ensures held { OnOk result (AreHeld self.old.book.totals (ledgers_of callers.old.items)) }
         ensures passes { OnOk result (length callers.old.items < self.old.book.limits.history) }
@@ -56,7 +57,8 @@ impl Desk {
         answer
     }
 
-    /// Begins a new history, as `renew` does, with the ledgers of all callers in their stead.
+    /// Begins a new history, as `renew` does, with the ledgers of all callers in place of the
+    /// callers.
     pub fn renew_over(
         &mut self,
         ledgers: &mut Vec<Ledger>,
@@ -84,7 +86,7 @@ impl Desk {
         self.book.renew(ledgers, renewal)
     }
 
-    /// Whether a ledger is that of this worker, and the desk holds it.
+    /// Returns whether a ledger is that of this worker, and the desk holds it.
     pub fn is_of(&self, worker: usize, ledger: &Ledger) -> bool
         ensures decides { IsTrue result ↔ IsOf self.now.book worker ledger.now }
         ensures links { IsTrue result → length ledger.now.unflushed
@@ -95,8 +97,8 @@ impl Desk {
         ledger.worker() == worker && self.book.holds(ledger)
     }
 
-    /// A ledger for each worker, of as many links as there are, that counts no hit: a caller has it
-    /// while its own is elsewhere. Fails only if an allocation is refused.
+    /// Returns for each worker a ledger, with as many links as there are, that counts no hit: a
+    /// caller has it while its own is elsewhere. Fails only if an allocation is refused.
     pub fn spare_ledgers(&self) -> Result<Vec<Ledger>, NoMemory>
         ensures value { IfOk result (λ ledgers. ledgers.items ≡ map
             (opened_ledger (length self.now.book.totals.total) 0)
@@ -111,7 +113,7 @@ impl Desk {
         Ok(ledgers)
     }
 
-    // Whether these are the callers of all workers, in order, whose ledgers the desk holds.
+    // Returns whether these are the callers of all workers, in order, whose ledgers the desk holds.
     fn has_all(&self, callers: &[Caller]) -> bool
         ensures decides { IsTrue result
             ↔ AreHeld self.now.book.totals (ledgers_of callers.now) }
@@ -131,7 +133,7 @@ impl Desk {
     }
 }
 
-// Exchanges the ledger of each caller for the one at its place.
+// Exchanges the ledger of each caller for the one at its index.
 fn exchange_all(callers: &mut Vec<Caller>, ledgers: &mut Vec<Ledger>)
     requires count { length ledgers.old.items ≡ length callers.old.items }
     requires links { (w : ℕ) → w < length callers.old.items

@@ -1,4 +1,4 @@
-//! Worlds that stand.
+//! Worlds that never change.
 
 ghost use Rattle.std.specs.Prelude.{◌≡◌, IfOk};
 ghost use Rattle.mh_core.specs.Books.{IsBook};
@@ -8,7 +8,7 @@ use mh_core::{Book, NoMemory};
 use mh_site::{Definition, World};
 use std::marker::Model;
 
-/// A world that nobody changes, with its definition. A contract sees the book as it was when the
+/// A world that never changes, with its definition. A contract sees the book as it was when the
 /// world was shown.
 #[derive(Drop)]
 pub(crate) struct Shown {
@@ -32,7 +32,7 @@ impl Model for Shown {
 }
 
 impl Shown {
-    // The world of a book. Fails only if an allocation or a reference count is refused.
+    // Returns the world of a book. Fails only if an allocation or a reference count is refused.
     pub(crate) fn of(book: &Book) -> Result<Shown, NoMemory>
         ensures value { IfOk result (λ s. s ≡ book.now) }
     {
@@ -45,7 +45,7 @@ impl Shown {
         })
     }
 
-    // What is declared.
+    // Returns the definition.
     pub(crate) fn definition(&self) -> &Definition
         ensures value { result.now ≡ self.now.definition }
         ensures book { IsBook self.now }
@@ -53,7 +53,7 @@ impl Shown {
         &self.definition
     }
 
-    // The world.
+    // Returns the world.
     pub(crate) fn world(&self) -> &World
         ensures value { result.now ≡ self.now.world }
         ensures book { IsBook self.now }

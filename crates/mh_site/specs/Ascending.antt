@@ -1,7 +1,7 @@
 -- Numbers in ascending order.
 use Rattle.std.specs.Prelude.{ℕ, List, [], ◌∷◌, nat_le, if◌then◌else◌}
 
--- a number put in before the first that is not less
+-- a number inserted before the first that is not less
 abbrev pub put_in : ℕ → List ℕ → List ℕ
 put_in x [] = x ∷ []
 put_in x (y ∷ ys) = if nat_le x y then x ∷ y ∷ ys else y ∷ put_in x ys

@@ -1,4 +1,4 @@
--- What controls carry.
+-- The contents of controls.
 use Rattle.std.specs.Prelude.{ℕ, List, refl}
 use Rattle.std.specs.Coded.{Coded, code_by, coded×, coded_ℕ, coded_list}
 use Rattle.mh_tree.specs.Handle.{TypedTree}

@@ -16,7 +16,7 @@ pub record DefinitionData : Type 0 where
   pub points : List Point
   pub sites : List Site
 
--- what stands past the last
+-- the values past the last
 abbrev pub no_tree : TypedTree
 no_tree = record { tree = identity kind.Int; signature = record { ret = kind.Int; parameters = kind.Int ∷ [] } }
 

@@ -1,4 +1,4 @@
--- What points and sites make, or the fault that is reported: the rules (`Rules`) as tests that are decided.
+-- The definition that points and sites make, or the fault that is reported: the rules (`Rules`) as tests that are decided.
 use Rattle.std.specs.Prelude.{ℕ, ◌==◌, Bool, true, false, not, ◌&&◌, List, [], ◌∷◌, ◌++◌, length, map, take, slice_index_or, nat_le, nat_lt, Option, Some, None, Result}
 use Rattle.std.specs.List.{list_any, list_all, flat_map, range_with_len}
 use Rattle.std.specs.Str.{bytes_eq}
@@ -54,7 +54,7 @@ names_point name p = bytes_eq name p.name
 abbrev pub names_site : List ℕ → Site → Bool
 names_site name s = bytes_eq name s.name
 
--- of a point behind earlier ones
+-- the tests of a point after earlier ones
 abbrev pub point_tests : List Point → Point → Decided DefinitionFault
 point_tests earlier p =
     (is_name p.name, BadName)
@@ -62,7 +62,7 @@ point_tests earlier p =
     ∷ (nat_le p.cost greatest_cost, CostTooLarge)
     ∷ []
 
--- of the point with this number, behind those before it
+-- the tests of the point with this number, after those before it
 abbrev pub tests_at_point : List Point → ℕ → Decided DefinitionFault
 tests_at_point points i = point_tests (take i points) (slice_index_or points i no_point)
 
@@ -76,30 +76,30 @@ weighs_little l = nat_le l.weight greatest_weight
 abbrev pub costs_little : Link → Bool
 costs_little l = nat_le l.charge greatest_charge
 
--- whether there is no link
+-- whether there are no links
 abbrev pub has_no : List Link → Bool
 has_no [] = true
 has_no (l ∷ ls) = false
 
--- the key place is a parameter; a site with links has one
+-- the key position is that of a parameter; a site with links has one
 abbrev pub has_place : Site → Bool
 has_place s = elim s.key as (λ _. Bool) [ None ↦ has_no s.links | Some q ↦ nat_lt q (length s.method_type.parameters) ]
 
--- a key of the kind of the parameter at the key place
+-- a key of the kind of the parameter at the key position
 abbrev pub fits_place : Site → Link → Bool
 fits_place s l = elim s.key as (λ _. Bool) [ None ↦ false | Some q ↦ nat_lt q (length s.method_type.parameters) && kind_eq (kind_of l.when) (kind_at s.method_type.parameters q) ]
 
 abbrev pub same_key : Link → Link → Bool
 same_key l k = same_value l.when k.when
 
--- needs among so many points
+-- needs that are numbers of points, given the number of points
 abbrev pub needs_known : ℕ → Link → Bool
 needs_known points l = list_all (λ p. nat_lt p points) l.needs
 
 abbrev pub needs_differ : Link → Bool
 needs_differ l = all_differ (λ p q. p == q) l.needs
 
--- of one of these sites behind earlier ones, beside so many points
+-- the tests of one of these sites after earlier ones, given the number of points
 abbrev pub site_tests : ℕ → List Site → List Site → Site → Decided DefinitionFault
 site_tests points sites earlier s =
     (nat_le (length s.links) most_links, TooManyLinks)
@@ -120,11 +120,11 @@ site_tests points sites earlier s =
     ∷ (list_all costs_little s.links, ChargeTooLarge)
     ∷ []
 
--- of the site with this number, behind those before it
+-- the tests of the site with this number, after those before it
 abbrev pub tests_at_site : ℕ → List Site → ℕ → Decided DefinitionFault
 tests_at_site points sites i = site_tests points sites (take i sites) (slice_index_or sites i no_site)
 
--- of all points, and of all sites, by number
+-- the tests of all points, and of all sites, by number
 abbrev pub tests_of_points : List Point → Decided DefinitionFault
 tests_of_points points = flat_map (tests_at_point points) (range_with_len 0 (length points))
 
@@ -141,13 +141,13 @@ definition_tests version points sites =
 abbrev pub definition_fault : Version → List Point → List Site → Option DefinitionFault
 definition_fault version points sites = first_failing (definition_tests version points sites)
 
--- a link and a site with their needs in ascending order, and all else as it was
+-- a link and a site with their needs in ascending order, and otherwise unchanged
 abbrev pub link_in_order : Link → Link
 link_in_order l = record { when = l.when; weight = l.weight; charge = l.charge; needs = ascending l.needs }
 
 abbrev pub site_in_order : Site → Site
 site_in_order s = record { name = s.name; method_type = s.method_type; level = s.level; key = s.key; target = s.target; links = map link_in_order s.links }
 
--- what the parts make
+-- the definition that the parts make
 abbrev pub definition_made : Version → List Point → List Site → Result DefinitionData DefinitionFault
 definition_made version points sites = made_unless (record { points = points; sites = map site_in_order sites }) (definition_fault version points sites)

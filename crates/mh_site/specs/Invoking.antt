@@ -1,4 +1,4 @@
--- Which sites a tree may invoke beside the sites of a definition: those that are there, of lower levels, with their types.
+-- The sites of a definition that a tree may invoke: those that exist, of lower levels, with their types.
 use Rattle.std.specs.Prelude.{◌≡◌, ◌<◌, ◌≤◌, ℕ, Bool, ◌&&◌, List, length, slice_index_or, nat_le, nat_lt}
 use Rattle.mh_type.specs.Signature.{Signature, signature_eq}
 use Rattle.mh_tree.specs.Invocations.{EachInvoke, each_invoke}
@@ -7,12 +7,12 @@ use Rattle.mh_tree.specs.Tree.{Tree}
 use Rattle.mh_site.specs.declared.site.Site.{Site}
 use Rattle.mh_site.specs.Defined.{no_site}
 
--- a site that is there, with this type
+-- a site that exists, with this type
 pub record IsOfType (sites : List Site) (s : ℕ) (n : Signature) : Type 0 where
   pub known : s < length sites
   pub same : n ≡ (slice_index_or sites s no_site).method_type
 
--- a site that is there, below this level
+-- a site that exists, below this level
 pub record IsLower (sites : List Site) (l s : ℕ) (n : Signature) : Type 0 where
   pub known : s < length sites
   pub lower : (slice_index_or sites s no_site).level < l

@@ -1,4 +1,4 @@
--- What a definition keeps: its parts, and the numbers of its links beside them.
+-- The invariant of a definition: of its parts, and of the numbers of its links.
 use Rattle.std.specs.Arc.{arc_value}
 use Rattle.mh_site.specs.Defined.{DefinitionData}
 use Rattle.mh_site.specs.Links.{IsNumbered}

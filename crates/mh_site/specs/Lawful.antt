@@ -1,4 +1,4 @@
--- What each definition keeps.
+-- The facts that hold of each definition.
 use Rattle.std.specs.Prelude.{◌≡◌, ◌≢◌, ◌≤◌, ◌<◌, ℕ, true, List, length, map, Some}
 use Rattle.std.specs.List.{All, AllPairs}
 use Rattle.std.specs.List.Sorted.{IsStrictlyIncreasing}
@@ -17,14 +17,14 @@ use Rattle.mh_site.specs.Names.{is_name}
 use Rattle.mh_base.specs.Limits.{most_needs}
 use Rattle.mh_site.specs.Limits.{most_points, most_sites, most_links, greatest_charge, greatest_cost, greatest_weight}
 
--- the key place is a parameter, and the key is of its kind
+-- the key position is that of a parameter, and the key is of its kind
 pub record HasKey (s : Site) (l : Link) : Type 0 where
   pub place : ℕ
   pub is : s.key ≡ Some place
   pub inside : place < length s.method_type.parameters
   pub kind : kind_of l.when ≡ kind_at s.method_type.parameters place
 
--- of a link at a site, beside so many points
+-- a link of a site that is lawful, given the number of points
 pub record IsLink (points : ℕ) (s : Site) (l : Link) : Type 0 where
   pub few : length l.needs ≤ most_needs
   pub light : l.weight ≤ greatest_weight
@@ -33,7 +33,7 @@ pub record IsLink (points : ℕ) (s : Site) (l : Link) : Type 0 where
   pub ascending : IsStrictlyIncreasing l.needs
   pub key : HasKey s l
 
--- of a site beside so many points
+-- a site that is lawful, given the number of points
 pub record IsSite (points : ℕ) (s : Site) : Type 0 where
   pub name : is_name s.name ≡ true
   pub few : length s.links ≤ most_links
@@ -53,7 +53,7 @@ pub record MayInvokeFrom (sites : List Site) (l : ℕ) (t : Tree) : Type 0 where
   pub types : InvokesOfType sites t
   pub levels : InvokesLower sites l t
 
--- no two names are the same
+-- no two names are equal
 abbrev pub AreDistinct : List (List ℕ) → Type 0
 AreDistinct names = AllPairs (λ n m. n ≢ m) names
 

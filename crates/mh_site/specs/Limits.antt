@@ -3,7 +3,7 @@ use Rattle.std.specs.Prelude.{ℕ, ◌^◌}
 use Rattle.mh_site.specs.declared.version.Version.{Version}
 use Rattle.mh_site.specs.declared.version.Version.TheVariants.{One, Two}
 
--- the most points, and the most sites
+-- the greatest number of points, and of sites
 abbrev pub most_points : Version → ℕ
 most_points One = 1024
 most_points Two = 4096
@@ -12,7 +12,7 @@ abbrev pub most_sites : Version → ℕ
 most_sites One = 1024
 most_sites Two = 4096
 
--- the most links of a site
+-- the greatest number of links of a site
 abbrev pub most_links : ℕ
 most_links = 4
 
@@ -26,6 +26,6 @@ greatest_weight = 2 ^ 20
 abbrev pub greatest_charge : ℕ
 greatest_charge = 2 ^ 40
 
--- the bytes of the longest name
+-- the number of bytes of the longest name
 abbrev pub longest_name : ℕ
 longest_name = 64

@@ -18,7 +18,7 @@ links_before sites (suc s) = links_before sites s ++ links_at sites s
 abbrev pub links : DefinitionData → List (ℕ × Link)
 links d = links_before d.sites (length d.sites)
 
--- a link with its site; past the last link no site has it
+-- a link with its site; past the last link, the number of sites
 abbrev pub link_at : DefinitionData → ℕ → ℕ × Link
 link_at d j = slice_index_or (links d) j (length d.sites, no_link)
 
@@ -42,7 +42,7 @@ pub record AreNumbers (sites : List Site) (firsts homes : List ℕ) : Type 0 whe
   pub first : firsts ≡ first_links sites (length sites)
   pub home : homes ≡ homes_before sites (length sites)
 
--- what a definition keeps
+-- the invariant of a definition with these tables
 pub record IsNumbered (d : DefinitionData) (firsts homes : List ℕ) : Type 0 where
   pub lawful : IsDefinition d
   pub numbers : AreNumbers d.sites firsts homes

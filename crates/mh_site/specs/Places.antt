@@ -1,4 +1,4 @@
--- Where a fault of points and sites stands: the tests and the rules of a definition, each with its fault and the place of it.
+-- Places of faults of points and sites: the tests and the rules of a definition, each with its fault and the place of it.
 use Rattle.std.specs.Prelude.{◌≡◌, ◌≢◌, ◌≤◌, ◌<◌, ℕ, ◌&&◌, true, not, List, [], ◌∷◌, ◌++◌, length, map, take, slice_index_or, nat_le, Option, Some, None, Bool, Result}
 use Rattle.std.specs.List.{All, AllPairs, flat_map, list_any, position, range_with_len}
 use Rattle.std.specs.Option.{is_none, unwrap_or}
@@ -33,11 +33,11 @@ use Rattle.mh_site.specs.Rules.{HasPlace}
 abbrev pub misfit : DefinitionFault → DefinitionPlace → DefinitionMisfit
 misfit fault at = record { fault = fault; place = at }
 
--- out of memory, which is reported of all
+-- lack of memory, which is attributed to the whole
 abbrev pub out_of_memory : DefinitionMisfit
 out_of_memory = misfit NoMemory place.Whole
 
--- of a part of the point, of the site, and of the link of a site, with these numbers
+-- a fault of a part of the point, of the site, and of the link of a site, with these numbers
 abbrev pub at_point : ℕ → PointPart → DefinitionFault → DefinitionMisfit
 at_point i part fault = misfit fault (place.Point i part)
 
@@ -47,7 +47,7 @@ at_site i part fault = misfit fault (place.Site i part)
 abbrev pub at_link : ℕ → LinkPart → DefinitionFault → ℕ → DefinitionMisfit
 at_link i part fault j = misfit fault (place.Link i j part)
 
--- the number of the first that fails a test, where one does
+-- the number of the first that fails a test, if any does
 abbrev pub unfit : {X : Type 0} → (X → Bool) → List X → Option ℕ
 unfit passes xs = position (λ x. not (passes x)) xs
 
@@ -59,16 +59,16 @@ key_new links j = not (list_any (same_key (slice_index_or links j no_link)) (tak
 unfoldable pub key_twice : List LinkData → Option ℕ
 key_twice links = unfit (key_new links) (range_with_len 0 (length links))
 
--- holds where no link was found that fails, and else reports that link
+-- holds if no link was found that fails, and otherwise reports that link
 abbrev pub none_found : Option ℕ → (ℕ → DefinitionMisfit) → Bool × DefinitionMisfit
 none_found found told = (is_none found, told (unwrap_or found 0))
 
--- the part that a wrong key place is reported of: all of a site that has no key place
+-- the part to which a wrong key position is attributed: the whole site, if it has no key position
 abbrev pub key_part : Option ℕ → SitePart
 key_part None = of_site.Whole
 key_part (Some place) = of_site.Key
 
--- the tests of the point with this number behind earlier ones
+-- the tests of the point with this number after earlier ones
 abbrev pub placed_point_tests : ℕ → List Point → Point → Decided DefinitionMisfit
 placed_point_tests i earlier p =
     (is_name p.name, at_point i of_point.Name BadName)
@@ -79,7 +79,7 @@ placed_point_tests i earlier p =
 abbrev pub placed_at_point : List Point → ℕ → Decided DefinitionMisfit
 placed_at_point points i = placed_point_tests i (take i points) (slice_index_or points i no_point)
 
--- the tests of a site with this number behind earlier ones: of its name, and of how much it has
+-- the tests of a site with this number after earlier ones: of its name, and of the sizes of its parts
 abbrev pub placed_shape_tests : ℕ → List SiteData → SiteData → Decided DefinitionMisfit
 placed_shape_tests i earlier s =
     (nat_le (length s.links) most_links, at_site i of_site.Links TooManyLinks)
@@ -89,7 +89,7 @@ placed_shape_tests i earlier s =
     ∷ none_found (unfit weighs_little s.links) (at_link i of_link.Weight WeightTooLarge)
     ∷ []
 
--- of its keys
+-- the tests of its keys
 abbrev pub placed_key_tests : ℕ → SiteData → Decided DefinitionMisfit
 placed_key_tests i s =
     (has_place s, at_site i (key_part s.key) BadKeyPlace)
@@ -97,7 +97,7 @@ placed_key_tests i s =
     ∷ none_found (key_twice s.links) (at_link i of_link.Whole KeyTwice)
     ∷ []
 
--- of the points that it names, beside so many, and of the type of its target
+-- the tests of the points that it names, given the number of points, and of the type of its target
 abbrev pub placed_point_name_tests : ℕ → ℕ → SiteData → Decided DefinitionMisfit
 placed_point_name_tests points i s =
     none_found (unfit (needs_known points) s.links) (at_link i of_link.Needs NoPoint)
@@ -106,7 +106,7 @@ placed_point_name_tests points i s =
     ∷ (signature_eq s.target.signature s.method_type, at_site i of_site.Target TypeMismatch)
     ∷ []
 
--- of the sites that it invokes, among these, and of its charges
+-- the tests of the sites that it invokes, among these, and of its charges
 abbrev pub placed_invoke_tests : List SiteData → ℕ → SiteData → Decided DefinitionMisfit
 placed_invoke_tests sites i s =
     (nat_le s.level greatest_level, at_site i of_site.Level BadLevel)
@@ -116,7 +116,7 @@ placed_invoke_tests sites i s =
     ∷ none_found (unfit costs_little s.links) (at_link i of_link.Charge ChargeTooLarge)
     ∷ []
 
--- all tests of one of these sites, with this number, behind earlier ones, beside so many points
+-- all tests of one of these sites, with this number, after earlier ones, given the number of points
 abbrev pub placed_site_tests : ℕ → List SiteData → ℕ → List SiteData → SiteData → Decided DefinitionMisfit
 placed_site_tests points sites i earlier s =
     placed_shape_tests i earlier s ++ placed_key_tests i s ++ placed_point_name_tests points i s ++ placed_invoke_tests sites i s
@@ -124,7 +124,7 @@ placed_site_tests points sites i earlier s =
 abbrev pub placed_at_site : ℕ → List SiteData → ℕ → Decided DefinitionMisfit
 placed_at_site points sites i = placed_site_tests points sites i (take i sites) (slice_index_or sites i no_site)
 
--- of all points, and of all sites, by number
+-- the tests of all points, and of all sites, by number
 abbrev pub placed_points : List Point → Decided DefinitionMisfit
 placed_points points = flat_map (placed_at_point points) (range_with_len 0 (length points))
 
@@ -142,23 +142,23 @@ placed_tests version points sites =
 abbrev pub placed_fault : Version → List Point → List SiteData → Option DefinitionMisfit
 placed_fault version points sites = first_failing (placed_tests version points sites)
 
--- what the parts make
+-- the definition that the parts make
 abbrev pub placed_made : Version → List Point → List SiteData → Result DefinitionData DefinitionMisfit
 placed_made version points sites = made_unless (record { points = points; sites = map site_in_order sites }) (placed_fault version points sites)
 
--- the links in turn, each beside the earlier ones: where the fact fails for one, that link is reported
+-- the links in turn, each compared with the earlier ones: if the fact fails for one, that link is reported
 abbrev pub rules_of_links : (List LinkData → LinkData → Type 0) → (ℕ → DefinitionMisfit) → List LinkData → Tests DefinitionMisfit → Tests DefinitionMisfit
 rules_of_links Fact told links later =
     tests_of_each (λ j. test (Fact (take j links) (slice_index_or links j no_link)) (only (told j))) (range_with_len 0 (length links)) later
 
--- of the point with this number behind earlier ones
+-- the rules of the point with this number after earlier ones
 abbrev pub placed_point_rules : ℕ → List Point → Point → Tests DefinitionMisfit → Tests DefinitionMisfit
 placed_point_rules i earlier p later =
     test (is_name p.name ≡ true) (only (at_point i of_point.Name BadName))
     (test (All (λ q. p.name ≢ q.name) earlier) (only (at_point i of_point.Whole NameTwice))
     (test (p.cost ≤ greatest_cost) (only (at_point i of_point.Cost CostTooLarge)) later))
 
--- of one of these sites, with this number, behind earlier ones, beside so many points
+-- the rules of one of these sites, with this number, after earlier ones, given the number of points
 abbrev pub placed_site_rules : ℕ → List SiteData → ℕ → List SiteData → SiteData → Tests DefinitionMisfit → Tests DefinitionMisfit
 placed_site_rules points sites i earlier s later =
     test (length s.links ≤ most_links) (only (at_site i of_site.Links TooManyLinks))
@@ -179,14 +179,14 @@ placed_site_rules points sites i earlier s later =
     (test (InvokesLower sites s.level s.target.tree) (only (at_site i of_site.Target WrongLevel))
     (rules_of_links (λ _ l. l.charge ≤ greatest_charge) (at_link i of_link.Charge ChargeTooLarge) s.links later))))))))))))))))
 
--- of the point, and of the site, with this number
+-- the rules of the point, and of the site, with this number
 abbrev pub placed_rules_at_point : List Point → ℕ → Tests DefinitionMisfit → Tests DefinitionMisfit
 placed_rules_at_point points i = placed_point_rules i (take i points) (slice_index_or points i no_point)
 
 abbrev pub placed_rules_at_site : ℕ → List SiteData → ℕ → Tests DefinitionMisfit → Tests DefinitionMisfit
 placed_rules_at_site points sites i = placed_site_rules points sites i (take i sites) (slice_index_or sites i no_site)
 
--- the rules of `definition_rules` with their places: one that is of the links of a site stands here for each link in turn
+-- the rules of `definition_rules` with their places: a rule of the links of a site is repeated here for each link in turn
 abbrev pub placed_rules : Version → List Point → List SiteData → Tests DefinitionMisfit
 placed_rules version points sites =
     test (length points ≤ most_points version) (only (misfit TooManyPoints place.Points))

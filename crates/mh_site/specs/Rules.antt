@@ -1,4 +1,4 @@
--- What makes points and sites a definition: facts in the order in which they are tested.
+-- The conditions for points and sites to make a definition: facts in the order in which they are tested.
 use Rattle.std.specs.Prelude.{◌≡◌, ◌≢◌, ◌≤◌, ◌<◌, ℕ, true, List, [], length, take, slice_index_or, Some, None}
 use Rattle.std.specs.List.{All, AllPairs, range_with_len}
 use Rattle.mh_base.specs.Tests.{Tests, test, no_more, only}
@@ -17,19 +17,19 @@ use Rattle.mh_site.specs.Lawful.{HasKey}
 use Rattle.mh_base.specs.Limits.{most_needs}
 use Rattle.mh_site.specs.Limits.{most_points, most_sites, most_links, greatest_charge, greatest_cost, greatest_weight}
 
--- the key place is a parameter; a site with links has one
+-- the key position is that of a parameter; a site with links has one
 pub record HasPlace (s : Site) : Type 0 where
   pub inside : (q : ℕ) → s.key ≡ Some q → q < length s.method_type.parameters
   pub linked : s.key ≡ None → s.links ≡ []
 
--- of a point behind earlier ones
+-- the rules of a point after earlier ones
 abbrev pub point_rules : List Point → Point → Tests DefinitionFault → Tests DefinitionFault
 point_rules earlier p later =
     test (is_name p.name ≡ true) (only BadName)
     (test (All (λ q. p.name ≢ q.name) earlier) (only NameTwice)
     (test (p.cost ≤ greatest_cost) (only CostTooLarge) later))
 
--- of one of these sites behind earlier ones, beside so many points
+-- the rules of one of these sites after earlier ones, given the number of points
 abbrev pub site_rules : ℕ → List Site → List Site → Site → Tests DefinitionFault → Tests DefinitionFault
 site_rules points sites earlier s later =
     test (length s.links ≤ most_links) (only TooManyLinks)
@@ -49,14 +49,14 @@ site_rules points sites earlier s later =
     (test (InvokesLower sites s.level s.target.tree) (only WrongLevel)
     (test (All (λ l. l.charge ≤ greatest_charge) s.links) (only ChargeTooLarge) later)))))))))))))))
 
--- of the point, and of the site, with this number
+-- the rules of the point, and of the site, with this number
 abbrev pub rules_at_point : List Point → ℕ → Tests DefinitionFault → Tests DefinitionFault
 rules_at_point points i = point_rules (take i points) (slice_index_or points i no_point)
 
 abbrev pub rules_at_site : ℕ → List Site → ℕ → Tests DefinitionFault → Tests DefinitionFault
 rules_at_site points sites i = site_rules points sites (take i sites) (slice_index_or sites i no_site)
 
--- the two numbers, the points in order, the sites in order; where all hold, memory may run out
+-- the two numbers, the points in order, the sites in order; if all hold, memory may run out
 abbrev pub definition_rules : Version → List Point → List Site → Tests DefinitionFault
 definition_rules version points sites =
     test (length points ≤ most_points version) (only TooManyPoints)

@@ -14,14 +14,14 @@ use Rattle.mh_tree.specs.Environment.{Environment}
 use Rattle.mh_tree.specs.Sites.{Setting, env, sites, with_sites}
 use Rattle.mh_site.specs.declared.world.SiteWorld.{SiteWorld}
 
--- a site's base tree and linked tree, the links that the linked tree holds, and how often the site was retargeted
+-- a site's base tree and linked tree, the links that the linked tree holds, and the number of the site's retargetings
 pub record SiteState : Type 0 where
   pub base : TypedTree
   pub linked : TypedTree
   pub kept : List ℕ
   pub version : ℕ
 
--- which points are valid, each site, and how many controls were absorbed
+-- the points that are valid, each site, and the number of controls absorbed
 pub record WorldState : Type 0 where
   pub valid : List Bool
   pub sites : List SiteState
@@ -44,22 +44,22 @@ bases w = map (λ x. x.base) w.sites
 abbrev pub linkeds : WorldState → List TypedTree
 linkeds w = map (λ x. x.linked) w.sites
 
--- what stands past the last site
+-- the state past the last site
 abbrev pub no_state : SiteState
 no_state = record { base = no_tree; linked = no_tree; kept = []; version = 0 }
 
 abbrev pub state_at : WorldState → ℕ → SiteState
 state_at w s = slice_index_or w.sites s no_state
 
--- what trees mean in the world: an invocation means the base tree of its site
+-- the meaning of trees in the world: an invocation means the base tree of its site
 abbrev pub environment_of_bases : WorldState → Environment
 environment_of_bases w = with_sites w.valid (bases w)
 
--- the valid points of the world, and the linked trees, which run in the place of the base trees
+-- the valid points of the world, and the linked trees, which run in place of the base trees
 abbrev pub linked_sites : WorldState → Setting
 linked_sites w = sites w.valid (linkeds w)
 
--- what trees do in the world, and in which steps: an invocation runs the linked tree of its site
+-- what trees do in the world, and in how many steps: an invocation runs the linked tree of its site
 abbrev pub environment_of_links : WorldState → Environment
 environment_of_links w = env (linked_sites w)
 
@@ -71,7 +71,7 @@ opening s = record { base = s.target; linked = s.target; kept = []; version = 0 
 abbrev pub opened : DefinitionData → WorldState
 opened d = record { valid = replicate (length d.points) true; sites = map opening d.sites; front = 0 }
 
--- another tree of a site puts its linked tree back to the base
+-- another tree of a site resets its linked tree to the base
 abbrev pub retargeted : TypedTree → SiteState → SiteState
 retargeted t x = record { base = t; linked = t; kept = []; version = x.version + 1 }
 
@@ -110,7 +110,7 @@ coded_world =
 abbrev pub site_state : SiteWorld × TypedTree → SiteState
 site_state x = record { base = x.0.base; linked = x.1; kept = x.0.kept.items; version = x.0.version }
 
--- what a site has beside its linked tree
+-- the parts of a site other than its linked tree
 abbrev pub plain_site : SiteWorld → TypedTree × (List ℕ × ℕ)
 plain_site x = (x.base, (x.kept.items, x.version))
 

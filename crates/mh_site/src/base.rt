@@ -8,8 +8,8 @@ use mh_code::Prepared;
 use mh_tree::Declared;
 use std::marker::Model;
 
-/// The tree of a site with its code, so that other trees are linked over it without preparing it
-/// anew.
+/// The tree of a site with its code, so that other trees can be linked over it without preparing it
+/// again.
 #[derive(Debug, Drop)]
 pub(crate) struct BaseTree {
     declared: Declared,
@@ -32,7 +32,7 @@ impl Model for BaseTree {
 }
 
 impl BaseTree {
-    // The tree with its code, of which another owner is made. Fails only if that is refused.
+    // Returns the tree with another owner of its code. Fails only if a reference count is refused.
     pub(crate) fn new(declared: Declared, prepared: &Prepared) -> Result<BaseTree, NoMemory>
         requires same { prepared.now ≡ declared }
         ensures value { IfOk result (λ b. b ≡ declared) }
@@ -41,14 +41,14 @@ impl BaseTree {
         Ok(BaseTree { declared, prepared })
     }
 
-    // The tree.
+    // Returns the tree.
     pub(crate) fn declared(&self) -> &Declared
         ensures value { result.now ≡ self.now }
     {
         &self.declared
     }
 
-    // The tree with its code.
+    // Returns the tree with its code.
     pub(crate) fn prepared(&self) -> &Prepared
         ensures value { result.now ≡ self.now }
         ensures declared { IsDeclared result.now }
@@ -58,7 +58,7 @@ impl BaseTree {
         &self.prepared
     }
 
-    // Another owner of the tree and of its code.
+    // Returns another owner of the tree and of its code.
     pub(crate) fn share(&self) -> Result<BaseTree, NoMemory>
         ensures value { IfOk result (λ b. b ≡ self.now) }
     {

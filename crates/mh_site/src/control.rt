@@ -1,4 +1,4 @@
-//! What changes a world.
+//! Changes of a world.
 
 ghost use Rattle.std.specs.Prelude.{◌≡◌, IfOk};
 
@@ -10,12 +10,12 @@ use mh_tree::Declared;
 use std::alloc::Global;
 use std::marker::Model;
 
-/// The links that the linked tree of a site holds, by number: at most four, since a site has no
-/// more, and in place, so that a world has the room for them from its opening.
+/// The links that the linked tree of a site holds, by number: at most four, since a site has at
+/// most four, and stored in place, so that a world reserves the room for them when it is opened.
 pub type KeptLinks = ArrayVec<usize, 4>;
 
-/// A site's new tree, and the linked tree with its code, so that a world can take both without
-/// memory.
+/// A new tree of a site, and the linked tree with its code, so that a world can absorb both without
+/// allocating.
 #[derive(Debug, Drop)]
 pub struct Retargeting {
     pub(crate) site: usize,
@@ -38,8 +38,9 @@ impl Model for Retargeting {
 }
 
 impl Retargeting {
-    /// The tree for the site, by its number, in time linear in its size: its code is made here.
-    /// Fails only if an allocation or a reference count is refused.
+    /// Returns the retargeting of site number `site` to the tree `base`. It prepares the tree's
+    /// code, in time linear in the size of the tree. Fails only if an allocation or a reference
+    /// count is refused.
     pub fn new(alloc: Global, site: usize, base: Declared) -> Result<Retargeting, NoMemory>
         ensures value { IfOk result (λ r. r ≡ record { site = site; tree = base }) }
     {
@@ -50,7 +51,7 @@ impl Retargeting {
         Ok(Retargeting { site, base, linked })
     }
 
-    // Another owner of the trees.
+    // Returns another owner of the trees.
     pub(crate) fn share(&self) -> Result<Retargeting, NoMemory>
         ensures value { IfOk result (λ r. r ≡ self.now) }
     {
@@ -62,7 +63,7 @@ impl Retargeting {
     }
 }
 
-/// A site's new linked tree, with its code, and the links that it holds, by number.
+/// A new linked tree of a site, with its code, and the links that it holds, by number.
 #[derive(Debug, Drop)]
 pub struct Relinking {
     pub(crate) site: usize,
@@ -84,7 +85,8 @@ impl Model for Relinking {
 }
 
 impl Relinking {
-    /// The tree that the calls of a site run from then on, and the links that it holds.
+    /// Returns the relinking of site number `site` to the tree `linked`, which holds the links
+    /// `kept`.
     pub fn new(site: usize, linked: Prepared, kept: KeptLinks) -> Relinking
         ensures value { result ≡ record { site = site; linked = linked; kept = kept.items } }
     {
@@ -93,28 +95,28 @@ impl Relinking {
         Relinking { site, linked, kept }
     }
 
-    /// The number of the site.
+    /// Returns the number of the site.
     pub fn site(&self) -> usize
         ensures value { result ≡ self.now.site }
     {
         self.site
     }
 
-    /// The new linked tree.
+    /// Returns the new linked tree.
     pub fn linked(&self) -> &Prepared
         ensures value { result.now ≡ self.now.linked }
     {
         &self.linked
     }
 
-    /// The links that the tree holds.
+    /// Returns the links that the tree holds, by number.
     pub fn kept(&self) -> &[usize]
         ensures value { result.now ≡ self.now.kept }
     {
         self.kept.as_slice()
     }
 
-    // Another owner of the tree.
+    // Returns another owner of the tree.
     pub(crate) fn share(&self) -> Result<Relinking, NoMemory>
         ensures value { IfOk result (λ r. r ≡ self.now) }
     {
@@ -142,21 +144,21 @@ impl Model for Installation {
 }
 
 impl Installation {
-    /// The changes, with no copy.
+    /// Returns the installation of these changes. It copies nothing.
     pub fn new(changes: Vec<Relinking>) -> Installation
         ensures value { result ≡ changes.items }
     {
         Installation { changes }
     }
 
-    /// The changes, in order.
+    /// Returns the changes, in order.
     pub fn as_slice(&self) -> &[Relinking]
         ensures value { result.now ≡ self.now }
     {
         self.changes.as_slice()
     }
 
-    // Another owner of each tree.
+    // Returns another owner of each tree.
     fn share(&self) -> Result<Installation, NoMemory>
         ensures value { IfOk result (λ i. i ≡ self.now) }
     {
@@ -169,22 +171,24 @@ impl Installation {
     }
 }
 
-/// What changes a world, with all the memory that the change takes.
+/// A change of a world, with all the memory that it takes.
 #[derive(Debug, Drop)]
 pub enum Control {
-    /// Gives a site another tree (`MutableCallSite.setTarget`, Java SE 17), and puts its linked
-    /// tree back to it. A site past the last is left out.
+    /// Gives a site another tree (`MutableCallSite.setTarget`, Java SE 17), which becomes its
+    /// linked tree, too. The number of a site that does not exist is ignored.
     Target(Retargeting),
     /// Invalidates these points together and for good (`SwitchPoint.invalidateAll`, Java SE 17). A
-    /// point may stand twice, and may be invalid already. A point past the last is left out.
+    /// point may be listed twice, and may be invalid already. The number of a point that does not
+    /// exist is ignored.
     Invalidate(Listing<u32>),
-    /// Links sites to other trees over their bases, in order. A site past the last is left out.
+    /// Links sites to other trees over their base trees, in order. The number of a site that does
+    /// not exist is ignored.
     Install(Installation),
 }
 
 impl Control {
-    /// A copy of the change, with another owner of its trees. Fails only if an allocation or a
-    /// reference count is refused. O(points), or O(sites that are linked).
+    /// Returns a copy of the change, with another owner of its trees. Fails only if an allocation
+    /// or a reference count is refused. O(points), or O(sites that are linked).
     pub fn share(&self) -> Result<Control, NoMemory>
         ensures value { IfOk result (λ c. c ≡ self.now) }
     {

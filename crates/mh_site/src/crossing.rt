@@ -1,4 +1,4 @@
-//! Laws of what crosses threads.
+//! Laws about types that cross threads.
 
 ghost use Rattle.mh_site.specs.Laws.Crossing.{WorldsCross};
 
@@ -6,7 +6,8 @@ use mh_code::code_crosses_threads;
 use mh_tree::trees_cross_threads;
 use mh_type::values_cross_threads;
 
-/// Definitions, worlds and controls may go to another thread, and threads may share them.
+/// Proves that definitions, worlds and controls can be sent to another thread and shared between
+/// threads.
 pub fn worlds_cross_threads()
     ensures worlds { WorldsCross }
 {

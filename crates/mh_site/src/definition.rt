@@ -1,4 +1,4 @@
-//! Points and sites that fit together.
+//! Definitions: points and sites that fit together.
 
 ghost use Rattle.std.specs.Prelude.{◌≡◌, ◌<◌, ◌≤◌, ◌+◌, ◌⊎◌, ℕ, Ok, Err, Some, None, length, IfOk, IfErr, MatchResult};
 ghost use Rattle.std.specs.Arc.{arc_value};
@@ -28,7 +28,7 @@ use std::fmt;
 use std::marker::Model;
 use std::sync::Arc;
 
-// What all owners of a definition share.
+// The contents that all owners of a definition share.
 #[derive(Drop)]
 pub(crate) struct Parts {
     points: Listing<Point>,
@@ -36,9 +36,10 @@ pub(crate) struct Parts {
     numbering: Numbering,
 }
 
-/// Points and sites that fit together: within limits, well named, each target of its site's type,
-/// each link with a key of its own of the key place's kind, and with ascending needs. A clone of it
-/// is `share`, which copies nothing.
+/// Points and sites that fit together: they are within the limits and well named, each target has
+/// its site's type, each link of a site has a key of its own, of the kind of the parameter at the
+/// key position, and the needs of each link are ascending. To copy it, use `share`, which copies no
+/// content.
 #[derive(Drop)]
 pub struct Definition {
     parts: Arc<Parts>,
@@ -58,7 +59,7 @@ impl Model for Definition {
     ghost invariant = { IsKept };
 }
 
-/// How many points and sites it has.
+/// Shows the numbers of points and sites.
 impl fmt::Debug for Definition {
     fn fmt<W: fmt::Write>(&self, f: &mut fmt::Formatter<W>) -> fmt::Result {
         let (points, sites) = (self.points().len(), self.sites().len());
@@ -67,11 +68,11 @@ impl fmt::Debug for Definition {
 }
 
 impl Definition {
-    /// The definition of these parts, with the needs of each link in ascending order. In version 1
-    /// no link has a charge. What is refused is dropped.
+    /// Returns the definition of these points and sites, with the needs of each link in ascending
+    /// order. In version 1 no link may have a charge. On failure, the points and sites are dropped.
     ///
-    /// Refused with the first test that fails, as `DefinitionFault` orders them, and then with
-    /// `NoMemory`.
+    /// Fails with the fault of the first test that fails, in the order of `DefinitionFault`. If all
+    /// tests pass, fails only with `NoMemory`.
     pub fn new(
         alloc: Global,
         version: Version,
@@ -122,7 +123,7 @@ impl Definition {
         Ok(Definition { parts })
     }
 
-    // The definition of parts that fit together, the needs of each link in ascending order.
+    // Returns the definition of parts that fit together. The needs of each link must be ascending.
     pub(crate) fn of(
         alloc: Global,
         points: Listing<Point>,
@@ -141,7 +142,7 @@ impl Definition {
         Ok(Definition { parts })
     }
 
-    /// Another owner of the definition. Refused where no more owners can be counted.
+    /// Returns another owner of the definition. Fails only if a reference count is refused.
     pub fn share(&self) -> Result<Definition, NoMemory>
         ensures value { IfOk result (λ d. d ≡ self.now) }
     {
@@ -149,7 +150,7 @@ impl Definition {
         Ok(Definition { parts })
     }
 
-    /// The points, by number.
+    /// Returns the points, by number.
     pub fn points(&self) -> &[Point]
         ensures value { result.now ≡ self.now.points }
         ensures lawful { IsDefinition self.now }
@@ -157,7 +158,7 @@ impl Definition {
         self.parts.points.as_slice()
     }
 
-    /// The sites, by number.
+    /// Returns the sites, by number.
     pub fn sites(&self) -> &[Site]
         ensures value { result.now ≡ self.now.sites }
         ensures lawful { IsDefinition self.now }
@@ -165,7 +166,7 @@ impl Definition {
         self.parts.sites.as_slice()
     }
 
-    /// The name of a point.
+    /// Returns the name of a point.
     pub fn point_name(&self, point: usize) -> &str
         requires inside { point < length self.now.points }
         ensures value { result.now ≡ (point_at self.now point).name }
@@ -173,7 +174,7 @@ impl Definition {
         self.points()[point].name.as_str()
     }
 
-    /// The cost of a point, 0 to 2^40.
+    /// Returns the cost of a point, 0 to 2^40.
     pub fn cost(&self, point: usize) -> u64
         requires inside { point < length self.now.points }
         ensures value { result ≡ (point_at self.now point).cost }
@@ -181,7 +182,7 @@ impl Definition {
         self.points()[point].cost
     }
 
-    /// The name of a site.
+    /// Returns the name of a site.
     pub fn site_name(&self, site: usize) -> &str
         requires inside { site < length self.now.sites }
         ensures value { result.now ≡ (site_at self.now site).name }
@@ -189,7 +190,7 @@ impl Definition {
         self.sites()[site].name.as_str()
     }
 
-    /// The type of a site.
+    /// Returns the type of a site.
     pub fn method_type(&self, site: usize) -> &MethodType
         requires inside { site < length self.now.sites }
         ensures value { result.now ≡ (site_at self.now site).method_type }
@@ -197,7 +198,7 @@ impl Definition {
         &self.sites()[site].method_type
     }
 
-    /// The level of a site, at most 3: its trees invoke sites of lower levels alone.
+    /// Returns the level of a site, 0 to 3: its trees invoke only sites of lower levels.
     pub fn level(&self, site: usize) -> u64
         requires inside { site < length self.now.sites }
         ensures value { result ≡ (site_at self.now site).level }
@@ -205,7 +206,7 @@ impl Definition {
         self.sites()[site].level
     }
 
-    /// The key place of a site, where it has one.
+    /// Returns the key position of a site, or `None` if it has none.
     pub fn key(&self, site: usize) -> Option<usize>
         requires inside { site < length self.now.sites }
         ensures value { result ≡ (site_at self.now site).key }
@@ -213,7 +214,7 @@ impl Definition {
         self.sites()[site].key
     }
 
-    /// The tree that a site runs when its world is opened.
+    /// Returns the tree that a site runs when its world is opened.
     pub fn target(&self, site: usize) -> &Declared
         requires inside { site < length self.now.sites }
         ensures value { result.now ≡ (site_at self.now site).target }
@@ -221,7 +222,7 @@ impl Definition {
         &self.sites()[site].target
     }
 
-    /// The links of a site, at most 4.
+    /// Returns the links of a site, at most 4.
     pub fn links(&self, site: usize) -> &[Link]
         requires inside { site < length self.now.sites }
         ensures value { result.now ≡ (site_at self.now site).links }
@@ -229,7 +230,7 @@ impl Definition {
         self.sites()[site].links.as_slice()
     }
 
-    /// The key of a link.
+    /// Returns the key of a link.
     pub fn when(&self, site: usize, link: usize) -> &Value
         requires inside { (site < length self.now.sites)
             × (link < length (site_at self.now site).links) }
@@ -238,7 +239,7 @@ impl Definition {
         &self.links(site)[link].when
     }
 
-    /// What one hit of a link gains, 0 to 2^20.
+    /// Returns the gain of one hit of a link, 0 to 2^20.
     pub fn weight(&self, site: usize, link: usize) -> u64
         requires inside { (site < length self.now.sites)
             × (link < length (site_at self.now site).links) }
@@ -247,7 +248,8 @@ impl Definition {
         self.links(site)[link].weight
     }
 
-    /// What a plan pays for a link beside the costs of its points, 0 to 2^40.
+    /// Returns the charge of a link: what a plan pays for it besides the costs of its points, 0 to
+    /// 2^40.
     pub fn charge(&self, site: usize, link: usize) -> u64
         requires inside { (site < length self.now.sites)
             × (link < length (site_at self.now site).links) }
@@ -256,7 +258,7 @@ impl Definition {
         self.links(site)[link].charge
     }
 
-    /// The points that a link needs, ascending, at most 8.
+    /// Returns the points that a link needs, ascending, at most 8.
     pub fn needs(&self, site: usize, link: usize) -> &[u32]
         requires inside { (site < length self.now.sites)
             × (link < length (site_at self.now site).links) }
@@ -267,8 +269,8 @@ impl Definition {
 }
 
 impl Definition {
-    /// The number of links of all sites. Links are numbered from 0, site by site, and at a site in
-    /// its order.
+    /// Returns the number of links of all sites. Links are numbered from 0, site by site, and
+    /// within a site in its order.
     pub fn link_count(&self) -> usize
         ensures count { result ≡ length (links self.now) }
         ensures lawful { IsDefinition self.now }
@@ -276,8 +278,8 @@ impl Definition {
         self.parts.numbering.homes.len()
     }
 
-    /// The number of a site's first link: its links have the numbers from this one on. At a site
-    /// without links it is that of the next link. O(1).
+    /// Returns the number of a site's first link: the site's links have consecutive numbers from
+    /// this one on. For a site without links, it is the number that the next link has. O(1).
     pub fn first_link(&self, site: usize) -> usize
         requires inside { site < length self.now.sites }
         ensures value { result ≡ first_link_of self.now site }
@@ -288,7 +290,7 @@ impl Definition {
         self.parts.numbering.firsts[site]
     }
 
-    /// The number of a link's site. O(1).
+    /// Returns the number of a link's site. O(1).
     pub fn site_of(&self, link: usize) -> usize
         requires inside { link < length (links self.now) }
         ensures value { result ≡ site_of_link self.now link }
@@ -300,14 +302,14 @@ impl Definition {
     }
 }
 
-// The first owner of parts.
+// Returns the first owner of the parts.
 fn own(alloc: Global, parts: Parts) -> Result<Arc<Parts>, NoMemory>
     ensures value { IfOk result (λ owner. arc_value owner ≡ parts) }
 {
     Arc::new(alloc, parts).map_err(|_| NoMemory)
 }
 
-// All tests, in order.
+// Runs all tests, in order.
 #[tactic(auto, using(crate::proofs::Listed::first_of_two))]
 fn test(
     alloc: Global,

@@ -1,4 +1,4 @@
-//! Definitions with more points and sites.
+//! Extending a definition by points and sites.
 
 ghost use Rattle.std.specs.Prelude.{◌≡◌, ◌++◌, length, take, IfErr, IfOk, OnOk};
 ghost use Rattle.mh_base.specs.Tests.{Passes, Refuses};
@@ -18,13 +18,13 @@ use mh_tree::Declared;
 use std::alloc::Global;
 
 impl Definition {
-    /// The definition that has more points and sites behind its own, each of its own sites with
-    /// another target, by number. Its points, sites and links keep their numbers. The new sites may
-    /// need, name and invoke what was there, and each other. What is refused is dropped.
-    /// O(points + sites + links), beside the tests.
+    /// Returns the definition with these points and sites added after its own, and each of its own
+    /// sites with another target, by number. Its points, sites and links keep their numbers. The
+    /// new sites may need, name and invoke earlier points and sites, and each other. On failure,
+    /// the new points and sites are dropped. O(points + sites + links), besides the tests.
     ///
-    /// Refused with the first test that fails of a definition of version 2 with all these points
-    /// and sites, as `Definition::new` reports them, and with `NoMemory`, before the tests too.
+    /// Fails with the first test that fails for a definition of version 2 with all these points and
+    /// sites, as `Definition::new` does; fails with `NoMemory` before the tests, too.
     pub fn extended(
         &self,
         alloc: Global,
@@ -48,7 +48,7 @@ impl Definition {
         Ok(definition)
     }
 
-    // Its own sites with other targets, and then these.
+    // Returns the definition's sites with other targets, followed by `sites`.
     fn longer_sites(
         &self,
         alloc: Global,
@@ -64,7 +64,7 @@ impl Definition {
     }
 }
 
-// Items, and then these.
+// Returns the items of `first`, followed by those of `more`.
 fn join<T: Drop>(first: Listing<T>, more: Listing<T>) -> Result<Listing<T>, NoMemory>
     ensures value { IfOk result (λ all. all ≡ first ++ more) }
 {

@@ -1,4 +1,4 @@
-//! What the calls of this crate refuse.
+//! Faults of definitions.
 
 ghost use Rattle.std.specs.Prelude.{◌≡◌};
 ghost use Rattle.mh_site.specs.Definitions.{fault_number};
@@ -6,70 +6,72 @@ ghost use Rattle.mh_site.specs.Definitions.{fault_number};
 use mh_base::NoMemory;
 use thiserror::Error;
 
-/// Why points and sites make no definition. The tests 2 and 3 come first, then the points in order,
-/// then the sites in order; within a point or a site the tests stand in the order of their numbers,
-/// each over the whole of it, and the first that fails is reported. Memory comes last.
+/// The reason why points and sites do not make a definition. Tests 2 and 3 come first, then the
+/// points in order, then the sites in order. Within a point or a site, the tests run in the order
+/// of their numbers, each over the whole of it, and the first that fails is reported. `NoMemory`
+/// comes last.
 #[derive(Clone, Copy, Debug, PartialEq, Eq, Error)]
 pub enum DefinitionFault {
     /// An allocation was refused.
     #[error("1 NoMemory")]
     NoMemory,
-    /// More points than the version allows: 1,024, or 4,096 in version 2.
+    /// There are more points than the version allows: 1,024, or 4,096 in version 2.
     #[error("2 TooManyPoints")]
     TooManyPoints,
-    /// More sites than the version allows: 1,024, or 4,096 in version 2.
+    /// There are more sites than the version allows: 1,024, or 4,096 in version 2.
     #[error("3 TooManySites")]
     TooManySites,
-    /// More than 4 links at a site.
+    /// A site has more than 4 links.
     #[error("4 TooManyLinks")]
     TooManyLinks,
-    /// More than 8 needs at a link.
+    /// A link has more than 8 needs.
     #[error("5 TooManyNeeds")]
     TooManyNeeds,
-    /// A name that is empty, past 64 bytes, does not begin with a letter or `_`, or has other bytes
-    /// than letters, digits, `_`, `.`, `-`.
+    /// A name is empty, is longer than 64 bytes, does not begin with a letter or `_`, or has a byte
+    /// other than letters, digits, `_`, `.` and `-`.
     #[error("6 BadName")]
     BadName,
-    /// A point with the name of an earlier point, or a site with that of an earlier site.
+    /// A point has the name of an earlier point, or a site that of an earlier site.
     #[error("7 NameTwice")]
     NameTwice,
-    /// A cost past 2^40.
+    /// A cost exceeds 2^40.
     #[error("8 CostTooLarge")]
     CostTooLarge,
-    /// A weight past 2^20.
+    /// A weight exceeds 2^20.
     #[error("9 WeightTooLarge")]
     WeightTooLarge,
-    /// A key place past the parameters, also at a site without links, or links without a key place.
+    /// The key position is not that of a parameter, even if the site has no links; or the site has
+    /// links but no key position.
     #[error("10 BadKeyPlace")]
     BadKeyPlace,
-    /// A key of another kind than the key place's.
+    /// A key is not of the kind of the parameter at the key position.
     #[error("11 KeyMismatch")]
     KeyMismatch,
     /// Two keys of a site are equal.
     #[error("12 KeyTwice")]
     KeyTwice,
-    /// A need, or a point that the target names, past the last point.
+    /// A need, or a point that the target names, does not exist.
     #[error("13 NoPoint")]
     NoPoint,
-    /// A need stands twice at a link.
+    /// A link lists a need twice.
     #[error("14 NeedTwice")]
     NeedTwice,
-    /// A target of another type than its site's.
+    /// The target is not of its site's type.
     #[error("15 TypeMismatch")]
     TypeMismatch,
-    /// A level past 3.
+    /// A level exceeds 3.
     #[error("16 BadLevel")]
     BadLevel,
-    /// A site that the target invokes, past the last site.
+    /// The target invokes a site that does not exist.
     #[error("17 NoSite")]
     NoSite,
-    /// An invocation in the target with another type than its site's.
+    /// An invocation in the target does not have the type of the site that it invokes.
     #[error("18 InvokeMismatch")]
     InvokeMismatch,
-    /// An invocation in the target of a site whose level is not below its own.
+    /// The target invokes a site whose level is not lower than that of its own site.
     #[error("19 WrongLevel")]
     WrongLevel,
-    /// A charge past 2^40.
+    /// A charge exceeds 2^40.
     #[error("20 ChargeTooLarge")]
     ChargeTooLarge,
 }
@@ -85,7 +87,7 @@ impl From<NoMemory> for DefinitionFault {
 }
 
 impl DefinitionFault {
-    /// The fault's number, 1 to 20.
+    /// Returns the fault's number, 1 to 20.
     pub fn number(self) -> u8
         ensures value { result ≡ fault_number self }
     {

@@ -1,4 +1,4 @@
-//! Which sites a tree may invoke.
+//! Tests of the sites that a tree invokes.
 
 ghost use Rattle.std.specs.Prelude.{◌≡◌, ◌≤◌, ◌↔◌, IsTrue, length};
 ghost use Rattle.mh_tree.specs.Limits.{site_bound};
@@ -8,7 +8,7 @@ use crate::site::Site;
 use mh_tree::{Handle, InvocationTest, each_invocation};
 use mh_type::MethodType;
 
-/// Whether a tree invokes none but these sites. O(1).
+/// Returns whether each site that a tree invokes exists. O(1).
 pub fn invokes_known(sites: &[Site], tree: &Handle) -> bool
     ensures value { result ≡ known sites.now tree.now.tree }
     ensures decides { IsTrue result ↔ (site_bound tree.now.tree ≤ length sites.now) }
@@ -16,7 +16,7 @@ pub fn invokes_known(sites: &[Site], tree: &Handle) -> bool
     tree.site_bound() <= sites.len()
 }
 
-/// Whether a tree invokes each site with the site's type. It takes time linear in its size.
+/// Returns whether a tree invokes each site with the site's type. Linear in the size of the tree.
 pub fn invokes_of_type(sites: &[Site], tree: &Handle) -> bool
     ensures value { result ≡ of_type sites.now tree.now.tree }
     ensures decides { IsTrue result ↔ InvokesOfType sites.now tree.now.tree }
@@ -24,7 +24,7 @@ pub fn invokes_of_type(sites: &[Site], tree: &Handle) -> bool
     each_invocation(&OfType { sites }, tree.root())
 }
 
-/// Whether a tree invokes sites below this level alone. It takes time linear in its size.
+/// Returns whether a tree invokes only sites below this level. Linear in the size of the tree.
 pub fn invokes_lower(sites: &[Site], level: u64, tree: &Handle) -> bool
     ensures value { result ≡ lower sites.now level tree.now.tree }
     ensures decides { IsTrue result ↔ InvokesLower sites.now level tree.now.tree }
@@ -48,7 +48,7 @@ impl<'a> InvocationTest for OfType<'a> {
     }
 }
 
-// Whether a site is there and has this type.
+// Returns whether a site exists and has this type.
 fn has_type(sites: &[Site], site: usize, method_type: &MethodType) -> bool
     ensures value { result ≡ is_of_type sites.now site method_type.now }
 {
@@ -75,7 +75,7 @@ impl<'a> InvocationTest for Lower<'a> {
     }
 }
 
-// Whether a site is there and its level is below this one.
+// Returns whether a site exists and its level is below this one.
 fn is_below(sites: &[Site], site: usize, level: u64) -> bool
     ensures value { result ≡ is_lower sites.now level site }
 {

@@ -1,5 +1,5 @@
-//! What is declared, points with their costs and sites with their links, and the world that
-//! controls change: which points are valid, and the trees of each site.
+//! Definitions, which declare points with their costs and sites with their links, and worlds, which
+//! controls change: a world knows which points are valid, and the trees of each site.
 //!
 //! ```
 //! let site = Site { name, method_type, level: 0, key: Some(0), target, links };

@@ -7,10 +7,10 @@ ghost use Rattle.mh_site.specs.Names.{is_name as is_lawful, begins_name as may_b
 use std::alloc::{AllocError, Global};
 use std::marker::Model;
 
-/// The most bytes of a lawful name.
+/// The greatest number of bytes of a lawful name.
 pub const LONGEST_NAME: usize = 64;
 
-/// A text that owns its bytes. Whether it is a lawful name, the definition tests.
+/// A text that owns its bytes. `Definition::new` tests whether it is a lawful name.
 #[derive(Debug, Drop)]
 pub struct Name {
     text: String,
@@ -25,7 +25,7 @@ impl Model for Name {
 }
 
 impl Name {
-    /// A copy of the text.
+    /// Returns a copy of the text.
     pub fn new(alloc: Global, text: &str) -> Result<Name, AllocError>
         ensures value { IfOk result (λ name. name ≡ text.now) }
     {
@@ -34,15 +34,15 @@ impl Name {
         })
     }
 
-    /// The bytes.
+    /// Returns the bytes.
     pub fn as_str(&self) -> &str
         ensures value { result.now ≡ self.now }
     {
         self.text.as_str()
     }
 
-    /// Whether this is a lawful name: 1 to 64 bytes, first a letter or `_`, then letters, digits,
-    /// `_`, `.` and `-`, all ASCII.
+    /// Returns whether this is a lawful name: 1 to 64 bytes, of which the first is a letter or `_`,
+    /// and the others are letters, digits, `_`, `.` and `-`, all ASCII.
     pub fn is_lawful(&self) -> bool
         ensures value { result ≡ is_lawful self.now }
     {
@@ -50,7 +50,7 @@ impl Name {
     }
 }
 
-// Whether bytes make a lawful name.
+// Returns whether bytes make a lawful name.
 fn is_name(name: &[u8]) -> bool
     ensures value { result ≡ is_lawful name.now }
 {
@@ -60,7 +60,7 @@ fn is_name(name: &[u8]) -> bool
     rest.len() < LONGEST_NAME && begins_name(*first) && all_continue(rest)
 }
 
-// Whether each byte may stand in a name behind the first.
+// Returns whether each byte is allowed in a name after the first byte.
 fn all_continue(bytes: &[u8]) -> bool
     ensures value { result ≡ list_all may_continue bytes.now }
 {

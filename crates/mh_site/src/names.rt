@@ -25,7 +25,7 @@ impl Model for Names {
 }
 
 impl Names {
-    /// No names.
+    /// Returns the empty list of names.
     pub fn new(alloc: Global) -> Names
         ensures value { result ≡ [] }
     {
@@ -35,7 +35,7 @@ impl Names {
         }
     }
 
-    /// Puts a name last, unless it is among them. Where memory is refused, all is as it was.
+    /// Adds a name at the end, unless it is present. If an allocation is refused, nothing changes.
     pub fn add(&mut self, name: &str) -> Result<(), AllocError>
         ensures ok { OnOk result (self.new ≡ with_name self.old name.now) }
         ensures err { OnErr result (self.new ≡ self.old) }
@@ -45,14 +45,14 @@ impl Names {
         Ok(())
     }
 
-    /// Whether the name is among them.
+    /// Returns whether the name is present.
     pub fn contains(&self, name: &str) -> bool
         ensures value { result ≡ list_any (bytes_eq name.now) self.now }
     {
         self.set.contains(name)
     }
 
-    /// The number of a name, or one past the last.
+    /// Returns the number of a name, or the number of names if it is not present.
     pub fn place(&self, name: &str) -> usize
         ensures value { result ≡ place_of self.now name.now }
     {
@@ -60,7 +60,7 @@ impl Names {
     }
 }
 
-/// The table with one more name. There is none if an allocation was refused, now or before.
+/// Returns the table with one more name, or `None` if an allocation was refused, now or before.
 pub(crate) fn with_one_more(names: Option<Names>, name: &str) -> Option<Names>
     ensures value { IfSome result (λ after. IsSomeAnd names
         (λ before. after ≡ with_name before name.now)) }

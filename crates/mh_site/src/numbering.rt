@@ -1,4 +1,4 @@
-//! The numbers of links, through all sites in order.
+//! The numbers of links, which count through all sites in order.
 
 ghost use Rattle.std.specs.Prelude.{◌≡◌, ◌++◌, ◌∷◌, [], replicate, IfOk, OnOk};
 ghost use Rattle.mh_site.specs.Links.{AreNumbers};
@@ -7,7 +7,7 @@ use crate::site::Site;
 use mh_base::NoMemory;
 use std::alloc::Global;
 
-// For each site the number of its first link, and for each link the number of its site.
+// For each site, the number of its first link, and for each link, the number of its site.
 #[derive(Debug, Drop)]
 pub(crate) struct Numbering {
     pub(crate) firsts: Vec<usize>,
@@ -28,7 +28,7 @@ pub(crate) fn number_links(alloc: Global, sites: &[Site]) -> Result<Numbering, N
     Ok(Numbering { firsts, homes })
 }
 
-// A site with as many links more.
+// Appends the number of a site once for each of its links.
 fn push_home(homes: &mut Vec<usize>, site: usize, links: usize) -> Result<(), NoMemory>
     ensures value { OnOk result (homes.new.items ≡ homes.old.items ++ replicate links site) }
 {

@@ -8,7 +8,7 @@ use crate::link::Link;
 use crate::site::Site;
 use mh_base::Listing;
 
-// The needs of each link of each site in ascending order. It takes no memory.
+// Sorts the needs of each link of each site in ascending order. It does not allocate.
 pub(crate) fn order_sites(sites: &mut Vec<Site>)
     ensures value { sites.new.items ≡ map site_in_order sites.old.items }
 {

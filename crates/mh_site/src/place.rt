@@ -1,4 +1,4 @@
-//! Where a fault of points and sites stands.
+//! Places of faults of definitions.
 
 ghost use Rattle.std.specs.Prelude.{◌≡◌, MatchResult, true, false};
 ghost use Rattle.std.specs.Option.{is_none, unwrap_or};
@@ -7,7 +7,7 @@ ghost use Rattle.mh_site.specs.Places.{misfit, at_point as told_of_point, at_sit
 use crate::fault::DefinitionFault;
 use mh_base::{NoMemory, demand};
 
-/// What of points and sites has a fault.
+/// The part of points and sites that has a fault.
 #[derive(Clone, Copy, Debug, PartialEq, Eq)]
 pub enum DefinitionPlace {
     /// All of it.
@@ -37,7 +37,7 @@ pub enum DefinitionPlace {
 /// A part of a point.
 #[derive(Clone, Copy, Debug, PartialEq, Eq)]
 pub enum PointPart {
-    /// All of it, beside the points before it.
+    /// The whole point, compared with those before it.
     Whole,
     /// The name.
     Name,
@@ -48,13 +48,13 @@ pub enum PointPart {
 /// A part of a site.
 #[derive(Clone, Copy, Debug, PartialEq, Eq)]
 pub enum SitePart {
-    /// All of it, also where a key place is missing.
+    /// The whole site, also if its key position is missing.
     Whole,
     /// The name.
     Name,
     /// The level.
     Level,
-    /// The key place.
+    /// The key position.
     Key,
     /// The target.
     Target,
@@ -65,7 +65,7 @@ pub enum SitePart {
 /// A part of a link.
 #[derive(Clone, Copy, Debug, PartialEq, Eq)]
 pub enum LinkPart {
-    /// All of it, beside the links of the site before it.
+    /// The whole link, compared with those before it at its site.
     Whole,
     /// The key.
     When,
@@ -77,12 +77,13 @@ pub enum LinkPart {
     Needs,
 }
 
-/// Why points and sites make no definition, and where.
+/// The reason why points and sites do not make a definition, and the place of the fault.
 #[derive(Clone, Copy, Debug, PartialEq, Eq)]
 pub struct DefinitionMisfit {
     /// The first test that fails.
     pub fault: DefinitionFault,
-    /// What has the fault. Where a test is of all links of a site, it is the first that fails.
+    /// The part that has the fault. If a test is of all links of a site, it is the first link that
+    /// fails it.
     pub place: DefinitionPlace,
 }
 
@@ -100,7 +101,7 @@ impl From<NoMemory> for DefinitionMisfit {
     }
 }
 
-// A test, and what is reported where it fails.
+// Tests a condition, and reports this fault and place if it does not hold.
 pub(crate) fn demand_at(
     passes: bool,
     fault: DefinitionFault,
@@ -112,7 +113,7 @@ pub(crate) fn demand_at(
     demand(passes, DefinitionMisfit { fault, place })
 }
 
-// A test of a point.
+// Tests a condition on a point.
 pub(crate) fn demand_of_point(
     passes: bool,
     fault: DefinitionFault,
@@ -125,7 +126,7 @@ pub(crate) fn demand_of_point(
     demand_at(passes, fault, DefinitionPlace::Point { point, part })
 }
 
-// A test of a site.
+// Tests a condition on a site.
 pub(crate) fn demand_of_site(
     passes: bool,
     fault: DefinitionFault,
@@ -138,7 +139,7 @@ pub(crate) fn demand_of_site(
     demand_at(passes, fault, DefinitionPlace::Site { site, part })
 }
 
-// A test of the links of a site, given the first that fails it, where there is one.
+// Tests a condition on the links of a site, given the first link that fails it, if any.
 pub(crate) fn demand_of_links(
     failing: Option<usize>,
     fault: DefinitionFault,

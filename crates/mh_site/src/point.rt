@@ -2,11 +2,11 @@
 
 use crate::name::Name;
 
-/// A switch point (`java.lang.invoke.SwitchPoint`, Java SE 17), and what it costs to keep it alive.
+/// A switch point (`java.lang.invoke.SwitchPoint`, Java SE 17), and the cost of relying on it.
 #[derive(Debug, Drop)]
 pub struct Point {
-    /// 1 to 64 bytes in a definition, and of no other point.
+    /// The name: 1 to 64 bytes in a definition, and different from those of all other points.
     pub name: Name,
-    /// 0 to 2^40 in a definition, in the units of gains.
+    /// The cost: 0 to 2^40 in a definition, in the units of gains.
     pub cost: u64,
 }

@@ -15,7 +15,7 @@ use std::alloc::Global;
 /// The greatest cost of a point.
 pub const GREATEST_COST: u64 = 1 << 40;
 
-// The tests of all points, in order. Names are compared one by one once memory is refused.
+// Runs the tests of all points, in order. If memory is refused, names are compared one by one.
 pub(crate) fn test_points(alloc: Global, points: &[Point]) -> Result<(), DefinitionMisfit>
     ensures value { MatchResult result (λ _. first_failing (placed_points points.now) ≡ None)
         (λ m. first_failing (placed_points points.now) ≡ Some m) }
@@ -28,8 +28,8 @@ pub(crate) fn test_points(alloc: Global, points: &[Point]) -> Result<(), Definit
     Ok(())
 }
 
-// The tests of the point with this number behind earlier ones, whose names are in the table where
-// there is one.
+// Runs the tests of the point with this number, which comes after the earlier ones. Their names are
+// in the table, if there is one.
 fn test_point(
     index: usize,
     seen: Option<&Names>,
@@ -61,7 +61,7 @@ fn test_point(
     )
 }
 
-// Whether an earlier point has this name, by their table of names where there is one.
+// Returns whether an earlier point has this name, using the table of their names if there is one.
 fn is_seen(seen: Option<&Names>, earlier: &[Point], name: &str) -> bool
     requires seen { IfSome seen (λ names. names.now ≡ map (λ p. p.name) earlier.now) }
     ensures value { result ≡ list_any (names_point name.now) earlier.now }
@@ -72,7 +72,7 @@ fn is_seen(seen: Option<&Names>, earlier: &[Point], name: &str) -> bool
     }
 }
 
-// Whether a point has this name.
+// Returns whether a point has this name.
 fn is_point_name(points: &[Point], name: &str) -> bool
     ensures value { result ≡ list_any (names_point name.now) points.now }
 {

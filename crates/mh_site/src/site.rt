@@ -10,18 +10,18 @@ use mh_type::MethodType;
 /// that it runs when its world is opened.
 #[derive(Debug, Drop)]
 pub struct Site {
-    /// 1 to 64 bytes in a definition, and of no other site.
+    /// The name: 1 to 64 bytes in a definition, and different from those of all other sites.
     pub name: Name,
-    /// The type, which each tree of the site has.
+    /// The type, which is that of each tree of the site.
     pub method_type: MethodType,
-    /// The level, at most 3 in a definition: the site's trees invoke sites of lower levels alone.
+    /// The level, at most 3 in a definition: the site's trees invoke only sites of lower levels.
     pub level: u64,
-    /// The key place: the parameter that the keys of the links are compared with, from 0. A site
-    /// without links may have none.
+    /// The key position: the index, from 0, of the parameter that the keys of the links are
+    /// compared with. It may be `None` if the site has no links.
     pub key: Option<usize>,
-    /// The tree, of the site's type, which names points of the definition alone and invokes its
-    /// sites of lower levels, with their types.
+    /// The tree, of the site's type. It names only points of the definition, and invokes only sites
+    /// of lower levels, with their types.
     pub target: Declared,
-    /// At most 4 in a definition.
+    /// The links: at most 4 in a definition.
     pub links: Listing<Link>,
 }

@@ -18,7 +18,7 @@ use mh_base::{MOST_NEEDS, are_below};
 use mh_type::{Value, same_value};
 use std::alloc::Global;
 
-/// The most links of a site.
+/// The greatest number of links of a site.
 pub const MOST_LINKS: usize = 4;
 
 /// The greatest weight of a link.
@@ -30,8 +30,8 @@ pub const GREATEST_LEVEL: u64 = 3;
 /// The greatest charge of a link.
 pub const GREATEST_CHARGE: u64 = 1 << 40;
 
-// The tests of all sites, in order, beside so many points. Names are compared one by one once
-// memory is refused.
+// Runs the tests of all sites, in order, given the number of points. If memory is refused, names
+// are compared one by one.
 pub(crate) fn test_sites(
     alloc: Global,
     points: usize,
@@ -48,8 +48,8 @@ pub(crate) fn test_sites(
     Ok(())
 }
 
-// The tests of one of these sites, with this number, in the order of their faults' numbers. The
-// names of the sites before it are in the table where there is one.
+// Runs the tests of the site with this number, in the order of their faults' numbers. The names of
+// the sites before it are in the table, if there is one.
 fn test_site(
     points: usize,
     sites: &[Site],
@@ -71,7 +71,7 @@ fn test_site(
     test_invocations(sites, index, site)
 }
 
-// The tests of a site's name, and of how much it has.
+// Runs the tests of a site's name, and of the sizes of its parts.
 fn test_shape(
     seen: Option<&Names>,
     earlier: &[Site],
@@ -105,7 +105,7 @@ fn test_shape(
     )
 }
 
-// The tests of a site's keys.
+// Runs the tests of a site's keys.
 fn test_keys(index: usize, site: &Site) -> Result<(), DefinitionMisfit>
     ensures value { MatchResult result
         (λ _. first_failing (placed_key_tests index site.now) ≡ None)
@@ -119,7 +119,8 @@ fn test_keys(index: usize, site: &Site) -> Result<(), DefinitionMisfit>
     demand_of_links(twice, DefinitionFault::KeyTwice, index, LinkPart::Whole)
 }
 
-// The tests of the points that a site names, beside so many, and of its target's type.
+// Runs the tests of the points that a site names, given the number of points, and of its target's
+// type.
 fn test_point_names(points: usize, index: usize, site: &Site) -> Result<(), DefinitionMisfit>
     ensures value { MatchResult result
         (λ _. first_failing (placed_point_name_tests points index site.now) ≡ None)
@@ -140,7 +141,7 @@ fn test_point_names(points: usize, index: usize, site: &Site) -> Result<(), Defi
     )
 }
 
-// The tests of the sites that a site invokes, among these, and of its charges.
+// Runs the tests of the sites that a site invokes, and of its charges.
 fn test_invocations(sites: &[Site], index: usize, site: &Site) -> Result<(), DefinitionMisfit>
     ensures value { MatchResult result
         (λ _. first_failing (placed_invoke_tests sites.now index site.now) ≡ None)
@@ -169,7 +170,7 @@ fn test_invocations(sites: &[Site], index: usize, site: &Site) -> Result<(), Def
     )
 }
 
-// The part of a site that a wrong key place is reported of.
+// Returns the part of a site to which a wrong key position is attributed.
 fn key_part(key: Option<usize>) -> SitePart
     ensures value { result ≡ part_of_key key }
 {
@@ -179,7 +180,7 @@ fn key_part(key: Option<usize>) -> SitePart
     }
 }
 
-// Whether an earlier site has this name, by their table of names where there is one.
+// Returns whether an earlier site has this name, using the table of their names if there is one.
 fn is_seen(seen: Option<&Names>, earlier: &[Site], name: &str) -> bool
     requires seen { IfSome seen (λ names. names.now ≡ map (λ s. s.name) earlier.now) }
     ensures value { result ≡ list_any (names_site name.now) earlier.now }
@@ -190,7 +191,7 @@ fn is_seen(seen: Option<&Names>, earlier: &[Site], name: &str) -> bool
     }
 }
 
-// Whether a site has this name.
+// Returns whether a site has this name.
 fn is_site_name(sites: &[Site], name: &str) -> bool
     ensures value { result ≡ list_any (names_site name.now) sites.now }
 {
@@ -202,7 +203,7 @@ fn is_site_name(sites: &[Site], name: &str) -> bool
     false
 }
 
-// The first link with too many needs.
+// Returns the first link with too many needs.
 fn with_many_needs(links: &[Link]) -> Option<usize>
     ensures value { result ≡ unfit few links.now }
 {
@@ -215,7 +216,7 @@ fn has_few_needs(link: &Link) -> bool
     link.needs.len() <= MOST_NEEDS
 }
 
-// The first link with too large a weight.
+// Returns the first link with too large a weight.
 fn with_much_weight(links: &[Link]) -> Option<usize>
     ensures value { result ≡ unfit little links.now }
 {
@@ -228,7 +229,7 @@ fn weighs_little(link: &Link) -> bool
     link.weight <= GREATEST_WEIGHT
 }
 
-// The first link with too large a charge.
+// Returns the first link with too large a charge.
 fn with_much_charge(links: &[Link]) -> Option<usize>
     ensures value { result ≡ unfit cheap links.now }
 {
@@ -241,7 +242,8 @@ fn costs_little(link: &Link) -> bool
     link.charge <= GREATEST_CHARGE
 }
 
-// Whether the key place is a parameter. A site without links may have none.
+// Returns whether the key position is that of a parameter. It may be missing if the site has no
+// links.
 fn has_place(site: &Site) -> bool
     ensures value { result ≡ places site.now }
 {
@@ -251,7 +253,7 @@ fn has_place(site: &Site) -> bool
     }
 }
 
-// The first link whose key is of another kind than the parameter at the key place.
+// Returns the first link whose key is not of the kind of the parameter at the key position.
 fn with_other_kind(site: &Site) -> Option<usize>
     ensures value { result ≡ unfit (fitting site.now) site.now.links }
 {
@@ -270,7 +272,7 @@ fn fits_place(site: &Site, link: &Link) -> bool
     }
 }
 
-// The first link whose key an earlier one has.
+// Returns the first link whose key an earlier one has.
 fn with_key_twice(links: &[Link]) -> Option<usize>
     ensures value { result ≡ key_twice links.now }
 {
@@ -282,14 +284,14 @@ fn with_key_twice(links: &[Link]) -> Option<usize>
     None
 }
 
-// Whether a link has this key.
+// Returns whether a link has this key.
 fn has_key(links: &[Link], key: &Value) -> bool
     ensures value { result ≡ list_any (λ l. values_same key.now l.when) links.now }
 {
     links.iter().any(|link| same_value(key, &link.when))
 }
 
-// The first link that needs a point past the last of so many.
+// Returns the first link that needs a point that does not exist, given the number of points.
 fn with_unknown_need(links: &[Link], points: usize) -> Option<usize>
     ensures value { result ≡ unfit (known points) links.now }
 {
@@ -302,7 +304,7 @@ fn knows_needs(link: &Link, points: usize) -> bool
     are_below(link.needs.as_slice(), points)
 }
 
-// The first link with a need twice.
+// Returns the first link that lists a need twice.
 fn with_need_twice(links: &[Link]) -> Option<usize>
     ensures value { result ≡ unfit differing links.now }
 {
@@ -328,7 +330,7 @@ fn is_needed(needs: &[u32], point: u32) -> bool
     needs.iter().any(|need| point == *need)
 }
 
-// Whether the target has the site's type.
+// Returns whether the target has the site's type.
 fn is_typed(site: &Site) -> bool
     ensures value { result ≡ signature_eq site.now.target.signature site.now.method_type }
 {

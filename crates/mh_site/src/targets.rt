@@ -1,4 +1,4 @@
-//! Definitions with other targets at their sites.
+//! Replacing the targets of the sites of a definition.
 
 ghost use Rattle.std.specs.Prelude.{◌≡◌, length, map, slice_index_or, IfOk};
 ghost use Rattle.std.specs.List.{range_with_len};
@@ -17,8 +17,8 @@ use mh_tree::Declared;
 use std::alloc::Global;
 
 impl Definition {
-    /// The definition with the same points and sites, each site with another target, by number.
-    /// Points, sites and links keep their numbers. O(points + sites + links).
+    /// Returns the definition with the same points and sites, each site with another target, by
+    /// number. Points, sites and links keep their numbers. O(points + sites + links).
     ///
     /// Fails only if an allocation or a reference count is refused.
     pub fn with_targets(&self, alloc: Global, targets: &[Declared]) -> Result<Definition, NoMemory>
@@ -34,7 +34,7 @@ impl Definition {
     }
 }
 
-// Copies of the sites, with these targets.
+// Returns copies of the sites, with these targets.
 pub(crate) fn with_targets(
     alloc: Global,
     sites: &[Site],
@@ -52,7 +52,7 @@ pub(crate) fn with_targets(
     Ok(Listing::from_vec(made))
 }
 
-// A copy of the site, with this target.
+// Returns a copy of the site, with this target.
 fn with_target(alloc: Global, site: &Site, target: &Declared) -> Result<Site, NoMemory>
     ensures value { IfOk result (λ x. x ≡ with_tree site.now target.now) }
 {

@@ -18,7 +18,7 @@ use std::alloc::Global;
 use std::collections::VecDeque;
 use std::marker::Model;
 
-// A site's base tree, the links that its linked tree holds, and how often it was retargeted.
+// A site's base tree, the links that its linked tree holds, and the number of its retargetings.
 #[derive(Debug, Drop)]
 pub(crate) struct SiteWorld {
     base: BaseTree,
@@ -27,7 +27,7 @@ pub(crate) struct SiteWorld {
 }
 
 impl SiteWorld {
-    // Another owner of the base tree.
+    // Returns another owner of the base tree, with the rest copied.
     fn share(&self) -> Result<SiteWorld, NoMemory>
         ensures value { IfOk result (λ s. plain_site s ≡ plain_site self.now) }
     {
@@ -39,19 +39,19 @@ impl SiteWorld {
     }
 }
 
-/// Which points are valid, and the trees of each site: what a list of controls made of a
-/// definition. The linked trees stand in one slice, which calls of trees that invoke sites read.
+/// The points that are valid, and the trees of each site, after a list of controls was applied to a
+/// definition. The linked trees are in one slice, which calls read if trees invoke sites.
 ///
 /// A contract sees a world as its tables. They are the replay of the controls absorbed so far, and,
-/// as the law `worlds_look_back` says, what looking back through these controls finds.
+/// as the law `worlds_look_back` says, agree with looking back through these controls.
 #[derive(Debug, Drop)]
 pub struct World {
     valid: Vec<bool>,
     sites: Vec<SiteWorld>,
     linked: Vec<Prepared>,
     front: u64,
-    // The changes of an installation while `try_absorb` takes them in, and else empty: room for one
-    // of each site from the opening on.
+    // The changes of an installation while `try_absorb` applies them, and empty otherwise. `open`
+    // reserves room for one change of each site.
     incoming: VecDeque<Relinking>,
 }
 
@@ -79,9 +79,9 @@ impl Model for World {
 }
 
 impl World {
-    /// The world of a definition before any control: all points are valid, and each site runs its
-    /// target, whose code is made here, and shared where trees have the same parts. Fails only if
-    /// an allocation or a reference count is refused.
+    /// Returns the world of a definition before any control: all points are valid, and each site
+    /// runs its target. It prepares the code of the targets; trees with the same parts share it.
+    /// Fails only if an allocation or a reference count is refused.
     pub fn open(alloc: Global, definition: &Definition) -> Result<World, NoMemory>
         ensures value { IfOk result (λ w. w ≡ opened definition.now) }
         ensures replays { IfOk result (λ w. w ≡ replay (opened definition.now) []) }
@@ -89,9 +89,9 @@ impl World {
         open_over(alloc, definition, &[])
     }
 
-    /// The world of another definition before any control, as `open` makes it. Where the target of a
-    /// site is the base tree that the site of its number has here, its code is that of here. Fails
-    /// only if an allocation or a reference count is refused.
+    /// Returns the world of another definition before any control, as `open` does. If the target of
+    /// a site is the base tree that the site of that number has in this world, the new world takes
+    /// over its code. Fails only if an allocation or a reference count is refused.
     pub fn reopen(&self, definition: &Definition) -> Result<World, NoMemory>
         ensures value { IfOk result (λ w. w ≡ opened definition.now) }
         ensures replays { IfOk result (λ w. w ≡ replay (opened definition.now) []) }
@@ -99,9 +99,9 @@ impl World {
         open_over(*self.linked.allocator(), definition, &self.sites)
     }
 
-    /// A world like this one, over the same trees and their code: what this world absorbs later does
-    /// not change it. O(points + sites), with no tree copied. Fails only if an allocation or a
-    /// reference count is refused.
+    /// Returns a world like this one, over the same trees and their code: controls that this world
+    /// absorbs later do not change it. O(points + sites); no tree is copied. Fails only if an
+    /// allocation or a reference count is refused.
     pub fn share(&self) -> Result<World, NoMemory>
         ensures value { IfOk result (λ w. w ≡ self.now) }
     {
@@ -119,14 +119,14 @@ impl World {
         })
     }
 
-    /// Which points are valid, by number.
+    /// Returns for each point, by number, whether it is valid.
     pub fn valid(&self) -> &[bool]
         ensures value { result.now ≡ self.now.valid }
     {
         self.valid.as_slice()
     }
 
-    /// The tree of a site, of which its linked tree is a faster form.
+    /// Returns the base tree of a site, of which its linked tree is a faster form.
     pub fn base(&self, site: usize) -> &Declared
         requires inside { site < length self.now.sites }
         ensures value { result.now ≡ (state_at self.now site).base }
@@ -134,7 +134,7 @@ impl World {
         self.sites[site].base.declared()
     }
 
-    /// The tree of a site, with its code.
+    /// Returns the base tree of a site, with its code.
     pub fn prepared_base(&self, site: usize) -> &Prepared
         requires inside { site < length self.now.sites }
         ensures value { result.now ≡ (state_at self.now site).base }
@@ -143,7 +143,7 @@ impl World {
         self.sites[site].base.prepared()
     }
 
-    /// The tree that a call of the site runs.
+    /// Returns the tree that a call of the site runs.
     pub fn linked(&self, site: usize) -> &Handle
         requires inside { site < length self.now.sites }
         ensures value { result.now ≡ (state_at self.now site).linked }
@@ -151,7 +151,7 @@ impl World {
         self.linked[site].handle()
     }
 
-    /// The tree that a call of the site runs, with its code.
+    /// Returns the tree that a call of the site runs, with its code.
     pub fn prepared(&self, site: usize) -> &Prepared
         requires inside { site < length self.now.sites }
         ensures value { result.now ≡ (state_at self.now site).linked }
@@ -159,7 +159,7 @@ impl World {
         &self.linked[site]
     }
 
-    /// The trees that calls of the sites run, with their code, by number.
+    /// Returns the trees that calls of the sites run, with their code, by number of the site.
     pub fn prepared_all(&self) -> &[Prepared]
         ensures value { result.now ≡ linkeds self.now }
         ensures typed { AreTyped self.now.sites }
@@ -167,7 +167,7 @@ impl World {
         self.linked.as_slice()
     }
 
-    /// The links that the linked tree holds, by number.
+    /// Returns the links that the linked tree of a site holds, by number.
     pub fn kept(&self, site: usize) -> &[usize]
         requires inside { site < length self.now.sites }
         ensures value { result.now ≡ (state_at self.now site).kept }
@@ -175,7 +175,7 @@ impl World {
         self.sites[site].kept.as_slice()
     }
 
-    /// How often a site was retargeted.
+    /// Returns the number of times that a site was retargeted.
     pub fn version(&self, site: usize) -> u64
         requires inside { site < length self.now.sites }
         ensures value { result ≡ (state_at self.now site).version }
@@ -183,14 +183,14 @@ impl World {
         self.sites[site].version
     }
 
-    /// The number of controls absorbed.
+    /// Returns the number of controls absorbed.
     pub fn front(&self) -> u64
         ensures value { result ≡ self.now.front }
     {
         self.front
     }
 
-    /// Takes a control in. It moves what the control carries, takes no memory, and is not refused.
+    /// Applies a control. It moves the trees of the control, does not allocate, and never fails.
     pub fn absorb(&mut self, control: Control)
         requires room { self.old.front + 1 < 2 ^ 64 }
         ensures step { self.new ≡ after self.old control }
@@ -209,12 +209,12 @@ impl World {
         }
     }
 
-    /// Takes a control in, on trees of which it makes another owner first: what `absorb` does, of a
-    /// control that goes on to another world. It allocates nothing, unless an installation has more
+    /// Applies a control as `absorb` does, but with other owners of its trees, so that the control
+    /// can be applied to other worlds, too. It allocates nothing, unless an installation has more
     /// changes than there are sites: `open` has reserved room for one change of each.
     ///
     /// Fails only if a reference count or that allocation is refused, or if 2^64 - 1 controls were
-    /// absorbed, and then nothing changes. An invalidation fails for the last reason alone.
+    /// absorbed; then nothing changes. An invalidation fails only for the last reason.
     pub fn try_absorb(&mut self, control: &Control) -> Result<(), NoMemory>
         ensures step { OnOk result (self.new ≡ after self.old control.now) }
         ensures replays { OnOk result ((w : WorldState) → (controls : List Control)
@@ -241,7 +241,8 @@ impl World {
     }
 }
 
-// The world of a definition before any control, with the code that sites of these numbers had.
+// Returns the world of a definition before any control, with the code that sites of these numbers
+// had.
 fn open_over(
     alloc: Global,
     definition: &Definition,
@@ -262,7 +263,7 @@ fn open_over(
     })
 }
 
-// Each site before any control, and its linked tree.
+// Returns each site before any control, and its linked tree.
 fn open_sites(
     alloc: Global,
     sites: &[Site],
@@ -283,8 +284,8 @@ fn open_sites(
     Ok((opened, linked))
 }
 
-// A site before any control, and its linked tree. Sites share the code of trees that are the same,
-// and take over what the site had earlier.
+// Returns a site before any control, and its linked tree. Sites share the code of equal trees, and
+// take over the code that the site had earlier.
 fn open_site(
     cache: &mut CodeCache,
     site: &Site,
@@ -309,14 +310,14 @@ fn open_site(
     Ok((opened, linked))
 }
 
-// Which points are valid, once more.
+// Returns a copy of the validity of the points.
 fn copy_valid(alloc: Global, valid: &[bool]) -> Result<Vec<bool>, NoMemory>
     ensures value { IfOk result (λ v. v.items ≡ valid.now) }
 {
     Vec::from_slice(alloc, valid).map_err(|_| NoMemory)
 }
 
-// Other owners of the base trees of sites.
+// Returns other owners of the base trees of sites.
 fn share_sites(alloc: Global, sites: &[SiteWorld]) -> Result<Vec<SiteWorld>, NoMemory>
     ensures value { IfOk result (λ v. map plain_site v.items ≡ map plain_site sites.now) }
 {
@@ -327,7 +328,7 @@ fn share_sites(alloc: Global, sites: &[SiteWorld]) -> Result<Vec<SiteWorld>, NoM
     Ok(shared)
 }
 
-// Other owners of linked trees.
+// Returns other owners of linked trees.
 fn share_trees(alloc: Global, trees: &[Prepared]) -> Result<Vec<Prepared>, NoMemory>
     ensures value { IfOk result (λ v. v.items ≡ trees.now) }
 {
@@ -338,7 +339,7 @@ fn share_trees(alloc: Global, trees: &[Prepared]) -> Result<Vec<Prepared>, NoMem
     Ok(shared)
 }
 
-// Another base and linked tree of a site.
+// Replaces the base tree and the linked tree of a site.
 fn retarget(sites: &mut Vec<SiteWorld>, linked: &mut Vec<Prepared>, retargeting: Retargeting)
     requires room { All (λ x. x.version + 1 < 2 ^ 64) sites.old.items }
     requires many { length linked.old.items ≡ length sites.old.items }
@@ -363,7 +364,7 @@ fn retarget(sites: &mut Vec<SiteWorld>, linked: &mut Vec<Prepared>, retargeting:
     }
 }
 
-// Other linked trees of sites, in order.
+// Replaces the linked trees of sites, in order.
 fn relink_all(sites: &mut Vec<SiteWorld>, linked: &mut Vec<Prepared>, installation: Installation)
     requires many { length linked.old.items ≡ length sites.old.items }
     ensures value { site_states sites.new.items linked.new.items ≡ fold relink_site
@@ -377,7 +378,8 @@ fn relink_all(sites: &mut Vec<SiteWorld>, linked: &mut Vec<Prepared>, installati
     }
 }
 
-// Puts the changes on trees with another owner into a list, in order, in place of what it had.
+// Fills a list with the changes, in order, with other owners of their trees, in place of its
+// earlier content.
 fn share_all(incoming: &mut VecDeque<Relinking>, changes: &[Relinking]) -> Result<(), NoMemory>
     ensures value { OnOk result (incoming.new.items ≡ changes.now) }
 {
@@ -388,7 +390,7 @@ fn share_all(incoming: &mut VecDeque<Relinking>, changes: &[Relinking]) -> Resul
     Ok(())
 }
 
-// Other linked trees of sites, in order, out of the list.
+// Replaces the linked trees of sites, in order, by those that it takes out of the list.
 fn relink_each(
     sites: &mut Vec<SiteWorld>,
     linked: &mut Vec<Prepared>,
@@ -405,7 +407,7 @@ fn relink_each(
     }
 }
 
-// Another linked tree of a site, over the same base.
+// Replaces the linked tree of a site, over the same base.
 fn relink(sites: &mut Vec<SiteWorld>, linked: &mut Vec<Prepared>, change: Relinking)
     requires many { length linked.old.items ≡ length sites.old.items }
     ensures value { site_states sites.new.items linked.new.items ≡ relink_site
@@ -425,7 +427,7 @@ fn relink(sites: &mut Vec<SiteWorld>, linked: &mut Vec<Prepared>, change: Relink
     }
 }
 
-// These points are no longer valid.
+// Makes these points invalid.
 fn clear(valid: &mut Vec<bool>, points: &Listing<u32>)
     ensures value { valid.new.items ≡ fold clear_point valid.old.items points.now }
 {

@@ -1,4 +1,4 @@
--- What of a script the workers make, and what the main thread.
+-- The division of a script between the workers and the main thread.
 use Rattle.std.specs.Prelude.{List, [], ◌∷◌}
 use Rattle.std.specs.List.{flat_map}
 use Rattle.mh_core.specs.declared.event.Event.TheVariants as event
@@ -11,7 +11,7 @@ abbrev pub calls_of : Step → List Call
 calls_of (Ask (event.Call w s a)) = record { worker = w; site = s; arguments = a } ∷ []
 calls_of _ = []
 
--- any other event but a flush
+-- any other event except a flush
 abbrev pub changes_of : Step → List Step
 changes_of (Ask (event.Call w s a)) = []
 changes_of (Ask (event.Flush w)) = []

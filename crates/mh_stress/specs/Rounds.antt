@@ -1,4 +1,4 @@
--- What workers do.
+-- The work of workers.
 use Rattle.std.specs.Prelude.{ℕ, ◌≡◌, ◌≤◌, ◌<◌, ◌+◌, ◌*◌, ◌==◌, ◌&&◌, Bool, true, false, List, length, slice_index_or}
 use Rattle.std.specs.List.{count_by}
 use Rattle.mh_ledger.specs.Ledgers.{made, no_ledger}
@@ -16,7 +16,7 @@ pub record AreFresh (d : DefinitionData) (passes : List PassState) : Type 0 wher
 abbrev pub hits_by : DefinitionData → ℕ → ℕ → Call → Bool
 hits_by d w j c = (c.worker == w) && hits d c.site c.arguments j
 
--- how many of these calls do
+-- how many of these calls do so
 abbrev pub times_hit : DefinitionData → List Call → ℕ → ℕ → ℕ
 times_hit d calls w j = count_by (hits_by d w j) calls
 
@@ -31,7 +31,7 @@ pub record HasCalled (d : DefinitionData) (calls : List Call) (old new : PassSta
   pub worker : new.ledger.worker ≡ old.ledger.worker
   pub hit : (j : ℕ) → made new.ledger j ≤ made old.ledger j + times_hit d calls old.ledger.worker j
 
--- the same after so many rounds
+-- the same after a number of rounds
 pub record HasWorked (d : DefinitionData) (calls : List Call) (rounds : ℕ) (old new : PassState) : Type 0 where
   pub worker : new.ledger.worker ≡ old.ledger.worker
   pub hit : (j : ℕ) → made new.ledger j ≤ made old.ledger j + rounds * times_hit d calls old.ledger.worker j
@@ -39,7 +39,7 @@ pub record HasWorked (d : DefinitionData) (calls : List Call) (rounds : ℕ) (ol
 abbrev pub pass_at : List PassState → ℕ → PassState
 pass_at passes w = slice_index_or passes w (new_pass no_ledger)
 
--- all workers have
+-- all workers have done so
 pub record HaveWorked (d : DefinitionData) (calls : List Call) (rounds : ℕ) (old new : List PassState) : Type 0 where
   pub count : length new ≡ length old
   pub each : (w : ℕ) → w < length old → HasWorked d calls rounds (pass_at old w) (pass_at new w)

@@ -1,4 +1,4 @@
--- What a stress of a script writes.
+-- The output of a stress of a script.
 use Rattle.std.specs.Prelude.{ℕ, ◌≡◌, ◌⊎◌, ◌+◌, ◌*◌, ◌<◌, ◌≤◌, ◌^◌, Bool, List, [], ◌∷◌, ◌++◌, Option, Some, None, Result, Ok, codes, cond, length, max, min, IfSome}
 use Rattle.std.specs.Fmt.{decimal}
 use Rattle.std.specs.Io.KnownBytes.{Keeps}
@@ -30,31 +30,31 @@ use Rattle.mh_stress.specs.declared.division.Call.{Call}
 use Rattle.mh_stress.specs.declared.stress.StressOptions.{StressOptions}
 use Rattle.mh_stress.specs.declared.sums.Sums.{Sums}
 
--- the most rounds of each worker
+-- the greatest number of rounds of each worker
 abbrev pub most_rounds : ℕ
 most_rounds = 1000000
 
--- the most hits of a link that no worker flushed
+-- the greatest number of hits of a link that no worker flushed
 abbrev pub most_unflushed : ℕ
 most_unflushed = 2 ^ 90
 
--- what an office is not opened for, as a cause of a fault
+-- the reason why an office was not opened, as a cause of a fault
 abbrev pub cause_of : OpenFault → TextFault
 cause_of opening.NoMemory = no_memory
 cause_of opening.NoReader = NoReader
 
--- from 1 to 64 workers, where they are said, and from 1 to 1,000,000 rounds
+-- from 1 to 64 workers, if they are given, and from 1 to 1,000,000 rounds
 pub record AreLawful (options : StressOptions) : Type 0 where
   pub workers : IfSome options.workers (λ n. (0 < n) × (n ≤ most_workers))
   pub some : 0 < options.rounds
   pub few : options.rounds ≤ most_rounds
 
--- those that are said, or the script's, which has from 1 to 64
+-- the given number, or the script's, which is from 1 to 64
 abbrev pub workers_of : Option ℕ → ℕ → ℕ
 workers_of (Some n) own = n
 workers_of None own = max 1 (min own most_workers)
 
--- what was flushed and what was not, over the first links
+-- the flushed and the unflushed hits, over the first n links
 abbrev pub sums_over : ℕ → (ℕ → ℕ) → (ℕ → ℕ) → Sums
 sums_over n total unflushed =
     let flushed = sum_by total (range_with_len 0 n) in
@@ -65,7 +65,7 @@ sums_over n total unflushed =
 abbrev pub hits_of_round : DefinitionData → List Call → ℕ → ℕ → ℕ
 hits_of_round d calls workers j = sum_by (λ w. times_hit d calls w j) (range_with_len 0 workers)
 
--- what is left when all workers are done: the records, and for each link the hits that no worker flushed
+-- the result when all workers are done: the records, and for each link the hits that no worker flushed
 pub record Settlement : Type 0 where
   pub records : List Record
   pub unflushed : List ℕ
@@ -83,7 +83,7 @@ settled_text sums = codes "settled made " ++ (decimal sums.made ++ (codes " tota
 abbrev pub settled_line : Sums → List ℕ
 settled_line sums = settled_text sums ++ 10 ∷ []
 
--- a line for each point, site and link, where that is asked for
+-- a line for each point, site and link, if these are asked for
 abbrev pub report_where : Bool → DefinitionData → List Record → List ℕ → List ℕ
 report_where report d records unflushed = cond report (tables_text d records unflushed) []
 
@@ -98,16 +98,16 @@ pub record IsSettledText (report : Bool) (d : DefinitionData) (l : LimitsData) (
   pub is : IsSettlement d l calls workers rounds settlement
   pub text_is : text ≡ settlement_text report d settlement
 
--- the same of a script
+-- the same for a script
 abbrev pub IsSettledTextOf : StressOptions → Script → List ℕ → Type 0
 IsSettledTextOf options script =
     IsSettledText options.report script.definition script.limits (calls_in script.steps) (workers_of options.workers script.workers) options.rounds
 
--- the same of the script of a source that has a JSON value or a fault
+-- the same for the script of a source that has a JSON value or a fault
 abbrev pub IsStressedBy : {A : Type 0} → (A → Result Data Fault) → StressOptions → A → List ℕ → Type 0
 IsStressedBy json options source text = (script : Script) × (script_by json source ≡ Ok script) × IsSettledTextOf options script text
 
--- the same of the script of an input
+-- the same for the script of an input
 abbrev pub IsStressed : StressOptions → List ℕ → List ℕ → Type 0
 IsStressed = IsStressedBy json_of_input
 
@@ -119,12 +119,12 @@ IsScriptBy json source = (script : Script) × (script_by json source ≡ Ok scri
 abbrev pub IsScript : List ℕ → Type 0
 IsScript = IsScriptBy json_of_input
 
--- Where a fault leaves the writer: as it was, or with a beginning of the line.
+-- The state in which a fault leaves the writer: unchanged, or with a prefix of the line.
 abbrev pub FailsStressBy : {A : Type 0} → (A → Result Data Fault) → StressOptions → Option A → Option (List ℕ) → Option (List ℕ) → Type 0 → Type 0 → Fault → Type 0
 FailsStressBy json options source old new ReadHasFailed WriteHasFailed e =
     (Keeps old new × (IsUnread (EndsReadingBy json) source ReadHasFailed e ⊎ (e ≡ outside NoReader)))
     ⊎ ((text : List ℕ) × IfSome source (λ it. IsStressedBy json options it text) × IsCutShort old new WriteHasFailed e text)
 
--- where a fault leaves the writer of a stress of an input
+-- the state in which a fault leaves the writer of a stress of an input
 abbrev pub FailsStress : StressOptions → Option (List ℕ) → Option (List ℕ) → Option (List ℕ) → Type 0 → Type 0 → Fault → Type 0
 FailsStress = FailsStressBy json_of_input

@@ -1,4 +1,4 @@
-//! What the main thread does meanwhile.
+//! The changes that the main thread makes while workers call.
 ghost use Rattle.std.specs.Prelude.{◌<◌, ◌≤◌};
 ghost use Rattle.mh_base.specs.Limits.{most_workers};
 
@@ -10,7 +10,7 @@ use std::alloc::Global;
 use std::sync::Wait;
 use std::thread::Threads;
 
-/// Makes the changes, one after another, each once. One that is refused is passed over.
+/// Makes the changes, one after another, each once. Refused changes are skipped.
 pub(crate) fn make_changes<N: ListName, T: Threads + Wait + Sync>(
     rt: &T,
     alloc: Global,
@@ -26,7 +26,7 @@ pub(crate) fn make_changes<N: ListName, T: Threads + Wait + Sync>(
     }
 }
 
-/// Makes one change. None where the step is a call or a flush, which workers make.
+/// Makes one change. Returns `None` if the step is a call or a flush, which workers make.
 fn make_change<N: ListName, T: Threads + Wait + Sync>(
     rt: &T,
     alloc: Global,
@@ -59,7 +59,7 @@ fn publish<N: ListName, T: Threads + Wait + Sync>(
     live.publish(rt, snapshot, plan)
 }
 
-/// What the office answers to an event.
+/// Asks the office to apply an event, and returns its reply.
 fn ask<N: ListName, R: Wait>(
     rt: &R,
     live: &Live<N>,

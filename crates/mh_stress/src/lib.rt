@@ -1,5 +1,5 @@
-//! Scripts on running threads: each worker makes its calls, again and again, beside the changes of
-//! the world.
+//! Scripts on running threads: each worker makes its calls, again and again, concurrently with the
+//! changes of the world.
 //!
 //! ```
 //! let options = StressOptions { workers: Some(4), rounds: 1000, report: false };

@@ -1,4 +1,4 @@
-//! What one worker does.
+//! The rounds of one worker.
 ghost use Rattle.std.specs.Prelude.{◌≡◌};
 ghost use Rattle.mh_stress.specs.Rounds.{HasCalled, HasWorked, MakesCall};
 
@@ -7,7 +7,7 @@ use crate::stage::ShowRounds;
 use mh_live::{ListName, Live, Pass};
 use std::sync::Wait;
 
-/// Makes a call, where it names the pass's worker. One that is refused is passed over.
+/// Makes a call, if it is one of the pass's worker. A refused call is skipped.
 fn make_call<N: ListName>(pass: &mut Pass<N>, call: &Call)
     ensures made { MakesCall N.definition call.now pass.old pass.new }
 {
@@ -16,7 +16,7 @@ fn make_call<N: ListName>(pass: &mut Pass<N>, call: &Call)
     }
 }
 
-/// Makes its worker's calls among these, in their order.
+/// Makes those of these calls that are its worker's, in their order.
 fn make_calls<N: ListName>(pass: &mut Pass<N>, calls: &[Call])
     ensures called { HasCalled N.definition calls.now pass.old pass.new }
 {
@@ -25,15 +25,15 @@ fn make_calls<N: ListName>(pass: &mut Pass<N>, calls: &[Call])
     }
 }
 
-/// Shows how many rounds are made, where they are those of the first worker.
+/// Shows how many rounds are made, if they are those of the first worker.
 fn show_round<S: ShowRounds>(shows: &S, worker: usize, done: u32, rounds: u32) {
     if worker == 0 {
         shows.show(done, rounds);
     }
 }
 
-/// Makes a worker's calls and flushes, so many times; the rounds of the first worker are shown. A
-/// flush that is refused is passed over.
+/// Makes a worker's calls and flushes, `rounds` times; the rounds of the first worker are shown. A
+/// refused flush is skipped.
 pub(crate) fn make_rounds<N: ListName, R: Wait, S: ShowRounds>(
     rt: &R,
     shows: &S,

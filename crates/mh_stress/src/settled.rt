@@ -1,4 +1,4 @@
-//! What is written when all workers are done.
+//! The lines that are written when all workers are done.
 ghost use Rattle.std.specs.Prelude.{◌≡◌, ◌<◌, ◌≤◌, ◌++◌, ℕ, string_bytes, length, IfOk, OnOk};
 ghost use Rattle.std.specs.List.{All};
 ghost use Rattle.mh_ledger.specs.Ledgers.{at};
@@ -12,7 +12,7 @@ use mh_live::{ListName, Settled};
 use mh_text::push_tables;
 use std::alloc::{AllocError, Global};
 
-/// The hits of each link that no worker flushed.
+/// Returns for each link the hits that no worker flushed.
 fn unflushed_hits<N: ListName>(alloc: Global, settled: &Settled<N>) -> Result<Vec<u128>, AllocError>
     ensures value { IfOk result (λ v. v.items ≡ settled.now.unflushed) }
     ensures few { IfOk result (λ v. All (λ n. n ≤ most_hits_of_all) v.items) }
@@ -25,7 +25,7 @@ fn unflushed_hits<N: ListName>(alloc: Global, settled: &Settled<N>) -> Result<Ve
     Ok(unflushed)
 }
 
-/// Appends a line for each point, site and link, where that is asked for.
+/// Appends a line for each point, site and link, if these are asked for.
 fn push_report<N: ListName>(
     lines: &mut String,
     alloc: Global,
@@ -42,7 +42,7 @@ fn push_report<N: ListName>(
     push_tables(lines, alloc, settled.book(), &unflushed)
 }
 
-/// The line of the sums, and a line for each point, site and link, where that is asked for.
+/// Returns the line of the sums, and a line for each point, site and link if these are asked for.
 pub(crate) fn settled_lines<N: ListName>(
     alloc: Global,
     report: bool,

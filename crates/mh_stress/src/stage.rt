@@ -1,15 +1,15 @@
-//! What a stress runs on.
+//! The environment of a stress.
 
-/// Shows how far a stress is.
+/// A display of the progress of a stress.
 pub trait ShowRounds {
-    /// A worker has made so many of its rounds, at most all of them.
+    /// Shows that a worker has made `done` of its `rounds` rounds.
     fn show(&self, done: u32, rounds: u32);
 
-    /// All rounds are made: what is shown goes.
+    /// Clears what is shown, since all rounds are made.
     fn clear(&self);
 }
 
-/// Shows nothing.
+/// A display that shows nothing.
 #[derive(Clone, Copy, Debug)]
 pub struct Silent;
 
@@ -19,17 +19,17 @@ impl ShowRounds for Silent {
     fn clear(&self) {}
 }
 
-/// What starts threads, and what shows how far a stress is.
+/// The threads of a stress, and the display of its progress.
 #[derive(Clone, Copy)]
 pub struct Stage<'a, T, S> {
-    /// What starts threads.
+    /// The runtime that starts threads.
     pub rt: &'a T,
-    /// What shows the rounds of the first worker.
+    /// The display of the rounds of the first worker.
     pub shows: S,
 }
 
 impl<'a, T> Stage<'a, T, Silent> {
-    /// A stage on which nothing is shown.
+    /// Returns a stage on which nothing is shown.
     pub fn silent(rt: &'a T) -> Stage<'a, T, Silent> {
         Stage { rt, shows: Silent }
     }

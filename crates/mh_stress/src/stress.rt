@@ -1,4 +1,4 @@
-//! A script in, the sums of its workers out.
+//! Stressing scripts: reads a script and writes the sums of its workers.
 ghost use Rattle.std.specs.Prelude.{◌≡◌, ◌≢◌, ◌⊎◌, ◌<◌, ◌≤◌, ◌+◌, ℕ, List, Ok, Some, string_bytes, length, IfOk, IfErr, IfSome, IsErrOf, OnOk};
 ghost use Rattle.std.specs.Io.KnownBytes.{Appends, IsAtEnd};
 ghost use Rattle.serde_json.specs.View.{view};
@@ -26,22 +26,22 @@ use std::marker::Brand;
 use std::sync::Wait;
 use std::thread::Threads;
 
-/// The most rounds of a stress.
+/// The greatest number of rounds of a stress.
 pub const MOST_ROUNDS: u32 = 1_000_000;
 
-/// How a script is stressed.
+/// Options of a stress.
 #[derive(Clone, Copy, Debug, PartialEq, Eq)]
 pub struct StressOptions {
-    /// How many workers call, from 1 to 64; as many as the script has, where it is not said.
+    /// The number of workers that call, 1 to 64; if `None`, as many as the script has.
     pub workers: Option<u32>,
-    /// How often each worker makes its calls, from 1 to 1,000,000.
+    /// The number of times that each worker makes its calls, 1 to 1,000,000.
     pub rounds: u32,
-    /// Whether a line for each point, site and link stands behind the sums (see `push_tables` of
+    /// If true, a line for each point, site and link follows the sums (see `push_tables` of
     /// mh_text).
     pub report: bool,
 }
 
-/// What an office is not opened for, as a fault outside the events.
+/// Returns the reason why an office was not opened, as a fault outside the events.
 fn fault_of(cause: OpenFault) -> Fault
     ensures value { result ≡ outside (cause_of cause) }
     ensures one { (result ≡ outside no_memory) ⊎ (result ≡ outside NoReader) }
@@ -52,7 +52,8 @@ fn fault_of(cause: OpenFault) -> Fault
     }
 }
 
-/// Runs the workers' rounds beside the changes, settles, and returns the lines of what has settled.
+/// Runs the workers' rounds concurrently with the changes, settles, and returns the lines of the
+/// result.
 fn settle_rounds<N: ListName + Send + Sync, T: Threads + Wait + Sync, S: ShowRounds + Sync>(
     stage: &Stage<'_, T, S>,
     alloc: Global,
@@ -84,13 +85,13 @@ fn settle_rounds<N: ListName + Send + Sync, T: Threads + Wait + Sync, S: ShowRou
     };
     match live.settle(stage.rt, alloc, passes) {
         Ok(settled) => Ok(settled_lines(alloc, options.report, &settled)?),
-        // All passes of the opening are there: what fails is an allocation.
+        // All passes of the opening are returned, so the failure is that of an allocation.
         Err(_) => Err(Fault::from(InputFault::NoMemory)),
     }
 }
 
-/// Opens the office, has the workers make their rounds beside the changes, settles, and gives the
-/// lines of that.
+/// Opens the office, has the workers make their rounds concurrently with the changes, settles, and
+/// returns the lines of the result.
 fn run_threads<N: ListName + Send + Sync, T: Threads + Wait + Sync, S: ShowRounds + Sync>(
     stage: &Stage<'_, T, S>,
     alloc: Global,
@@ -115,7 +116,7 @@ fn run_threads<N: ListName + Send + Sync, T: Threads + Wait + Sync, S: ShowRound
     }
 }
 
-/// How many workers are asked for, or that the script has.
+/// Returns the number of workers that is asked for, or that of the script.
 fn workers_for(options: StressOptions, own: u32) -> u32
     requires options { AreLawful options }
     ensures value { result ≡ workers_of options.workers own }
@@ -151,20 +152,21 @@ fn stress_script<T: Threads + Wait + Sync, S: ShowRounds + Sync>(
     run_threads::<Brand, T, S>(stage, alloc, opening, division, options)
 }
 
-/// Stresses the script that the reader gives, and writes the line of its sums over all links:
+/// Stresses the script that the reader contains, and writes the line of its sums over all links:
 /// `settled made 9 totals 9 unflushed 0`.
 ///
-/// Each worker, in a thread of its own where one can be started, makes the script's calls that name
-/// it, in their order, and flushes, and does so again, as many times as there are rounds. Meanwhile
-/// this thread makes the other events but flushes, once and in their order. A call, a flush or an
-/// event that is refused is passed over. The calls of a worker past the last are not made. Then all
-/// that was made is added up.
+/// Each worker, in a thread of its own if one can be started, makes the script's calls that name
+/// it, in their order, and flushes, and repeats this for each round. Meanwhile this thread makes
+/// the other events except flushes, once and in their order. A call, a flush or an event that is
+/// refused is skipped. The calls of workers that do not exist are not made. Finally the hits of all
+/// calls are added up.
 ///
 /// While the first worker makes its rounds, the stage shows how many are done.
 ///
-/// The input is read to its end, or to the first byte past 1,048,576. A fault in it, of memory or
-/// of readers of the published world (`NoReader`, which comes of a script alone) writes nothing.
-/// A failing write leaves a beginning of the line, and is reported at 0.
+/// The input is read to its end, or to the first byte beyond 1,048,576. If it has a fault, if
+/// memory runs out, or if no more readers of the published world can be made (`NoReader`, which can
+/// only follow from a script), nothing is written. If a write fails, a prefix of the line was
+/// written, and the failure is reported at 0.
 pub fn stress_bytes<T: Threads + Wait + Sync, S: ShowRounds + Sync, R: Read, W: Write>(
     stage: &Stage<'_, T, S>,
     alloc: Global,
@@ -195,7 +197,7 @@ pub fn stress_bytes<T: Threads + Wait + Sync, S: ShowRounds + Sync, R: Read, W: 
     write_lines(lines, writer)
 }
 
-/// Stresses the script that a JSON value is, and writes its lines, as `stress_bytes` does.
+/// Stresses the script in a JSON value, and writes its lines, as `stress_bytes` does.
 pub fn stress_value<T: Threads + Wait + Sync, S: ShowRounds + Sync, W: Write>(
     stage: &Stage<'_, T, S>,
     alloc: Global,

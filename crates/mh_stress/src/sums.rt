@@ -1,4 +1,4 @@
-//! What all workers made.
+//! Sums over all workers and links.
 ghost use Rattle.std.specs.Prelude.{◌≡◌, ◌<◌, ◌≤◌, ◌+◌, ℕ, string_bytes, length, IfOk};
 ghost use Rattle.std.specs.List.{sum_by, range_with_len};
 ghost use Rattle.mh_ledger.specs.Ledgers.{at};
@@ -17,7 +17,7 @@ pub struct Sums {
     pub unflushed: u128,
 }
 
-/// The sums over all links.
+/// Returns the sums over all links.
 pub(crate) fn sums_of<N: ListName>(settled: &Settled<N>) -> Sums
     requires small { (j : ℕ) → j < length (links N.definition)
         → at settled.now.unflushed j ≤ most_unflushed }
@@ -38,7 +38,7 @@ pub(crate) fn sums_of<N: ListName>(settled: &Settled<N>) -> Sums
     }
 }
 
-/// The text of the sums.
+/// Returns the text of the sums.
 fn text(alloc: Global, sums: Sums) -> Result<String, AllocError>
     ensures value { IfOk result (λ s. string_bytes s ≡ settled_text sums) }
 {
@@ -48,7 +48,7 @@ fn text(alloc: Global, sums: Sums) -> Result<String, AllocError>
     format!(in alloc; "settled made {made} totals {totals} unflushed {unflushed}")
 }
 
-/// The line of the sums.
+/// Returns the line of the sums.
 pub(crate) fn line(alloc: Global, sums: Sums) -> Result<String, AllocError>
     ensures value { IfOk result (λ s. string_bytes s ≡ settled_line sums) }
 {

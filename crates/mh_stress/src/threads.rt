@@ -1,4 +1,4 @@
-//! The workers in threads of their own, and the changes beside them.
+//! The workers in threads of their own, and the changes concurrent with them.
 ghost use Rattle.std.specs.Prelude.{◌<◌, ◌≤◌, IfOk, IfSome};
 ghost use Rattle.mh_base.specs.Limits.{most_workers};
 ghost use Rattle.mh_stress.specs.Rounds.{HasWorked, HaveWorked};
@@ -14,8 +14,8 @@ use std::sync::Wait;
 use std::thread;
 use std::thread::Threads;
 
-/// Has each worker make its rounds, in a thread of its own where one can be started, and gives the
-/// passes back in their order.
+/// Has each worker make its rounds, in a thread of its own if one can be started, and returns the
+/// passes in their order.
 fn work<N: ListName + Send + Sync, T: Threads + Wait + Sync, S: ShowRounds + Sync>(
     rt: &T,
     shows: &S,
@@ -35,8 +35,8 @@ fn work<N: ListName + Send + Sync, T: Threads + Wait + Sync, S: ShowRounds + Syn
     thread::map_vec(rt, passes, &share)
 }
 
-/// Runs the workers' rounds, and makes the changes meanwhile. Where no thread can be
-/// started, the rounds are made after the changes. None if an allocation is refused.
+/// Runs the workers' rounds, and makes the changes meanwhile. If no thread can be started, the
+/// rounds are made after the changes. Returns `None` if an allocation is refused.
 pub(crate) fn work_beside<
     N: ListName + Send + Sync,
     T: Threads + Wait + Sync,

@@ -1,4 +1,4 @@
--- What a check reads, what it finds, and what it writes.
+-- The input, the verdict and the output of a check.
 use Rattle.std.specs.Prelude.{ℕ, ◌≡◌, ◌⊎◌, List, [], ◌∷◌, ◌++◌, Option, Some, Result, Ok, Err, IfSome, codes}
 use Rattle.std.specs.Io.KnownBytes.{Keeps}
 use Rattle.mh_network.specs.Problems.{ProblemData}
@@ -21,11 +21,11 @@ use Rattle.mh_json.specs.declared.key.Field.TheVariants as field
 use Rattle.serde_json.specs.Data.{Data}
 use Rattle.mh_json.specs.Versions.{version_tests}
 
--- what is read as a problem's rows makes the problem, and what is read as a plan is the plan
+-- the rows that are read make the problem, and the plan is the one that is read
 abbrev pub Holds : Result ProblemRows Fault → Result Plan Fault → ProblemData → Plan → Type 0
 Holds problem read p plan = (rows : ProblemRows) × (problem ≡ Ok rows) × IsMade rows p × (read ≡ Ok plan)
 
--- the first fault of both: the rows are not read, or make no problem, or else the plan is not read
+-- the first fault of both: the rows cannot be read, or do not make a problem, or otherwise the plan cannot be read
 abbrev pub IsFirstOf : Result ProblemRows Fault → Result Plan Fault → Fault → Type 0
 IsFirstOf problem read e =
     (problem ≡ Err e)
@@ -47,35 +47,35 @@ IsClaimFaultBy json source e = IsFirstOf (rows_by json (Some (codes "problem")) 
 abbrev pub IsClaimFault : List ℕ → Fault → Type 0
 IsClaimFault = IsClaimFaultBy json_of_input
 
--- A plan is accepted where it matches its problem, and its links are then best; else the verdict names its first part that is wrong.
+-- A plan is accepted if it matches its problem, and its links are then best; otherwise the verdict names its first part that is wrong.
 abbrev pub IsFound : ProblemData → Plan → Verdict → Type 0
 IsFound p plan Accepted = Matches p plan × IsBest p (member plan.links)
 IsFound p plan (Refused cause) = Refuses (plan_tests p plan) cause × (Matches p plan → ⊥)
 
--- what a check of a source finds
+-- the verdict of a check of a source
 abbrev pub IsVerdictBy : {A : Type 0} → (A → Result Data Fault) → A → Verdict → Type 0
 IsVerdictBy json source verdict = (p : ProblemData) × (plan : Plan) × IsClaimBy json source p plan × IsFound p plan verdict
 
--- what a check of an input finds
+-- the verdict of a check of an input
 abbrev pub IsVerdict : List ℕ → Verdict → Type 0
 IsVerdict = IsVerdictBy json_of_input
 
--- what is found, and the byte 0x0A
+-- the text of the verdict, and the byte 0x0A
 abbrev pub verdict_line : Verdict → List ℕ
 verdict_line Accepted = codes "accepted" ++ 10 ∷ []
 verdict_line (Refused cause) = codes "refused " ++ check_fault_text cause ++ 10 ∷ []
 
--- a write failed after a beginning of the line of a verdict
+-- a write failed after a prefix of the line of a verdict
 abbrev pub IsCutOff : Option (List ℕ) → Option (List ℕ) → Type 0 → Fault → Verdict → Type 0
 IsCutOff old new WriteHasFailed e verdict =
     (e ≡ outside WriteFailed) × WriteHasFailed × AppendsFront old new (verdict_line verdict)
 
--- Where a fault leaves the writer: as it was, or with a beginning of the line.
+-- The state in which a fault leaves the writer: unchanged, or with a prefix of the line.
 abbrev pub FailsCheckBy : {A : Type 0} → (A → Result Data Fault) → Option A → Option (List ℕ) → Option (List ℕ) → Type 0 → Type 0 → Fault → Type 0
 FailsCheckBy json source old new ReadHasFailed WriteHasFailed e =
     (Keeps old new × IsUnread (IsClaimFaultBy json) source ReadHasFailed e)
     ⊎ ((verdict : Verdict) × IfSome source (λ it. IsVerdictBy json it verdict) × IsCutOff old new WriteHasFailed e verdict)
 
--- where a fault leaves the writer of a check of an input
+-- the state in which a fault leaves the writer of a check of an input
 abbrev pub FailsCheck : Option (List ℕ) → Option (List ℕ) → Option (List ℕ) → Type 0 → Type 0 → Fault → Type 0
 FailsCheck = FailsCheckBy json_of_input

@@ -14,18 +14,18 @@ use Rattle.mh_type.specs.Display.{outcome_text}
 use Rattle.mh_core.specs.Display.{report_text}
 use Rattle.mh_text.specs.Steps.{Told}
 
--- the names of points with commas between them, and a dash where there is none
+-- the names of points with commas between them, or a dash if there are none
 abbrev pub names_text : DefinitionData → List ℕ → List ℕ
 names_text d [] = codes "-"
 names_text d (p ∷ ps) = (point_at d p).name ++ flat_map (λ q. codes "," ++ (point_at d q).name) ps
 
--- a plan of this number, for this snapshot: links by number, points by name, and the sum of the amounts of its flow and charges
+-- a plan with this number, for this snapshot: links by number, points by name, and the sum of the amounts of its flow and charges
 abbrev pub published_text : DefinitionData → ℕ → ℕ → Plan → List ℕ
 published_text d n m plan =
     codes "plan " ++ (decimal m ++ (codes " snapshot " ++ (decimal n ++ (codes " links " ++ (numbers_text plan.links
     ++ (codes " points " ++ (names_text d plan.points ++ (codes " value " ++ (signed_decimal plan.value ++ (codes " flow " ++ decimal (value_of plan.flow plan.charges)))))))))))
 
--- the installation of the plan of this number: how many sites were linked, how many skipped, and what was left out
+-- the installation of the plan with this number: the numbers of linked and of skipped sites, and the links that were left out
 abbrev pub installed_text : ℕ → InstallReport → List ℕ
 installed_text m report = codes "install " ++ (decimal m ++ (codes " " ++ report_text report))
 

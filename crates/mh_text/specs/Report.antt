@@ -1,4 +1,4 @@
--- The text of a report: what stands at each point, site and link, a line each.
+-- The text of a report: the state of each point, site and link, with a line for each.
 use Rattle.std.specs.Prelude.{ℕ, ◌+◌, ◌^◌, ◌==◌, Bool, true, false, List, [], ◌∷◌, ◌++◌, codes, filter, length, map, slice_index_or, if◌then◌else◌}
 use Rattle.std.specs.Fmt.{decimal}
 use Rattle.std.specs.List.{flat_map}
@@ -15,7 +15,7 @@ use Rattle.mh_core.specs.Legal.{MachineState}
 use Rattle.mh_core.specs.Records.{numbers, is_valid, plans, snapshots, total, version}
 use Rattle.mh_core.specs.State.{calls, gain, unflushed_of_all}
 
--- the most hits of a link that workers hold and have not flushed
+-- the greatest number of hits of a link that workers hold and have not flushed
 abbrev pub most_unflushed : ℕ
 most_unflushed = 2 ^ 126
 
@@ -31,7 +31,7 @@ abbrev pub yes_text : Bool → List ℕ
 yes_text true = codes "yes"
 yes_text false = codes "no"
 
--- what a plan pays for a link beside its points, where it pays
+-- the charge of a link, which is omitted if it is 0
 abbrev pub charge_text : ℕ → List ℕ
 charge_text n = if n == 0 then [] else codes " charge " ++ decimal n
 
@@ -45,13 +45,13 @@ point_text d r p =
     codes "point " ++ ((point_at d p).name ++ (codes " cost " ++ (decimal (point_at d p).cost ++ (codes " "
     ++ (validity_text (is_valid r p) ++ (codes " links " ++ numbers_text (links_needing d p)))))))
 
--- a site: how often it was retargeted, and how many links it holds: `site f type (int)int retargeted 0 installed 1`
+-- a site: the number of its retargetings, and of the links that it holds: `site f type (int)int retargeted 0 installed 1`
 abbrev pub site_text : DefinitionData → List Record → ℕ → List ℕ
 site_text d r s =
     codes "site " ++ ((site_at d s).name ++ (codes " type " ++ (written (site_at d s).method_type ++ (codes " retargeted "
     ++ (decimal (version r s) ++ (codes " installed " ++ decimal (length (kept d r s))))))))
 
--- what is declared of a link: `link 0 site f when int 1 weight 3`
+-- the declared parts of a link: `link 0 site f when int 1 weight 3`
 abbrev pub declared_text : DefinitionData → ℕ → List ℕ
 declared_text d j =
     codes "link " ++ (decimal j ++ (codes " site " ++ ((site_at d (site_of d j)).name
@@ -64,18 +64,18 @@ link_text d r unflushed j =
     ++ (codes " unflushed " ++ (decimal unflushed ++ (codes " gain " ++ (decimal (gain d r j)
     ++ (codes " installed " ++ (yes_text (member (kept d r (site_of d j)) j) ++ charge_text (link_at d j).1.charge))))))))))
 
--- the points, the sites and the links after these records, each by number, where the workers have not flushed so many hits of each link
+-- the points, the sites and the links after these records, each by number, given the number of unflushed hits of each link
 abbrev pub tables_text : DefinitionData → List Record → List ℕ → List ℕ
 tables_text d r unflushed =
     flat_map (λ p. ended (point_text d r p)) (numbers (length d.points))
     ++ (flat_map (λ s. ended (site_text d r s)) (numbers (length d.sites))
     ++ flat_map (λ j. ended (link_text d r (slice_index_or unflushed j 0) j)) (numbers (length (links d))))
 
--- the hits of each link that the workers of a machine have not flushed
+-- for each link, the hits that the workers of a machine have not flushed
 abbrev pub unflushed_in : MachineState → List ℕ
 unflushed_in m = map (unflushed_of_all m.setting.definition m.history m.setting.workers) (numbers (length (links m.setting.definition)))
 
--- what a machine has accepted: `report calls 4 events 9 snapshots 1 plans 1`
+-- the numbers of what a machine has accepted: `report calls 4 events 9 snapshots 1 plans 1`
 abbrev pub head_text : MachineState → List ℕ
 head_text m =
     let r = records m.setting.definition m.history in

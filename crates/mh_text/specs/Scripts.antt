@@ -1,4 +1,4 @@
--- The headline for a run of a script: of its events and of the plans that it asks for.
+-- The headline for a run of a script: for its events and for the plans that it asks for.
 use Rattle.std.specs.Prelude.{◌≡◌, ℕ, List, [], ◌∷◌, ◌++◌, length, map}
 use Rattle.mh_network.specs.Selection.{IsLeast, member}
 use Rattle.mh_cert.specs.declared.plan.Plan.{Plan}
@@ -13,7 +13,7 @@ use Rattle.mh_json.specs.declared.json.step.Step.{Step}
 use Rattle.mh_json.specs.declared.json.step.Step.TheVariants.{Ask, Plan as ask_plan}
 use Rattle.mh_text.specs.Steps.{Told, Run}
 
--- the event that a step is: of a plan that is asked for, the publication of some plan
+-- the event of a step; if the step asks for a plan, the publication of some plan
 abbrev pub IsEventOf : Step → Event → Type 0
 IsEventOf (Ask event) e = e ≡ event
 IsEventOf (ask_plan n) e = (plan : Plan) × (e ≡ Publish n plan)
@@ -33,7 +33,7 @@ EachAskIsLeast x start steps replies =
     → told.1 ≡ Published number plan
     → (before : List Event) × Run x start earlier answered before × IsLeast (problem_at x.definition (records x.definition before) n) (member plan.links)
 
--- the headline holds of the events of the steps and of their replies, and plans that were asked for are least
+-- the headline holds for the events of the steps and for their replies, and plans that were asked for are least
 pub record IsScriptHeadline (x : Setting) (start : List Event) (steps : List Step) (replies : List Told) (h : List Event) : Type 0 where
   pub events : List Event
   pub asked : AreEventsOf steps events

@@ -16,12 +16,12 @@ use Rattle.mh_json.specs.declared.json.step.Step.{Step}
 use Rattle.mh_json.specs.declared.json.step.Step.TheVariants.{Ask, Plan as ask_plan}
 use Rattle.mh_json.specs.StepNumbers.{number_named}
 
--- a reply, behind the number that its step names
+-- a reply, with the number that its step names
 abbrev pub Told : Type 0
 Told = ℕ × Reply
 
 module _ (x : Setting) where
-  -- no event is made of the asking for a plan: there is no such snapshot, or no memory for its problem or its plan
+  -- no event follows from asking for a plan: there is no such snapshot, or no memory for its problem or its plan
   abbrev pub IsUnplanned : List Event → ℕ → Reply → Type 0
   IsUnplanned h n reply =
       ((reply ≡ Refused NoSnapshot) × (IsTaken (records x.definition h) n → ⊥))
@@ -33,7 +33,7 @@ module _ (x : Setting) where
       Matches (problem_at x.definition (records x.definition h) n) plan
       × IsLeast (problem_at x.definition (records x.definition h) n) (member plan.links)
 
-  -- an event is answered; of a plan that is asked for, the event is its publication
+  -- an event is answered; if a plan is asked for, the event is its publication
   abbrev pub Answers : List Event → Step → Reply → List Event → Type 0
   Answers h (Ask event) reply new = legal.Step x h event reply new
   Answers h (ask_plan n) reply new =

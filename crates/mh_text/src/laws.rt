@@ -8,7 +8,7 @@ ghost use Rattle.mh_text.specs.Steps.{Run, Told};
 
 use mh_core::Machine;
 
-/// The headline, for a script: what `run_bytes` writes is of such a run.
+/// Proves the headline for a script: the lines that `run_bytes` writes are those of such a run.
 pub fn every_script_is_right(machine: &Machine)
     ensures headline { (steps : List Step) → (replies : List Told) → (h : List Event)
         → Run machine.now.setting machine.now.history steps replies h

@@ -1,8 +1,8 @@
 //! The lines of scripts, problems and plans.
 //!
 //! `lines` makes the lines of replies and plans, and `streams` reads an input to its end and writes
-//! its lines. All that reads JSON is in mh_json. This crate also exports what its calls name of the
-//! crates below:
+//! its lines. Everything that reads JSON is in mh_json. This crate also exports the types of the
+//! crates below that its functions use:
 //!
 //! ```
 //! let script = read_script(alloc, input)?;

@@ -1,4 +1,4 @@
-//! Lines of text: one for each reply.
+//! Lines of text, one for each reply.
 ghost use Rattle.std.specs.Prelude.{◌≡◌, ◌++◌, string_bytes, codes, IfOk, OnOk, ◌<◌, length};
 ghost use Rattle.std.specs.List.{flat_map, slice_index_or};
 ghost use Rattle.mh_site.specs.Defined.{point_at};
@@ -18,7 +18,7 @@ use mh_network::carried;
 use mh_site::Definition;
 use std::alloc::{AllocError, Global};
 
-/// The name of a point; none past the last.
+/// Returns the name of a point; the empty text if it does not exist.
 fn point_name(definition: &Definition, point: u32) -> &str
     ensures value { result.now ≡ (point_at definition.now point).name }
 {
@@ -43,7 +43,7 @@ fn push_names(out: &mut String, definition: &Definition, points: &[u32]) -> Resu
     Ok(())
 }
 
-/// The names of points with commas between them, and a dash where there is none.
+/// Returns the names of points with commas between them, or a dash if there are none.
 fn names_line(alloc: Global, definition: &Definition, points: &[u32]) -> Result<String, AllocError>
     ensures value { IfOk result (λ s. string_bytes s ≡ names_text definition.now points.now) }
 {
@@ -55,7 +55,7 @@ fn names_line(alloc: Global, definition: &Definition, points: &[u32]) -> Result<
     Ok(line)
 }
 
-/// A plan of this number, for this snapshot.
+/// Returns the text of the publication of the plan with this number, for this snapshot.
 fn published_line(
     alloc: Global,
     definition: &Definition,
@@ -76,7 +76,7 @@ fn published_line(
     )
 }
 
-/// The installation of the plan of this number.
+/// Returns the text of the installation of the plan with this number.
 fn installed_line(alloc: Global, plan: usize, report: &InstallReport) -> Result<String, AllocError>
     ensures value { IfOk result (λ s. string_bytes s ≡ installed_text plan report.now) }
 {
@@ -103,7 +103,7 @@ fn reply_line(
     }
 }
 
-/// The line of a reply to a step that names this number.
+/// Returns the line of a reply to a step, given the number that the step names.
 pub(crate) fn line(
     alloc: Global,
     definition: &Definition,
@@ -117,9 +117,9 @@ pub(crate) fn line(
     Ok(line)
 }
 
-/// The line of a reply to a step of a script, by the step's number from 0: the script gives the
-/// names of points, and the snapshot or the plan that the step names. Fails only if an allocation is
-/// refused.
+/// Returns the line of a reply to a step of a script, given the step's number from 0: the script
+/// has the names of points, and the snapshot or the plan that the step names. Fails only if an
+/// allocation is refused.
 pub fn render(
     alloc: Global,
     script: &Script,

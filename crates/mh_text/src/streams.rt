@@ -1,4 +1,4 @@
-//! What is read from a stream to its end, and written on one.
+//! Reading a stream to its end, and writing the result to another.
 
 pub(crate) mod check;
 pub(crate) mod claim;

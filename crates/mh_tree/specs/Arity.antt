@@ -3,7 +3,7 @@ use Rattle.std.specs.Prelude.{ℕ, ◌+◌, ◌-◌, length}
 use Rattle.mh_type.specs.Operations.{op_signature}
 use Rattle.mh_tree.specs.Tree.{Tree, constant, identity, operation, insert, discard, permute, filter, filter_return, fold, guard, point, invoke}
 
--- how many leading arguments a test or a combiner takes
+-- the number of leading arguments that a test or a combiner takes
 abbrev pub arity : Tree → ℕ
 arity (constant x) = 0
 arity (identity k) = 1

@@ -1,4 +1,4 @@
--- Prepared trees as plain data. The first number of each is its steps: the nodes of the tree that are entered with it.
+-- Prepared trees as plain data. The first number of each is its steps: the number of nodes of the tree that are evaluated with it.
 use Rattle.std.specs.Prelude.{ℕ, List}
 use Rattle.mh_type.specs.declared.operation.Op.{Op}
 use Rattle.mh_tree.specs.declared.operand.Operand.{Operand}

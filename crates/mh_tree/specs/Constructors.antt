@@ -1,4 +1,4 @@
--- What each constructor makes, or the first of its tests that fails.
+-- The result of each constructor, or the fault of the first of its tests that fails.
 use Rattle.std.specs.Prelude.{◌≡◌, ℕ, ◌+◌, Bool, true, false, ◌&&◌, Option, Some, None, option_map, Result, Err, IsOk, List, [], ◌∷◌, ◌++◌, take, drop, map, length, nat_eq, nat_lt, nat_le}
 use Rattle.std.specs.List.{list_all}
 use Rattle.mh_base.specs.Listed.{Decided, first_failing, made_unless}
@@ -18,7 +18,7 @@ use Rattle.mh_tree.specs.declared.fault.TreeFault.{TreeFault}
 use Rattle.mh_tree.specs.declared.fault.TreeFault.TheVariants.{NoMemory, BadPosition, TypeMismatch, NotUnary, NotBoolean, BadReorder, TooManyParameters, TooDeep, TooLarge}
 use Rattle.mh_type.specs.Limits.{most_parameters}
 
--- a tree where every test holds, and else what the first that fails reports
+-- a tree if every test holds, and otherwise the fault of the first that fails
 abbrev pub made : TypedTree → Decided TreeFault → Result TypedTree TreeFault
 made h tests = made_unless h (first_failing tests)
 
@@ -30,7 +30,7 @@ limits h =
     ∷ (nat_le (size h.tree) most_nodes, TooLarge)
     ∷ []
 
--- a tree of which the limits alone are tested
+-- a tree of which only the limits are tested
 abbrev pub within_limits : TypedTree → Result TypedTree TreeFault
 within_limits h = made h (limits h)
 
@@ -41,7 +41,7 @@ declared_made h = made h (
     ∷ (nat_le (size h.tree) most_declared_nodes, TooLarge)
     ∷ [])
 
--- why a tree is refused: a test that fails, or memory, which is asked for where every test passed
+-- the reasons to refuse a tree: a test that fails, or lack of memory, which may be reported if every test passed
 abbrev pub refusals : Result TypedTree TreeFault → Tests TreeFault
 refusals made = tested (IsOk made) (λ e. made ≡ Err e) (no_more (only NoMemory))
 
@@ -57,18 +57,18 @@ identity_made k = record { tree = identity k; signature = record { ret = k; para
 abbrev pub op_made : Op → TypedTree
 op_made o = record { tree = operation o; signature = op_signature o }
 
--- `MutableCallSite.dynamicInvoker`: a site of the type
+-- `MutableCallSite.dynamicInvoker`: a site of this type
 abbrev pub invoke_made : ℕ → Signature → TypedTree
 invoke_made s m = record { tree = invoke s m; signature = m }
 
--- `MethodHandles.insertArguments`: the target without the parameters that the values stand for
+-- `MethodHandles.insertArguments`: the target without the parameters that the values replace
 abbrev pub inserted : TypedTree → ℕ → List Value → TypedTree
 inserted target p xs = record {
   tree = insert target.tree p xs;
   signature = record { ret = target.signature.ret; parameters = without_parameters target.signature.parameters p (length xs) };
 }
 
--- the values stand for parameters of their kinds
+-- the values replace parameters of their kinds
 abbrev pub insert_made : TypedTree → ℕ → List Value → Result TypedTree TreeFault
 insert_made target p xs =
     let old = target.signature.parameters in
@@ -78,7 +78,7 @@ insert_made target p xs =
     ∷ (kinds_eq (map kind_of xs) (take (length xs) (drop p old)), TypeMismatch)
     ∷ limits h)
 
--- `MethodHandles.dropArguments`: the target with parameters that are discarded
+-- `MethodHandles.dropArguments`: the target with additional parameters that are discarded
 abbrev pub dropped : TypedTree → ℕ → List Kind → TypedTree
 dropped target p ks = record {
   tree = discard target.tree p ks;
@@ -94,7 +94,7 @@ drop_made target p ks =
 abbrev pub permuted : TypedTree → Signature → List ℕ → TypedTree
 permuted target new_type reorder = record { tree = permute target.tree new_type reorder; signature = new_type }
 
--- there is an entry for each parameter of the target, which names the parameter of the new type that is passed there
+-- there is one entry for each parameter of the target, which names the parameter of the new type that is passed for it
 abbrev pub permute_made : TypedTree → Signature → List ℕ → Result TypedTree TreeFault
 permute_made target new_type reorder =
     let h = permuted target new_type reorder in
@@ -114,14 +114,14 @@ abbrev pub is_unary : Option TypedTree → Bool
 is_unary None = true
 is_unary (Some f) = nat_eq (length f.signature.parameters) 1
 
--- whether each filter that is present returns the kind in its place
+-- whether each filter that is present returns the kind at its index
 abbrev pub return_kinds : List (Option TypedTree) → List Kind → Bool
 return_kinds [] ks = true
 return_kinds (None ∷ fs) (k ∷ ks) = return_kinds fs ks
 return_kinds (Some f ∷ fs) (k ∷ ks) = kind_eq f.signature.ret k && return_kinds fs ks
 return_kinds (f ∷ fs) [] = false
 
--- the kinds that filters take: the parameter of one that is present stands in its place
+-- the kinds of the arguments of filters: the parameter of one that is present replaces that of the target
 abbrev pub taken_kinds : List (Option TypedTree) → List Kind → List Kind
 taken_kinds [] ks = ks
 taken_kinds (None ∷ fs) (k ∷ ks) = k ∷ taken_kinds fs ks
@@ -137,7 +137,7 @@ arguments_filtered target p fs =
       signature = record { ret = target.signature.ret; parameters = take p old ++ taken_kinds fs (drop p old) };
     }
 
--- each filter has one parameter, and returns the kind of the target's parameter in its place
+-- each filter has one parameter, and returns the kind of the target's parameter at its position
 abbrev pub filter_made : TypedTree → ℕ → List (Option TypedTree) → Result TypedTree TreeFault
 filter_made target p fs =
     let h = arguments_filtered target p fs in
@@ -154,7 +154,7 @@ return_filtered target last = record {
   signature = record { ret = last.signature.ret; parameters = target.signature.parameters };
 }
 
--- the filter's one parameter is of the kind that the target returns
+-- the filter has one parameter, of the kind that the target returns
 abbrev pub filter_return_made : TypedTree → TypedTree → Result TypedTree TreeFault
 filter_return_made target last =
     let h = return_filtered target last in
@@ -163,7 +163,7 @@ filter_return_made target last =
     ∷ (kinds_eq last.signature.parameters (target.signature.ret ∷ []), TypeMismatch)
     ∷ limits h)
 
--- `MethodHandles.foldArguments`: the target without its first parameter, which the combiner gives
+-- `MethodHandles.foldArguments`: the target without its first parameter, which the combiner computes
 abbrev pub folded : TypedTree → TypedTree → TypedTree
 folded target combiner = record {
   tree = fold target.tree combiner.tree;
@@ -185,7 +185,7 @@ fold_made target combiner =
 abbrev pub guarded : TypedTree → TypedTree → TypedTree → TypedTree
 guarded test target fallback = record { tree = guard test.tree target.tree fallback.tree; signature = target.signature }
 
--- the branches have one type, and the test's parameters are the first of theirs
+-- the branches have the same type, and the test's parameters are the first of theirs
 abbrev pub guard_made : TypedTree → TypedTree → TypedTree → Result TypedTree TreeFault
 guard_made test target fallback =
     let first = test.signature.parameters in
@@ -200,7 +200,7 @@ guard_made test target fallback =
 abbrev pub pointed : ℕ → TypedTree → TypedTree → TypedTree
 pointed p target fallback = record { tree = point p target.tree fallback.tree; signature = target.signature }
 
--- the branches have one type
+-- the branches have the same type
 abbrev pub point_made : ℕ → TypedTree → TypedTree → Result TypedTree TreeFault
 point_made p target fallback =
     let h = pointed p target fallback in

@@ -1,4 +1,4 @@
--- What a handle stands for: a tree with its type, within limits.
+-- The view of a handle that contracts use: a tree with its type, within limits.
 use Rattle.std.specs.Prelude.{◌≤◌}
 use Rattle.mh_type.specs.Signature.{Signature}
 use Rattle.mh_tree.specs.Tree.{Tree}

@@ -1,10 +1,10 @@
--- Which invocations a tree has: what holds of each, and whether a test does.
+-- The invocations of a tree: facts that hold of each, and tests of each.
 use Rattle.std.specs.Prelude.{ℕ, Bool, true, ◌&&◌}
 use Rattle.mh_type.specs.Signature.{Signature}
 use Rattle.mh_tree.specs.Tree.{Tree, Filters, constant, identity, operation, insert, discard, permute, filter, filter_return, fold, guard, point, invoke, no_more, absent, present}
 
 abbrev mutual
-  -- each invocation in the tree, of a site as of a type, is as P says
+  -- P holds of each invocation in the tree, given its site and its type
   pub EachInvoke : (ℕ → Signature → Type 0) → Tree → Type 0
   EachInvoke P (constant x) = Unit {0}
   EachInvoke P (identity k) = Unit {0}

@@ -1,4 +1,4 @@
--- What a handle keeps beside its tree.
+-- The invariant of a handle: the type and the measures are those of its tree.
 use Rattle.std.specs.Prelude.{◌≡◌}
 use Rattle.std.specs.Arc.{arc_value}
 use Rattle.mh_tree.specs.TreeOf.{tree_of}

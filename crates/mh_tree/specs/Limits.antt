@@ -1,4 +1,4 @@
--- The depth, the size, the point bound and the site bound of a tree, the most of its steps, and what is the most of depth and size.
+-- The depth, the size, the point bound and the site bound of a tree, its greatest number of steps, and the limits of depth and size.
 use Rattle.std.specs.Prelude.{ℕ, ◌+◌, max}
 use Rattle.mh_tree.specs.Tree.{Tree, Filters, constant, identity, operation, insert, discard, permute, filter, filter_return, fold, guard, point, invoke, no_more, absent, present}
 
@@ -87,7 +87,7 @@ abbrev mutual
   greatest_site (present f fs) = max (site_bound f) (greatest_site fs)
 
 abbrev mutual
-  -- the most steps of a tree, where an invocation takes at most c beside its own
+  -- the greatest number of steps of a tree, if an invocation takes at most c besides its own
   pub most_steps : ℕ → Tree → ℕ
   most_steps c (constant x) = 1
   most_steps c (identity k) = 1

@@ -1,4 +1,4 @@
--- What a tree does with arguments in an environment (the pseudo-code of each combinator in
+-- The outcome and the steps of a tree for arguments in an environment (the pseudo-code of each combinator in
 -- `java.lang.invoke.MethodHandles`, Java SE 17). The first throw of a part that runs is the outcome.
 use Rattle.std.specs.Prelude.{ℕ, ◌+◌, Bool, false, Result, Ok, Err, List, [], ◌∷◌, ◌++◌, take, drop, map, length, slice_index_or, slice_set, if◌then◌else◌}
 use Rattle.mh_type.specs.declared.value.Value.{Value}
@@ -12,12 +12,12 @@ use Rattle.mh_tree.specs.Environment.{Environment, Steps}
 use Rattle.mh_tree.specs.Tree.{Tree, Filters, constant, identity, operation, insert, discard, permute, filter, filter_return, fold, guard, point, invoke, no_more, absent, present}
 
 infixl 10 ◌>>=◌
--- goes on with a value, and stops at a throw
+-- continues with a value, and stops at a throw
 abbrev pub ◌>>=◌ : Outcome → (Value → Outcome) → Outcome
 (outcome.Value x) >>= go = go x
 (outcome.Thrown t) >>= go = outcome.Thrown t
 
--- the argument at a place
+-- the argument at a position
 abbrev pub argument : List Value → ℕ → Value
 argument a i = slice_index_or a i (Boolean false)
 
@@ -25,31 +25,31 @@ argument a i = slice_index_or a i (Boolean false)
 abbrev pub is_valid : Environment → ℕ → Bool
 is_valid v p = slice_index_or v.valid p false
 
--- goes on by a truth value
+-- continues by a truth value
 abbrev pub choose : Value → Outcome → Outcome → Outcome
 choose (Boolean b) x y = if b then x else y
 choose _ x y = y
 
--- arguments with values put in before a place (`MethodHandles.insertArguments`)
+-- arguments with values inserted before a position (`MethodHandles.insertArguments`)
 abbrev pub put_in : List Value → ℕ → List Value → List Value
 put_in a p xs = take p a ++ (xs ++ drop p a)
 
--- arguments without n of them from a place on (`MethodHandles.dropArguments`)
+-- arguments without n of them from a position on (`MethodHandles.dropArguments`)
 abbrev pub taken_out : List Value → ℕ → ℕ → List Value
 taken_out a p n = take p a ++ drop (p + n) a
 
--- the outcome of going on with the arguments, or the throw of a filter
+-- the outcome of continuing with the arguments, or the throw of a filter
 abbrev pub with_arguments : Result (List Value) Throw → (List Value → Outcome) → Outcome
 with_arguments (Ok a) go = go a
 with_arguments (Err t) go = outcome.Thrown t
 
--- goes on with the value of a filter
+-- continues with the value of a filter
 abbrev pub with_value : Outcome → (Value → Result (List Value) Throw) → Result (List Value) Throw
 with_value (outcome.Value x) go = go x
 with_value (outcome.Thrown t) go = Err t
 
 abbrev mutual
-  -- The outcome. A test, a combiner, and a site that is invoked get as many of the leading arguments as they have parameters
+  -- The outcome. A test, a combiner, and a site that is invoked are passed as many of the leading arguments as they have parameters
   -- (`MethodHandles.guardWithTest`, `MethodHandles.foldArguments`).
   pub mean : Environment → Tree → List Value → Outcome
   mean v (constant x) a = outcome.Value x
@@ -71,7 +71,7 @@ abbrev mutual
   mean v (point p x y) a = if is_valid v p then mean v x a else mean v y a
   mean v (invoke s n) a = v.calls s (take (length n.parameters) a)
 
-  -- the arguments after the filters of the places from p on have run, from left to right
+  -- the arguments after the filters from position p on have run, from left to right
   pub filtered : Environment → Filters → ℕ → List Value → Result (List Value) Throw
   filtered v no_more p a = Ok a
   filtered v (absent fs) p a = filtered v fs (p + 1) a
@@ -93,7 +93,7 @@ choose_steps (Boolean b) x y = if b then x else y
 choose_steps _ x y = y
 
 abbrev mutual
-  -- the number of nodes entered, the one that throws included
+  -- the number of nodes evaluated, including one that throws
   pub steps : Environment → Tree → List Value → Steps
   steps v (constant x) a = 1
   steps v (identity k) a = 1
@@ -112,7 +112,7 @@ abbrev mutual
   steps v (point p x y) a = 1 + (if is_valid v p then steps v x a else steps v y a)
   steps v (invoke s n) a = 1 + v.call_steps s (take (length n.parameters) a)
 
-  -- the steps of the filters of the places from p on
+  -- the steps of the filters from position p on
   pub filter_steps : Environment → Filters → ℕ → List Value → Steps
   filter_steps v no_more p a = 0
   filter_steps v (absent fs) p a = filter_steps v fs (p + 1) a

@@ -1,5 +1,5 @@
--- The code of a tree, whose parameters stand where the operands say, below d locals, with s steps before it. What only
--- moves arguments is gone: its node's step is counted at the node inside it.
+-- The code of a tree, whose parameters are these operands, below d locals, with s steps before it. Nodes that only move arguments
+-- disappear: the step of such a node is counted at the node inside it.
 use Rattle.std.specs.Prelude.{ℕ, ◌+◌, false, List, [], ◌∷◌, ◌++◌, take, drop, map, length, slice_index_or, slice_set}
 use Rattle.std.specs.List.{range_with_len}
 use Rattle.mh_type.specs.declared.value.Value.TheVariants.{Boolean}
@@ -10,7 +10,7 @@ use Rattle.mh_tree.specs.Code.{Code, leaf, apply, bind, branch, point as code_po
 use Rattle.mh_tree.specs.declared.operand.Operand.{Operand}
 use Rattle.mh_tree.specs.declared.operand.Operand.TheVariants.{Argument, Local, Constant}
 
--- the operand at a place
+-- the operand at an index
 abbrev pub operand_at : List Operand → ℕ → Operand
 operand_at env i = slice_index_or env i (Constant (Boolean false))
 
@@ -31,14 +31,14 @@ abbrev mutual
   prepared (point p x y) env d s = code_point (s + 1) p (prepared x env d 0) (prepared y env d 0)
   prepared (invoke k n) env d s = code_invoke (s + 1) k (take (length n.parameters) env)
 
-  -- the filters of the places from p on, and then the target
+  -- the filters from position p on, followed by the target
   pub prepared_filters : Filters → ℕ → List Operand → ℕ → ℕ → (List Operand → ℕ → ℕ → Code) → Code
   prepared_filters no_more p env d s go = go env d s
   prepared_filters (absent fs) p env d s go = prepared_filters fs (p + 1) env d s go
   prepared_filters (present f fs) p env d s go =
       bind s (prepared f (operand_at env p ∷ []) d 0) (prepared_filters fs (p + 1) (slice_set env p (Local d)) (d + 1) 0 go)
 
--- so many of the leading arguments
+-- the first n arguments
 abbrev pub leading_arguments : ℕ → List Operand
 leading_arguments n = map (λ i. Argument i) (range_with_len 0 n)
 

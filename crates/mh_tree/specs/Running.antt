@@ -1,4 +1,4 @@
--- What prepared code does in an environment v with arguments a and locals l.
+-- The outcome and the steps of prepared code in an environment v with arguments a and locals l.
 use Rattle.std.specs.Prelude.{ℕ, ◌+◌, List, [], ◌∷◌, ◌++◌, map, if◌then◌else◌}
 use Rattle.mh_type.specs.declared.value.Value.{Value}
 use Rattle.mh_type.specs.declared.outcome.Outcome.{Outcome}
@@ -28,7 +28,7 @@ run_code v (branch s c x y) a l = do
 run_code v (point s p x y) a l = if is_valid v p then run_code v x a l else run_code v y a l
 run_code v (invoke s k os) a l = v.calls k (map (value_of a l) os)
 
--- the steps that it takes
+-- the steps of the code
 abbrev pub code_steps : Environment → Code → List Value → List Value → Steps
 code_steps v (leaf s o) a l = s
 code_steps v (apply s op x y) a l = s
@@ -38,7 +38,7 @@ code_steps v (branch s c x y) a l =
 code_steps v (point s p x y) a l = s + (if is_valid v p then code_steps v x a l else code_steps v y a l)
 code_steps v (invoke s k os) a l = s + v.call_steps k (map (value_of a l) os)
 
--- all steps together, where an invocation takes at most n beside its own
+-- all steps together, if an invocation takes at most n besides its own
 abbrev pub weight : ℕ → Code → ℕ
 weight n (leaf s o) = s
 weight n (apply s op x y) = s

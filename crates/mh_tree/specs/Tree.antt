@@ -32,7 +32,7 @@ mutual
     -- `MutableCallSite.dynamicInvoker`: site, type
     invoke : ℕ → Signature → Tree
 
-  -- a filter, or none, at each place
+  -- a filter, or none, for each position
   pub data Filters : Type 0 where
     no_more : Filters
     absent : Filters → Filters

@@ -1,4 +1,4 @@
--- A code of trees, by which a proof tells them apart.
+-- A code of trees, by which a proof tells two of them apart.
 use Rattle.std.specs.Prelude.{◌≡◌, ℕ, refl}
 use Rattle.std.specs.Coded.{Coded, coded_ℕ, coded_list, coded×, code_by}
 use Rattle.std.proofs.Common.{ap, arith}

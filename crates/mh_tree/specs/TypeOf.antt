@@ -23,7 +23,7 @@ abbrev mutual
   type_of (point p x y) = type_of x
   type_of (invoke s n) = n
 
-  -- the kinds after the filters of the places from p on: each filter's parameter stands in its place
+  -- the kinds after the filters from position p on: each filter's parameter replaces that of the target
   pub filtered_kinds : Filters → ℕ → List Kind → List Kind
   filtered_kinds no_more p ks = ks
   filtered_kinds (absent fs) p ks = filtered_kinds fs (p + 1) ks

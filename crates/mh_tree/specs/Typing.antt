@@ -1,5 +1,5 @@
--- Which type a tree has, by one case for each combinator (the type conditions in `java.lang.invoke.MethodHandles`,
--- `SwitchPoint` and `MutableCallSite`, Java SE 17). A type has at most 16 parameters.
+-- The type of a tree, by one case for each combinator (the type conditions in `java.lang.invoke.MethodHandles`, `SwitchPoint` and
+-- `MutableCallSite`, Java SE 17). A type has at most 16 parameters.
 use Rattle.std.specs.Prelude.{◌≡◌, ℕ, ◌+◌, ◌<◌, ◌≤◌, List, [], ◌∷◌, take, drop, map, length, slice_index_or}
 use Rattle.std.specs.List.{All}
 use Rattle.mh_type.specs.declared.kind.Kind.{Kind}
@@ -15,19 +15,19 @@ use Rattle.mh_type.specs.Limits.{most_parameters}
 abbrev pub BeginsWith : List Kind → List Kind → Type 0
 BeginsWith kinds first = first ≡ take (length first) kinds
 
--- values at some places of a type n, which leave the type m (`MethodHandles.insertArguments`)
+-- values at some positions of a type n, which leave the type m (`MethodHandles.insertArguments`)
 pub record Inserts (n : Signature) (p : ℕ) (xs : List Value) (m : Signature) : Type 0 where
   pub inside : p + length xs ≤ length n.parameters
   pub kinds : map kind_of xs ≡ take (length xs) (drop p n.parameters)
   pub made : m ≡ record { ret = n.ret; parameters = without_parameters n.parameters p (length xs) }
 
--- parameters that are put in beside those of a type n, at most 16 in all (`MethodHandles.dropArguments`)
+-- parameters that are added to those of a type n, at most 16 in all (`MethodHandles.dropArguments`)
 pub record Discards (n : Signature) (p : ℕ) (ks : List Kind) (m : Signature) : Type 0 where
   pub inside : p ≤ length n.parameters
   pub few : length n.parameters + length ks ≤ most_parameters
   pub made : m ≡ record { ret = n.ret; parameters = with_parameters n.parameters p ks }
 
--- the kind at a place
+-- the kind at a position
 abbrev pub kind_at : List Kind → ℕ → Kind
 kind_at kinds i = slice_index_or kinds i kind.Int
 
@@ -61,8 +61,8 @@ abbrev mutual
   IsTyped (point p x y) m = IsTyped x m × IsTyped y m
   IsTyped (invoke s n) m = (length n.parameters ≤ most_parameters) × (m ≡ n)
 
-  -- filters over the target's parameters from their first place on, and the parameters that come in their stead
-  -- (`MethodHandles.filterArguments`): a filter has one parameter, and returns the kind that it stands for
+  -- filters of the target's parameters from their first position on, and the parameters that replace these
+  -- (`MethodHandles.filterArguments`): a filter has one parameter, and returns the kind that it replaces
   pub AreTyped : Filters → List Kind → List Kind → Type 0
   AreTyped no_more old new = new ≡ old
   AreTyped (absent fs) (k ∷ old) (j ∷ new) = (j ≡ k) × AreTyped fs old new

@@ -1,4 +1,4 @@
-//! The constructors that change which arguments a target gets.
+//! The constructors that change which arguments a target is passed.
 
 ghost use Rattle.std.specs.Prelude.{◌≡◌, ◌↔◌, Ok, Err, map, length, IfOk, IfErr, IsTrue, MatchResult};
 ghost use Rattle.mh_type.specs.Kinds.{kind_of};
@@ -15,19 +15,21 @@ use mh_type::{Kind, MethodType, Value, copy_values, have_kinds};
 use std::alloc::Global;
 
 impl Handle {
-    /// The target with values in place of its parameters from `position` on
+    /// Returns the target with values in place of its parameters from `position` on
     /// (`MethodHandles.insertArguments`).
     ///
-    /// *Type*: the target's, without as many parameters from `position` on as there are values.
+    /// *Type*: that of the target, without as many parameters from `position` on as there are
+    /// values.
     ///
-    /// *Pseudo-code*: `adapter(a.., b..) = target(a.., values.., b..)`, with `position` arguments `a`.
+    /// *Pseudo-code*: `adapter(a.., b..) = target(a.., values.., b..)`, with `position` arguments
+    /// `a`.
     ///
-    /// *Example*: `iadd` with `int 1` at place 1 is of type `(int)int` and gives `int 3` on `int 2`.
-    /// No values are allowed: the handle is then the target in one more node.
+    /// *Example*: `iadd` with `int 1` at position 1 is of type `(int)int` and returns `int 3` for
+    /// `int 2`. The list of values may be empty: the handle is then the target in one more node.
     ///
-    /// *Refusals*: `BadPosition` where `position + values.len()` is above the target's count of
-    /// parameters, as a number without bounds; `TypeMismatch` where a value is of another kind than
-    /// its parameter; `TooDeep`, `TooLarge`, and `NoMemory`.
+    /// *Errors*: `BadPosition` if `position + values.len()`, as an unbounded number, exceeds the
+    /// target's number of parameters; `TypeMismatch` if a value is not of its parameter's kind;
+    /// `TooDeep`, `TooLarge`, and `NoMemory`.
     pub fn insert(
         alloc: Global,
         target: &Handle,
@@ -56,17 +58,20 @@ impl Handle {
         )
     }
 
-    /// The target behind parameters that are discarded (`MethodHandles.dropArguments`).
+    /// Returns the target with additional parameters, whose arguments are discarded
+    /// (`MethodHandles.dropArguments`).
     ///
-    /// *Type*: the target's, with parameters of these kinds put in at `position`.
+    /// *Type*: that of the target, with parameters of these kinds inserted at `position`.
     ///
-    /// *Pseudo-code*: `adapter(a.., discarded.., b..) = target(a.., b..)`, with `position` arguments `a`.
+    /// *Pseudo-code*: `adapter(a.., discarded.., b..) = target(a.., b..)`, with `position`
+    /// arguments `a`.
     ///
-    /// *Example*: the constant of `int 7` behind one `int` is of type `(int)int` and gives `int 7` on
-    /// `int 0`. No kinds are allowed: the handle is then the target in one more node.
+    /// *Example*: the constant `int 7` with a discarded `int` is of type `(int)int` and returns
+    /// `int 7` for `int 0`. The list of kinds may be empty: the handle is then the target in one
+    /// more node.
     ///
-    /// *Refusals*: `BadPosition` where `position` is above the target's count of parameters;
-    /// `TooManyParameters` past 16; `TooDeep`, `TooLarge`, and `NoMemory`.
+    /// *Errors*: `BadPosition` if `position` exceeds the target's number of parameters;
+    /// `TooManyParameters` if there would be more than 16; `TooDeep`, `TooLarge`, and `NoMemory`.
     pub fn drop(
         alloc: Global,
         target: &Handle,
@@ -96,7 +101,7 @@ impl Handle {
     }
 }
 
-// The type of the target with these values inserted, where they may be.
+// Returns the type of the target with these values inserted, if they may be.
 fn insert_type(target: &Handle, position: usize, values: &[Value]) -> Result<MethodType, TreeFault>
     ensures value { MatchResult result (λ m. insert_made target.now position values.now ≡ Ok
         (record { tree = insert_tree target.now.tree position values.now; signature = m }))
@@ -115,7 +120,7 @@ fn insert_type(target: &Handle, position: usize, values: &[Value]) -> Result<Met
     within_limits(new_type, 1 + target.depth(), 1 + target.size())
 }
 
-// The type of the target with parameters of these kinds put in, where they may be.
+// Returns the type of the target with parameters of these kinds inserted, if they may be.
 fn drop_type(target: &Handle, position: usize, kinds: &[Kind]) -> Result<MethodType, TreeFault>
     ensures value { MatchResult result (λ m. drop_made target.now position kinds.now ≡ Ok
         (record { tree = discard target.now.tree position kinds.now; signature = m }))

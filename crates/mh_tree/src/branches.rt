@@ -14,19 +14,21 @@ use mh_type::{Kind, MethodType};
 use std::alloc::Global;
 
 impl Handle {
-    /// The target where the test gives true, and else the fallback (`MethodHandles.guardWithTest`).
+    /// Returns the handle that runs the target if the test returns true, and otherwise the fallback
+    /// (`MethodHandles.guardWithTest`).
     ///
-    /// *Type*: the one type of target and fallback. The test returns boolean, and its parameters are
-    /// the first of theirs.
+    /// *Type*: the common type of target and fallback. The test returns boolean, and its parameters
+    /// are the first of theirs.
     ///
-    /// *Pseudo-code*: `adapter(a.., b..) = if test(a..) { target(a.., b..) } else { fallback(a.., b..) }`.
-    /// A throw of the test is the outcome, and only the chosen branch runs.
+    /// *Pseudo-code*: `adapter(a.., b..) = if test(a..) { target(a.., b..) } else { fallback(a..,
+    /// b..) }`. If the test throws, this is the outcome; only the chosen branch runs.
     ///
-    /// *Example*: with the test `ieq` behind `int 1`, the target 100 and the fallback `ineg`, the
-    /// handle is of type `(int)int`, and gives `int 100` on `int 1` and `int -2` on `int 2`.
+    /// *Example*: with the test `ieq` with `int 1` inserted, the target 100 and the fallback
+    /// `ineg`, the handle is of type `(int)int`, and returns `int 100` for `int 1` and `int -2` for
+    /// `int 2`.
     ///
-    /// *Refusals*: `NotBoolean`; `TypeMismatch` where the branches have two types or the test's
-    /// parameters do not begin theirs; `TooDeep`, `TooLarge`, and `NoMemory`.
+    /// *Errors*: `NotBoolean`; `TypeMismatch` if the branches have different types or the test's
+    /// parameters are not the first of theirs; `TooDeep`, `TooLarge`, and `NoMemory`.
     pub fn guard(
         alloc: Global,
         test: &Handle,
@@ -54,16 +56,17 @@ impl Handle {
         Handle::of(alloc, root, method_type, depth, size, bound, sites)
     }
 
-    /// The target while a point is valid, and else the fallback (`SwitchPoint.guardWithTest`).
+    /// Returns the handle that runs the target while a point is valid, and otherwise the fallback
+    /// (`SwitchPoint.guardWithTest`).
     ///
-    /// *Type*: the one type of target and fallback.
+    /// *Type*: the common type of target and fallback.
     ///
     /// *Pseudo-code*: `adapter(a..) = if valid[point] { target(a..) } else { fallback(a..) }`.
     ///
-    /// *Example*: with point 0, the target `iadd` and the fallback `isub`, the handle gives `int 3` on
-    /// `int 2` and `int 1` while point 0 is valid, and `int 1` from its invalidation on.
+    /// *Example*: with point 0, the target `iadd` and the fallback `isub`, the handle returns `int
+    /// 3` for `int 2` and `int 1` while point 0 is valid, and `int 1` from its invalidation on.
     ///
-    /// *Refusals*: `TypeMismatch` where the branches have two types; `TooDeep`, `TooLarge`, and
+    /// *Errors*: `TypeMismatch` if the branches have different types; `TooDeep`, `TooLarge`, and
     /// `NoMemory`.
     pub fn point(
         alloc: Global,
@@ -89,7 +92,7 @@ impl Handle {
     }
 }
 
-// The type of a guard of these parts, where they agree.
+// Returns the type of a guard of these parts, if they agree.
 fn guard_type(test: &Handle, target: &Handle, fallback: &Handle) -> Result<MethodType, TreeFault>
     ensures value { MatchResult result (λ m. guard_made test.now target.now fallback.now ≡ Ok
         (record {
@@ -114,7 +117,7 @@ fn guard_type(test: &Handle, target: &Handle, fallback: &Handle) -> Result<Metho
     within_limits(method_type.copy(), depth, size)
 }
 
-// The type of a point's branches, where they agree.
+// Returns the type of a point's branches, if they agree.
 fn point_type(point: u32, target: &Handle, fallback: &Handle) -> Result<MethodType, TreeFault>
     ensures value { MatchResult result (λ m. point_made point target.now fallback.now ≡ Ok
         (record { tree = point_tree point target.now.tree fallback.now.tree; signature = m }))

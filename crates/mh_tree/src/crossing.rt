@@ -1,10 +1,10 @@
-//! Laws of what crosses threads.
+//! Laws about types that cross threads.
 
 ghost use Rattle.mh_tree.specs.Laws.Crossing.{TreesCross};
 
 use mh_type::values_cross_threads;
 
-/// Handles and declared trees may go to another thread, and threads may share them.
+/// Proves that handles and declared trees can be sent to another thread and shared between threads.
 pub fn trees_cross_threads()
     ensures trees { TreesCross }
 {

@@ -17,8 +17,8 @@ pub const DEEPEST_DECLARED: usize = 64;
 /// The greatest size of a declared tree.
 pub const LARGEST_DECLARED: usize = 4096;
 
-/// A handle within the limits of declared trees: at most 64 deep, and of at most 4,096 nodes. What
-/// is built over such a tree is then within the limits of any handle.
+/// A handle within the limits of declared trees: at most 64 deep, and with at most 4,096 nodes. The
+/// trees that are built over it, such as inline caches, are then within the limits of any handle.
 #[derive(Drop)]
 pub struct Declared {
     handle: Handle,
@@ -46,8 +46,9 @@ impl fmt::Debug for Declared {
 }
 
 impl Declared {
-    /// Another owner of the handle, where it is within the limits of declared trees. Refused with
-    /// `TooDeep` past depth 64, then with `TooLarge` past 4,096 nodes, and with `NoMemory`.
+    /// Returns another owner of the handle as a declared tree. Fails with `TooDeep` if it is deeper
+    /// than 64, then with `TooLarge` if it has more than 4,096 nodes, and otherwise only with
+    /// `NoMemory`.
     pub fn new(handle: &Handle) -> Result<Declared, TreeFault>
         ensures value { IfOk result (λ d. declared_made handle.now ≡ Ok d) }
         ensures refused { IfErr result (λ e. Refuses (refusals (declared_made handle.now)) e) }
@@ -62,7 +63,7 @@ impl Declared {
         Ok(Declared { handle })
     }
 
-    /// Another owner of the tree. Refused with `NoMemory` alone.
+    /// Returns another owner of the tree. Fails only with `NoMemory`.
     pub fn share(&self) -> Result<Declared, NoMemory>
         ensures value { IfOk result (λ d. d ≡ self.now) }
     {
@@ -70,7 +71,7 @@ impl Declared {
         Ok(Declared { handle })
     }
 
-    /// The handle.
+    /// Returns the handle.
     pub fn handle(&self) -> &Handle
         ensures value { result.now ≡ self.now }
         ensures limits { (tree_depth self.now.tree ≤ greatest_declared_depth)

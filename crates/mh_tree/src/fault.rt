@@ -1,4 +1,4 @@
-//! What a constructor refuses.
+//! Faults of constructors.
 
 ghost use Rattle.std.specs.Prelude.{◌≡◌};
 ghost use Rattle.mh_tree.specs.Faults.{fault_number};
@@ -6,26 +6,27 @@ ghost use Rattle.mh_tree.specs.Faults.{fault_number};
 use mh_base::NoMemory;
 use thiserror::Error;
 
-/// Why a handle was not made. The tests of a constructor run in the order 2, 4, 5, 6, 3, 7, 8, 9,
-/// each over the whole call, and the first that fails is reported. Memory comes last.
+/// The reason why a handle was not made. The tests of a constructor run in the order 2, 4, 5, 6, 3,
+/// 7, 8, 9, each over the whole call, and the first that fails is reported. `NoMemory` comes last.
 #[derive(Clone, Copy, Debug, PartialEq, Eq, Error)]
 pub enum TreeFault {
-    /// An allocation was refused, or another owner of a text or a tree.
+    /// An allocation was refused, or the reference count of a text or a tree.
     #[error("1 NoMemory")]
     NoMemory,
-    /// The places from the position on are not all places of the target.
+    /// The positions from the given one on are not all positions of the target's parameters.
     #[error("2 BadPosition")]
     BadPosition,
     /// The kinds of the parts do not agree.
     #[error("3 TypeMismatch")]
     TypeMismatch,
-    /// A filter has other than one parameter.
+    /// A filter does not have exactly one parameter.
     #[error("4 NotUnary")]
     NotUnary,
-    /// A test returns another kind than boolean.
+    /// A test does not return boolean.
     #[error("5 NotBoolean")]
     NotBoolean,
-    /// A reordering names no parameter, or has not one entry for each parameter of the target.
+    /// A reordering names a parameter that does not exist, or does not have exactly one entry for
+    /// each parameter of the target.
     #[error("6 BadReorder")]
     BadReorder,
     /// The type would have more than 16 parameters.
@@ -50,7 +51,7 @@ impl From<NoMemory> for TreeFault {
 }
 
 impl TreeFault {
-    /// The fault's number, from 1 to 9.
+    /// Returns the fault's number, 1 to 9.
     pub fn number(self) -> u8
         ensures value { result ≡ fault_number self }
     {

@@ -1,4 +1,4 @@
-//! The constructors that filter what a target gets and what it gives.
+//! The constructors that filter the arguments and the result of a target.
 
 ghost use Rattle.std.specs.Prelude.{◌≡◌, ◌+◌, ◌*◌, ◌≤◌, ◌++◌, true, Ok, Err, take, drop, length, map, option_map, IfSome, IfOk, IfErr, MatchResult};
 ghost use Rattle.std.specs.List.{All, list_all};
@@ -20,24 +20,24 @@ use std::alloc::Global;
 use std::sync::Arc;
 
 impl Handle {
-    /// The target on filtered arguments (`MethodHandles.filterArguments`).
+    /// Returns the target with filtered arguments (`MethodHandles.filterArguments`).
     ///
-    /// *Type*: the target's, where each filter's parameter stands in place of the target's that the
-    /// filter returns. The filters stand for the parameters from `position` on; an absent one
-    /// leaves its argument.
+    /// *Type*: that of the target, with each filter's parameter in place of the target's parameter
+    /// that the filter computes. The filters are for the parameters from `position` on; an absent
+    /// one leaves its argument unchanged.
     ///
-    /// *Pseudo-code*: `adapter(a.., x, y, .., b..) = target(a.., filters[0](x), filters[1](y), .., b..)`,
-    /// with `position` arguments `a`. Filters run from left to right. A throw of one is the
-    /// outcome, and nothing after it runs.
+    /// *Pseudo-code*: `adapter(a.., x, y, .., b..) = target(a.., filters[0](x), filters[1](y), ..,
+    /// b..)`, with `position` arguments `a`. Filters run from left to right. If one throws, this is
+    /// the outcome, and nothing after it runs.
     ///
-    /// *Example*: `ladd` with the filter `i2l` at place 1 is of type `(long,int)long`, and gives
-    /// `long 3` on `long 1` and `int 2`. No filters are allowed: the handle is then the target in
-    /// one more node.
+    /// *Example*: `ladd` with the filter `i2l` at position 1 is of type `(long,int)long`, and
+    /// returns `long 3` for `long 1` and `int 2`. The list of filters may be empty: the handle is
+    /// then the target in one more node.
     ///
-    /// *Refusals*: `BadPosition` where `position + filters.len()` is above the target's count of
-    /// parameters, as a number without bounds; `NotUnary` where a filter has other than one
-    /// parameter; `TypeMismatch` where a filter returns another kind than its place has; `TooDeep`,
-    /// `TooLarge`, and `NoMemory`.
+    /// *Errors*: `BadPosition` if `position + filters.len()`, as an unbounded number, exceeds the
+    /// target's number of parameters; `NotUnary` if a filter does not have exactly one parameter;
+    /// `TypeMismatch` if a filter does not return the kind of the parameter at its position;
+    /// `TooDeep`, `TooLarge`, and `NoMemory`.
     pub fn filter(
         alloc: Global,
         target: &Handle,
@@ -61,18 +61,19 @@ impl Handle {
         Handle::of(alloc, root, method_type, depth, size, bound, sites)
     }
 
-    /// The filter of what the target gives (`MethodHandles.filterReturnValue`).
+    /// Returns the target with a filtered result (`MethodHandles.filterReturnValue`).
     ///
-    /// *Type*: the target's, with the filter's return kind.
+    /// *Type*: that of the target, with the filter's return kind.
     ///
-    /// *Pseudo-code*: `adapter(a..) = filter(target(a..))`. Where the target throws, the throw is the
+    /// *Pseudo-code*: `adapter(a..) = filter(target(a..))`. If the target throws, this is the
     /// outcome, and the filter does not run.
     ///
-    /// *Example*: `iadd` with the filter `i2l` is of type `(int,int)long`, and gives `long 3` on
+    /// *Example*: `iadd` with the filter `i2l` is of type `(int,int)long`, and returns `long 3` for
     /// `int 1` and `int 2`.
     ///
-    /// *Refusals*: `NotUnary` where the filter has other than one parameter; `TypeMismatch` where that
-    /// parameter is of another kind than the target returns; `TooDeep`, `TooLarge`, and `NoMemory`.
+    /// *Errors*: `NotUnary` if the filter does not have exactly one parameter; `TypeMismatch` if
+    /// that parameter is not of the kind that the target returns; `TooDeep`, `TooLarge`, and
+    /// `NoMemory`.
     pub fn filter_return(
         alloc: Global,
         target: &Handle,
@@ -95,7 +96,7 @@ impl Handle {
     }
 }
 
-// The type of the target with these filters of its arguments, where they may be.
+// Returns the type of the target with these filters of its arguments, if they may be.
 fn filter_type(
     target: &Handle,
     position: usize,
@@ -128,7 +129,7 @@ fn filter_type(
     within_limits(type_before(old, position, filters), depth, size)
 }
 
-// The type of the target with this filter of its result, where it may be.
+// Returns the type of the target with this filter of its result, if it may be.
 fn filter_return_type(target: &Handle, filter: &Handle) -> Result<MethodType, TreeFault>
     ensures value { MatchResult result (λ m. filter_return_made target.now filter.now ≡ Ok
         (record { tree = filter_return_tree target.now.tree filter.now.tree; signature = m }))
@@ -149,7 +150,7 @@ fn filter_return_type(target: &Handle, filter: &Handle) -> Result<MethodType, Tr
     within_limits(old.returning(last.ret()), depth, size)
 }
 
-// Whether each filter that is present has one parameter.
+// Returns whether each filter that is present has one parameter.
 fn are_unary(filters: &[Option<Handle>]) -> bool
     ensures value { result ≡ list_all is_unary filters.now }
 {
@@ -163,7 +164,7 @@ fn are_unary(filters: &[Option<Handle>]) -> bool
     true
 }
 
-// Whether each filter that is present returns the kind in its place.
+// Returns whether each filter that is present returns the kind at its index.
 fn return_kinds(filters: &[Option<Handle>], kinds: &[Kind]) -> bool
     requires enough { length filters.now ≤ length kinds.now }
     ensures value { result ≡ kinds_returned filters.now kinds.now }
@@ -178,7 +179,7 @@ fn return_kinds(filters: &[Option<Handle>], kinds: &[Kind]) -> bool
     true
 }
 
-// The target's type with each filter's parameter in its place.
+// Returns the target's type with each filter's parameter in its place.
 fn type_before(target: &MethodType, position: usize, filters: &[Option<Handle>]) -> MethodType
     requires inside { position + length filters.now ≤ length target.now.parameters }
     requires unary { list_all is_unary filters.now ≡ true }
@@ -199,7 +200,7 @@ fn type_before(target: &MethodType, position: usize, filters: &[Option<Handle>])
     made
 }
 
-// The depth of the deepest filter, or 0.
+// Returns the depth of the deepest filter, or 0.
 fn deepest(filters: &[Option<Handle>]) -> usize
     ensures value { result ≡ deepest_tree (plain_filters filters.now) }
     ensures shallow { result ≤ greatest_depth }
@@ -213,7 +214,7 @@ fn deepest(filters: &[Option<Handle>]) -> usize
     deepest
 }
 
-// The number of nodes of all filters.
+// Returns the number of nodes of all filters.
 fn total_size(filters: &[Option<Handle>]) -> usize
     requires few { length filters.now ≤ most_parameters }
     ensures value { result ≡ total_of (plain_filters filters.now) }
@@ -228,7 +229,7 @@ fn total_size(filters: &[Option<Handle>]) -> usize
     total
 }
 
-// The greatest point bound of the filters, or 0.
+// Returns the greatest point bound of the filters, or 0.
 fn greatest_bound(filters: &[Option<Handle>]) -> usize
     ensures value { result ≡ greatest_of (plain_filters filters.now) }
 {
@@ -241,7 +242,7 @@ fn greatest_bound(filters: &[Option<Handle>]) -> usize
     greatest
 }
 
-// The greatest site bound of the filters, or 0.
+// Returns the greatest site bound of the filters, or 0.
 fn greatest_site(filters: &[Option<Handle>]) -> usize
     ensures value { result ≡ greatest_site_of (plain_filters filters.now) }
 {
@@ -254,7 +255,7 @@ fn greatest_site(filters: &[Option<Handle>]) -> usize
     greatest
 }
 
-// Another owner of each filter's tree.
+// Returns another owner of each filter's tree.
 fn owners(alloc: Global, filters: &[Option<Handle>]) -> Result<Vec<Option<Arc<Node>>>, NoMemory>
     ensures value { IfOk result (λ v. filter_trees v.items ≡ map
         (option_map (λ f. f.tree)) filters.now) }

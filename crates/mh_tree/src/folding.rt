@@ -14,20 +14,21 @@ use mh_type::MethodType;
 use std::alloc::Global;
 
 impl Handle {
-    /// The target on the combiner's result and all arguments (`MethodHandles.foldArguments`).
+    /// Returns the target applied to the combiner's result and all arguments
+    /// (`MethodHandles.foldArguments`).
     ///
-    /// *Type*: the target's, without its first parameter. The combiner returns that parameter's kind,
-    /// and its parameters are the first of the rest.
+    /// *Type*: that of the target, without its first parameter. The combiner returns that
+    /// parameter's kind, and its parameters are the first of the rest.
     ///
-    /// *Pseudo-code*: `adapter(a.., b..) = target(combiner(a..), a.., b..)`. A throw of the combiner is
-    /// the outcome, and the target does not run.
+    /// *Pseudo-code*: `adapter(a.., b..) = target(combiner(a..), a.., b..)`. If the combiner
+    /// throws, this is the outcome, and the target does not run.
     ///
-    /// *Example*: `iadd` with the combiner `ineg` is of type `(int)int`, and gives `int 0` on
+    /// *Example*: `iadd` with the combiner `ineg` is of type `(int)int`, and returns `int 0` for
     /// `int -2147483648`, whose negation wraps (JLS SE 17, 15.15.4).
     ///
-    /// *Refusals*: `TypeMismatch` where the target has no parameter, the combiner returns another kind
-    /// than its first, or the combiner's parameters do not begin the rest; `TooDeep`, `TooLarge`,
-    /// and `NoMemory`.
+    /// *Errors*: `TypeMismatch` if the target has no parameter, the combiner does not return the
+    /// kind of its first, or the combiner's parameters are not the first of the rest; `TooDeep`,
+    /// `TooLarge`, and `NoMemory`.
     pub fn fold(alloc: Global, target: &Handle, combiner: &Handle) -> Result<Handle, TreeFault>
         ensures value { IfOk result (λ h. fold_made target.now combiner.now ≡ Ok h) }
         ensures refused { IfErr result (λ e. Refuses (refusals
@@ -46,7 +47,8 @@ impl Handle {
     }
 }
 
-// The type of the target without the parameter that the combiner gives, where it may give it.
+// Returns the type of the target without the parameter that the combiner computes, if it may
+// compute it.
 fn fold_type(target: &Handle, combiner: &Handle) -> Result<MethodType, TreeFault>
     ensures value { MatchResult result (λ m. fold_made target.now combiner.now ≡ Ok
         (record { tree = fold_tree target.now.tree combiner.now.tree; signature = m }))

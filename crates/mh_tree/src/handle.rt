@@ -16,7 +16,7 @@ use std::fmt;
 use std::marker::Model;
 use std::sync::Arc;
 
-// An owner of a tree, and what is kept beside it.
+// An owner of a tree, with the tree's type and measures.
 #[derive(Drop)]
 pub(crate) struct Rooted {
     pub(crate) alloc: Global,
@@ -28,8 +28,8 @@ pub(crate) struct Rooted {
     pub(crate) site_bound: usize,
 }
 
-/// A shared tree that is well typed, at most 96 deep and of at most 262,144 nodes. A clone of it is
-/// `share`. No call copies a tree: the constructors take further owners of their parts.
+/// A shared tree that is well typed, at most 96 deep and with at most 262,144 nodes. To copy it,
+/// use `share`. No function copies a tree: the constructors take further owners of their parts.
 #[derive(Drop)]
 pub struct Handle {
     shared: Arc<Rooted>,
@@ -51,7 +51,8 @@ impl Model for Handle {
     ghost invariant = { IsKept };
 }
 
-/// The type of the tree, and its size: a shared tree may have more nodes than one wants to read.
+/// Shows the type of the tree, and its size instead of its nodes, of which a shared tree may have
+/// too many to read.
 impl fmt::Debug for Handle {
     fn fmt<W: fmt::Write>(&self, f: &mut fmt::Formatter<W>) -> fmt::Result {
         write!(f, "Handle({}, {} nodes)", self.method_type(), self.size())
@@ -59,7 +60,7 @@ impl fmt::Debug for Handle {
 }
 
 impl Handle {
-    // The tree in an owner, with what is kept beside it.
+    // Returns the handle of a new tree, with its type and measures.
     pub(crate) fn of(
         alloc: Global,
         root: Node,
@@ -88,7 +89,7 @@ impl Handle {
         Ok(Handle::owning(alloc, root, method_type, measures)?)
     }
 
-    // The tree of an owner, with what is kept beside it.
+    // Returns the handle of an owned tree, with its type and measures.
     fn owning(
         alloc: Global,
         root: Arc<Node>,
@@ -122,9 +123,9 @@ impl Handle {
         Ok(Handle { shared })
     }
 
-    /// A tree that was rebuilt of nodes, as a handle of its type: it has to be typed and within the
-    /// limits, as `root` says of the trees of handles. The tree is measured, in time linear in its
-    /// size. Refused with `NoMemory` alone.
+    /// Returns a tree that was rebuilt from nodes as a handle of its type. The tree must be typed
+    /// and within the limits, as `root` says of the trees of handles. It computes the tree's
+    /// measures, in time linear in its size. Fails only with `NoMemory`.
     pub fn from_root(
         alloc: Global,
         root: Arc<Node>,
@@ -138,7 +139,7 @@ impl Handle {
         Handle::owning(alloc, root, method_type.copy(), measures)
     }
 
-    /// Another owner of the tree. Refused with `NoMemory` alone.
+    /// Returns another owner of the tree. Fails only with `NoMemory`.
     pub fn share(&self) -> Result<Handle, NoMemory>
         ensures value { IfOk result (λ h. h ≡ self.now) }
     {
@@ -146,13 +147,13 @@ impl Handle {
         Ok(Handle { shared })
     }
 
-    // Where the tree's memory was taken from.
+    // Returns the allocator of the tree's memory.
     pub(crate) fn alloc(&self) -> Global {
         let shared = &self.shared;
         shared.alloc
     }
 
-    // Another owner of the root.
+    // Returns another owner of the root.
     pub(crate) fn root_owner(&self) -> Result<Arc<Node>, NoMemory>
         ensures value { IfOk result (λ a. tree_of (arc_value a) ≡ self.now.tree) }
     {
@@ -160,7 +161,7 @@ impl Handle {
         Arc::try_clone(&shared.root).map_err(|_| NoMemory)
     }
 
-    /// The tree.
+    /// Returns the tree.
     pub fn root(&self) -> &Node
         ensures value { tree_of result.now ≡ self.now.tree }
         ensures sound { IsSound self.now.tree self.now.signature }
@@ -169,7 +170,7 @@ impl Handle {
         &shared.root
     }
 
-    /// The type.
+    /// Returns the type.
     pub fn method_type(&self) -> &MethodType
         ensures value { result.now ≡ self.now.signature }
         ensures sound { IsSound self.now.tree self.now.signature }
@@ -178,7 +179,8 @@ impl Handle {
         &shared.method_type
     }
 
-    /// The depth of the tree: 1 for a leaf, and else one more than that of the deepest part.
+    /// Returns the depth of the tree: 1 for a leaf, otherwise one more than the depth of its
+    /// deepest part.
     pub fn depth(&self) -> usize
         ensures value { result ≡ tree_depth self.now.tree }
         ensures shallow { result ≤ greatest_depth }
@@ -187,7 +189,7 @@ impl Handle {
         shared.depth
     }
 
-    /// The number of nodes. A part that occurs twice is counted twice.
+    /// Returns the number of nodes. A part that occurs twice is counted twice.
     pub fn size(&self) -> usize
         ensures value { result ≡ tree_size self.now.tree }
         ensures small { result ≤ most_nodes }
@@ -196,7 +198,7 @@ impl Handle {
         shared.size
     }
 
-    /// One more than the greatest point named, or 0.
+    /// Returns one more than the greatest point named, or 0.
     pub fn point_bound(&self) -> usize
         ensures value { result ≡ tree_point_bound self.now.tree }
     {
@@ -204,7 +206,7 @@ impl Handle {
         shared.point_bound
     }
 
-    /// One more than the greatest site named, or 0.
+    /// Returns one more than the greatest site named, or 0.
     pub fn site_bound(&self) -> usize
         ensures value { result ≡ tree_site_bound self.now.tree }
     {

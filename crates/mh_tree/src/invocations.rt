@@ -14,13 +14,13 @@ use std::sync::Arc;
 pub trait InvocationTest {
     ghost holds: { Self → ℕ → Signature → Bool };
 
-    /// Whether this site may be invoked with this type.
+    /// Returns whether this site may be invoked with this type.
     fn passes(&self, site: u32, method_type: &MethodType) -> bool
         ensures value { result ≡ holds self.now site method_type.now };
 }
 
-/// Whether each invocation in the tree passes a test, in time linear in the tree's size beside the
-/// tests.
+/// Returns whether each invocation in the tree passes a test. Linear in the size of the tree,
+/// besides the tests.
 #[cycle(invocations)]
 pub fn each_invocation<T: InvocationTest>(test: &T, node: &Node) -> bool
     ensures value { result ≡ each_invoke (T.holds test.now)
@@ -73,7 +73,7 @@ pub fn each_invocation<T: InvocationTest>(test: &T, node: &Node) -> bool
     }
 }
 
-// Whether each invocation in the filters passes a test.
+// Returns whether each invocation in the filters passes a test.
 #[cycle(invocations)]
 fn each_of_filters<T: InvocationTest>(test: &T, filters: &[Option<Arc<Node>>]) -> bool
     ensures value { result ≡ each_invokes (T.holds test.now)

@@ -9,8 +9,8 @@ ghost use Rattle.mh_tree.specs.Meaning.{mean, steps};
 ghost use Rattle.mh_tree.specs.Sites.{IsLawful, MayInvoke, target_at, with_sites};
 ghost use Rattle.mh_tree.specs.Tree.{Tree};
 
-/// Where each site has a tree, and the trees are lawful, an invocation of a site means the site's
-/// tree on the same arguments, and takes the tree's steps beside its own.
+/// Proves that, if each site has a tree, and the trees are lawful, an invocation of a site means
+/// the site's tree on the same arguments, and takes the tree's steps besides its own.
 pub fn invocations_mean_trees()
     ensures means { (valid : List Bool) → (levels : List ℕ) → (targets : List TypedTree)
         → (t : Tree) → IsLawful levels targets t → (s : ℕ) → (n : Signature)

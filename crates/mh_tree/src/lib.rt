@@ -1,4 +1,4 @@
-//! Handle trees: typed, and within limits.
+//! Trees of method handles, typed and within limits.
 //!
 //! ```
 //! // f(x) = if x == 1 { 100 } else { x + 1 }

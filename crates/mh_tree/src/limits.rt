@@ -17,8 +17,8 @@ pub const DEEPEST: usize = 96;
 /// The greatest size of a handle's tree.
 pub const LARGEST: usize = 262_144;
 
-// The type of a tree of this depth and this size, where it may be made. `TooDeep` comes before
-// `TooLarge`; a `MethodType` alone has at most 16 parameters.
+// Returns the type of a tree of this depth and this size, if it may be made. `TooDeep` comes before
+// `TooLarge`; a `MethodType` has at most 16 parameters anyway.
 pub(crate) fn within_limits(
     method_type: MethodType,
     depth: usize,

@@ -1,4 +1,4 @@
-//! The measures kept beside a tree: its depth, its size, its point bound and its site bound.
+//! The measures of a tree: its depth, its size, its point bound and its site bound.
 
 ghost use Rattle.std.specs.Prelude.{◌≡◌, ◌+◌, ◌≤◌, ◌<◌, max};
 ghost use Rattle.mh_tree.specs.Limits.{depth, size, point_bound, site_bound, deepest, total_size, greatest_bound, greatest_site, most_nodes, greatest_depth};
@@ -18,7 +18,7 @@ pub(crate) struct Measures {
 }
 
 impl Measures {
-    // Of no tree.
+    // Returns the measures of no tree.
     fn nothing() -> Measures
         ensures value { result ≡ record { depth = 0; size = 0; point_bound = 0; site_bound = 0 } }
     {
@@ -30,7 +30,7 @@ impl Measures {
         }
     }
 
-    // Of these trees and others.
+    // Returns the measures of these trees and others together.
     fn and(self, others: Measures) -> Measures
         requires few { self.size + others.size ≤ most_nodes }
         ensures value { result ≡ record {
@@ -49,7 +49,7 @@ impl Measures {
         }
     }
 
-    // Measures of a node with these children.
+    // Returns the measures of a node with these children.
     fn over(self) -> Measures
         requires few { self.size < most_nodes }
         requires shallow { self.depth < greatest_depth }
@@ -69,7 +69,7 @@ impl Measures {
         }
     }
 
-    // Measures of a point with these children.
+    // Returns the measures of a point with these children.
     fn over_point(self, point: u32) -> Measures
         requires few { self.size < most_nodes }
         requires shallow { self.depth < greatest_depth }
@@ -95,7 +95,7 @@ impl Measures {
         }
     }
 
-    // Measures of an invocation.
+    // Returns the measures of an invocation.
     fn of_site(site: u32) -> Measures
         ensures value { result ≡ record {
           depth = 1;
@@ -113,7 +113,7 @@ impl Measures {
     }
 }
 
-/// The measures of a node's tree, in time linear in its size.
+/// Returns the measures of a node's tree. Linear in its size.
 #[cycle(measures)]
 pub(crate) fn measure(node: &Node) -> Measures
     requires shallow { depth (tree_of node.now) ≤ greatest_depth }
@@ -155,7 +155,7 @@ pub(crate) fn measure(node: &Node) -> Measures
     }
 }
 
-// The measures of the filters that are present.
+// Returns the measures of the filters that are present.
 #[cycle(measures)]
 fn measure_filters(filters: &[Option<Arc<Node>>]) -> Measures
     requires shallow { deepest (filters_of (filter_trees filters.now)) ≤ greatest_depth }

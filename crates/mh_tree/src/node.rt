@@ -12,9 +12,9 @@ ghost use Rattle.mh_type.specs.Limits.{most_parameters};
 use mh_type::{Kind, MethodType, Op, Value};
 use std::sync::Arc;
 
-/// A tree of combinators, one variant for each. A node owns its parts together with other nodes and
-/// handles. A node alone is no handle: `Handle` lends nodes of trees that are typed and within
-/// limits.
+/// A tree of combinators, with one variant for each. A node is one of several owners of its parts,
+/// with other nodes and handles. A node by itself is not a handle: `Handle` lends nodes of trees
+/// that are typed and within limits.
 #[derive(Debug, Drop)]
 pub enum Node {
     /// `MethodHandles.constant`.
@@ -41,7 +41,7 @@ pub enum Node {
         new_type: MethodType,
         reorder: Vec<usize>,
     },
-    /// `MethodHandles.filterArguments`; no filter leaves the argument.
+    /// `MethodHandles.filterArguments`; `None` in place of a filter leaves the argument unchanged.
     Filter {
         target: Arc<Node>,
         position: usize,
@@ -77,8 +77,8 @@ pub enum Node {
 }
 
 impl Node {
-    /// The type of the node's tree, which is typed, as that of each node of a handle's tree is. It
-    /// is computed from the parts, in time linear in the size.
+    /// Returns the type of the node's tree. The tree must be typed, as that of each node of a
+    /// handle's tree is. The type is computed from the parts, in time linear in the size.
     pub fn method_type(&self) -> MethodType
         requires typed { (m : Signature) × IsTyped (tree_of self.now) m }
         ensures value { result ≡ type_of (tree_of self.now) }
@@ -87,7 +87,7 @@ impl Node {
         self.computed_type()
     }
 
-    // Whether it has no parts.
+    // Returns whether the node has no parts.
     pub(crate) fn is_leaf(&self) -> bool {
         match self {
             Node::Constant(_) | Node::Identity(_) | Node::Operation(_) | Node::Invoke { .. } =>
@@ -96,7 +96,7 @@ impl Node {
         }
     }
 
-    // The type, computed from the parts.
+    // Returns the type, computed from the parts.
     #[cycle(types)]
     fn computed_type(&self) -> MethodType
         requires typed { (m : Signature) × IsTyped (tree_of self.now) m }
@@ -139,7 +139,7 @@ impl Node {
     }
 }
 
-// The target's type with each filter's parameter in its place.
+// Returns the target's type with each filter's parameter in its place.
 #[cycle(types)]
 fn filtered_type(target: MethodType, position: usize, filters: &[Option<Arc<Node>>]) -> MethodType
     requires typed { (new : List Kind) × AreTyped (filters_of (filter_trees filters.now))
@@ -161,7 +161,7 @@ fn filtered_type(target: MethodType, position: usize, filters: &[Option<Arc<Node
     made
 }
 
-// The type with another kind of one parameter.
+// Returns the type with the kind of one parameter replaced.
 pub(crate) fn with_parameter(method_type: &MethodType, place: usize, kind: Kind) -> MethodType
     requires inside { place < length method_type.now.parameters }
     requires few { length method_type.now.parameters ≤ most_parameters }

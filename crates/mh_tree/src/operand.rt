@@ -1,14 +1,14 @@
-//! What a piece of code reads.
+//! Operands of a piece of code.
 
 use mh_type::Value;
 
-/// Where a value stands.
+/// The origin of a value.
 #[derive(Debug, Drop)]
 pub enum Operand {
     /// An argument of the call.
     Argument(u32),
-    /// A local: a result that the call keeps, counted from the first.
+    /// A local: a result that the call stores, numbered from 0.
     Local(u32),
-    /// A value of its own.
+    /// A constant.
     Constant(Value),
 }

@@ -16,20 +16,21 @@ use mh_type::{Kind, MethodType};
 use std::alloc::Global;
 
 impl Handle {
-    /// The target on reordered arguments (`MethodHandles.permuteArguments`).
+    /// Returns the target applied to reordered arguments (`MethodHandles.permuteArguments`).
     ///
-    /// *Type*: the new type. It returns what the target does, and its parameter `reorder[i]` is of the
-    /// kind of the target's parameter i.
+    /// *Type*: the new type. It returns what the target returns, and its parameter `reorder[i]` is
+    /// of the kind of the target's parameter i.
     ///
     /// *Pseudo-code*: `adapter(a..) = target(a[reorder[0]], a[reorder[1]], ..)`. An argument may be
     /// passed more than once, or not at all.
     ///
-    /// *Example*: `imul` with the new type `(int)int` and the reordering 0, 0 gives `int 0` on
+    /// *Example*: `imul` with the new type `(int)int` and the reordering 0, 0 returns `int 0` for
     /// `int 65536`, whose square wraps (JLS SE 17, 15.17.1).
     ///
-    /// *Refusals*: `BadReorder` where the reordering has not one entry for each parameter of the
-    /// target, or names no parameter of the new type; `TypeMismatch` where the returns or the kinds
-    /// of a parameter and of what is passed there differ; `TooDeep`, `TooLarge`, and `NoMemory`.
+    /// *Errors*: `BadReorder` if the reordering does not have exactly one entry for each parameter
+    /// of the target, or names a parameter that the new type does not have; `TypeMismatch` if the
+    /// return kinds differ, or the kinds of a parameter and of what is passed for it; `TooDeep`,
+    /// `TooLarge`, and `NoMemory`.
     pub fn permute(
         alloc: Global,
         target: &Handle,
@@ -59,7 +60,7 @@ impl Handle {
     }
 }
 
-// The new type, where the target may be called on its arguments in this order.
+// Returns the new type, if the target may be called on its arguments in this order.
 fn permute_type(
     target: &Handle,
     new_type: &MethodType,
@@ -87,14 +88,14 @@ fn permute_type(
     within_limits(new_type.copy(), 1 + target.depth(), 1 + target.size())
 }
 
-// Whether each of the places is below a count.
+// Returns whether each of the positions is below a count.
 fn are_below(places: &[usize], count: usize) -> bool
     ensures value { result ≡ list_all (λ i. nat_lt i count) places.now }
 {
     places.iter().all(|place| *place < count)
 }
 
-// Whether the kinds at these places are the wanted ones, in order.
+// Returns whether the kinds at these positions are the wanted ones, in order.
 fn gives_kinds(kinds: &[Kind], places: &[usize], wanted: &[Kind]) -> bool
     requires as_many { length places.now ≡ length wanted.now }
     requires inside { All (λ i. i < length kinds.now) places.now }

@@ -1,4 +1,4 @@
--- The bytes of a text, wherever they stand.
+-- The bytes of a text, wherever they are stored.
 use Rattle.std.specs.Prelude.{ℕ, List, string_bytes}
 use Rattle.mh_type.specs.declared.text.Characters.{Characters}
 use Rattle.mh_type.specs.declared.text.Characters.TheVariants.{Inline, Apart}

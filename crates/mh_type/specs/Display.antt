@@ -37,7 +37,7 @@ op_name Concat = codes "concat"
 op_name Seq = codes "seq"
 op_name Len = codes "len"
 
--- a byte between quotes: 34 is a quote, 92 a backslash, and each has a backslash before it
+-- a byte between quotes: 34 is a quote, 92 a backslash, and each is preceded by a backslash
 abbrev pub escaped : ℕ → List ℕ
 escaped b = if b == 34 || b == 92 then 92 ∷ b ∷ [] else b ∷ []
 
@@ -45,7 +45,7 @@ escaped b = if b == 34 || b == 92 then 92 ∷ b ∷ [] else b ∷ []
 abbrev pub quoted : List ℕ → List ℕ
 quoted text = 34 ∷ flat_map escaped text ++ 34 ∷ []
 
--- a value: its kind, and what it is
+-- a value: its kind, and its content
 abbrev pub value_text : value.Value → List ℕ
 value_text (Int z) = codes "int " ++ signed_decimal z
 value_text (Long z) = codes "long " ++ signed_decimal z
@@ -53,12 +53,12 @@ value_text (Boolean true) = codes "boolean true"
 value_text (Boolean false) = codes "boolean false"
 value_text (Text bytes) = codes "String " ++ quoted bytes
 
--- the name of what is thrown
+-- the name of an exception
 abbrev pub throw_name : Throw → List ℕ
 throw_name ArithmeticException = codes "ArithmeticException"
 throw_name TextTooLong = codes "TextTooLong"
 
--- what a call ends with
+-- the outcome of a call
 abbrev pub outcome_text : Outcome → List ℕ
 outcome_text (Value value) = value_text value
 outcome_text (Thrown thrown) = codes "thrown " ++ throw_name thrown

@@ -29,11 +29,11 @@ kinds =
     ∷ (codes "String", Some kind.Text)
     ∷ []
 
--- the kind of a name
+-- the kind with a name
 abbrev pub kind_named : List ℕ → Option Kind
 kind_named name = at_word kinds name None
 
--- whether two kinds are one, as a test that computes
+-- whether two kinds are equal, as a test that computes
 abbrev pub kind_eq : Kind → Kind → Bool
 kind_eq kind.Int kind.Int = true
 kind_eq kind.Long kind.Long = true
@@ -41,7 +41,7 @@ kind_eq kind.Boolean kind.Boolean = true
 kind_eq kind.Text kind.Text = true
 kind_eq _ _ = false
 
--- whether two lists of kinds are one
+-- whether two lists of kinds are equal
 abbrev pub kinds_eq : List Kind → List Kind → Bool
 kinds_eq [] [] = true
 kinds_eq [] (j ∷ js) = false

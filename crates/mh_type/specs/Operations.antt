@@ -44,11 +44,11 @@ operations =
     ∷ (codes "len", Some Len)
     ∷ []
 
--- the operation of a name
+-- the operation with a name
 abbrev pub op_named : List ℕ → Option Op
 op_named name = at_word operations name None
 
--- from two parameters of a kind, and from one
+-- the types with two parameters of a kind, and with one
 abbrev pub two : Kind → Kind → Signature
 two k ret = record { ret = ret; parameters = k ∷ k ∷ [] }
 
@@ -91,7 +91,7 @@ long_result z = outcome.Value (Long (int_wrap w64 z))
 abbrev pub truth : Bool → Outcome
 truth b = outcome.Value (Boolean b)
 
--- what arguments of other kinds give, which no typed tree meets
+-- the outcome for arguments of other kinds, which typed trees never pass
 abbrev pub misfit : Outcome
 misfit = outcome.Value (Boolean false)
 
@@ -138,7 +138,7 @@ one_int a go = first a (λ x. with_int x go)
 abbrev pub one_long : List Value → (ℤ → Outcome) → Outcome
 one_long a go = first a (λ x. with_long x go)
 
--- equal numbers (15.21.1), and truth values (15.21.2)
+-- equal numbers (15.21.1), and booleans (15.21.2)
 abbrev pub is_zero : ℤ → Bool
 is_zero z = not (int_lt z (pos 0)) && not (int_lt (pos 0) z)
 
@@ -149,11 +149,11 @@ abbrev pub truth_eq : Bool → Bool → Bool
 truth_eq true c = c
 truth_eq false c = not c
 
--- the result of a division, and a throw where the divisor is zero (15.17.2, 15.17.3)
+-- the result of a division, or a throw if the divisor is zero (15.17.2, 15.17.3)
 abbrev pub divided : (ℤ → Value) → (ℤ → ℤ → ℤ) → ℤ → ℤ → Outcome
 divided make by x y = if is_zero y then outcome.Thrown ArithmeticException else outcome.Value (make (by x y))
 
--- one text and then the other (15.18.1), and a throw past 65,536 bytes
+-- the concatenation of two texts (15.18.1), or a throw if it is longer than 65,536 bytes
 abbrev pub joined : List ℕ → List ℕ → Outcome
 joined s t = if nat_le (length s + length t) longest_text then outcome.Value (Text (s ++ t)) else outcome.Thrown TextTooLong
 

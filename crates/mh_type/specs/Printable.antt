@@ -19,11 +19,11 @@ is_printable byte = nat_le 0x20 byte && nat_le byte 0x7E
 abbrev pub is_text : List ℕ → Bool
 is_text bytes = nat_le (length bytes) longest_text && list_all is_printable bytes
 
--- what a text of these bytes may be refused with: memory comes last
+-- the faults of making a text of these bytes: memory comes last
 abbrev pub RefusesText : List ℕ → TypeFault → Type 0
 RefusesText bytes e = ((e ≡ BadText) × (is_text bytes ≡ false)) ⊎ ((e ≡ NoMemory) × (is_text bytes ≡ true))
 
--- what the text of one and then another may be refused with: memory comes last
+-- the faults of concatenating two texts: memory comes last
 abbrev pub RefusesConcat : List ℕ → List ℕ → TypeFault → Type 0
 RefusesConcat s t e =
     ((e ≡ BadText) × (longest_text < length s + length t)) ⊎ ((e ≡ NoMemory) × (length s + length t ≤ longest_text))

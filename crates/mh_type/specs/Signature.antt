@@ -7,14 +7,14 @@ pub record Signature : Type 0 where
   pub ret : Kind
   pub parameters : List Kind
 
--- whether two types are one: all parts are (`MethodType.equals`)
+-- whether two types are equal, that is, all their parts are (`MethodType.equals`)
 abbrev pub signature_eq : Signature → Signature → Bool
 signature_eq a b = kind_eq a.ret b.ret && kinds_eq a.parameters b.parameters
 
--- the list with these elements put in before the place (`MethodType.insertParameterTypes`)
+-- the list with these elements inserted before an index (`MethodType.insertParameterTypes`)
 abbrev pub with_parameters : List Kind → ℕ → List Kind → List Kind
 with_parameters kinds place more = take place kinds ++ (more ++ drop place kinds)
 
--- the list without so many elements from the place on (`MethodType.dropParameterTypes`)
+-- the list without `count` elements from an index on (`MethodType.dropParameterTypes`)
 abbrev pub without_parameters : List Kind → ℕ → ℕ → List Kind
 without_parameters kinds place count = take place kinds ++ drop (place + count) kinds

@@ -9,7 +9,7 @@ abbrev pub same_truth : Bool → Bool → Bool
 same_truth true b = b
 same_truth false b = not b
 
--- of one kind, and equal
+-- equal values of the same kind
 abbrev pub same_value : Value → Value → Bool
 same_value (Int x) (Int y) = int_eq x y
 same_value (Long x) (Long y) = int_eq x y

@@ -18,12 +18,12 @@ abbrev pub written : Signature → List ℕ
 written m = 40 ∷ listed m.parameters ++ (41 ∷ kind_name m.ret)
 
 infixl 10 ◌>>=◌
--- goes on with what is there
+-- continues with a value, if there is one
 abbrev pub ◌>>=◌ : {A B : Type 0} → Option A → (A → Option B) → Option B
 None >>= go = None
 (Some x) >>= go = go x
 
--- the kinds of these names, where each names one
+-- the kinds with these names, if each names one
 abbrev pub kinds_named : List (List ℕ) → Option (List Kind)
 kinds_named [] = Some []
 kinds_named (name ∷ names) = do
@@ -50,7 +50,7 @@ with_list ret list = do
 abbrev pub parameters_read : Kind → List ℕ → Result Signature TypeFault
 parameters_read ret list = within_parameters (with_list ret list)
 
--- what stands behind `(`: the list up to the first `)`, and then the return kind
+-- the rest of the text after `(`: the list up to the first `)`, and then the return kind
 abbrev pub signature_behind : List ℕ → Option Signature
 signature_behind bs = do
   ret ← kind_named (after_first (λ c. c == 41) bs)
@@ -61,6 +61,6 @@ abbrev pub signature_in : List ℕ → Option Signature
 signature_in [] = None
 signature_in (b ∷ bs) = if b == 40 then signature_behind bs else None
 
--- what reading a text gives: that this is the inverse of `written` is a law of `MethodType::parse`
+-- the result of reading a text: it is a law of `MethodType::parse` that this is the inverse of `written`
 abbrev pub parsed : List ℕ → Result Signature TypeFault
 parsed text = within_parameters (signature_in text)

@@ -1,9 +1,9 @@
-//! Laws of what crosses threads.
+//! Laws about types that cross threads.
 
 ghost use Rattle.mh_type.specs.Laws.Crossing.{ValuesCross};
 
-/// Kinds, method types, operations and values may go to another thread, and threads may share them,
-/// alone and as parts of what holds them.
+/// Proves that kinds, method types, operations and values can be sent to another thread and shared
+/// between threads, alone and as parts of other values.
 pub fn values_cross_threads()
     ensures values { ValuesCross }
 {}

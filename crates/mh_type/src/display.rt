@@ -14,7 +14,7 @@ use crate::outcome::{Outcome, Throw};
 use crate::value::Value;
 use std::fmt;
 
-/// The name, as `int`.
+/// Writes the name, as `int`.
 impl fmt::Display for Kind {
     ghost output = { λ kind. Some (kind_name kind) };
 
@@ -23,7 +23,7 @@ impl fmt::Display for Kind {
     }
 }
 
-/// The name, as `iadd`.
+/// Writes the name, as `iadd`.
 impl fmt::Display for Op {
     ghost output = { λ op. Some (op_name op) };
 
@@ -32,7 +32,7 @@ impl fmt::Display for Op {
     }
 }
 
-/// The text of the type, as `(int,String)long`, which `MethodType::parse` reads.
+/// Writes the text of the type, as `(int,String)long`, which `MethodType::parse` reads.
 impl fmt::Display for MethodType {
     ghost output = { λ m. Some (written m) };
 
@@ -44,7 +44,7 @@ impl fmt::Display for MethodType {
     }
 }
 
-// The names of kinds with commas between them.
+// Writes the names of kinds, with commas between them.
 fn write_kinds<W: fmt::Write>(kinds: &[Kind], f: &mut fmt::Formatter<W>) -> fmt::Result
     ensures text { WritesOnOk W.write_str_gives f.old result (listed kinds.now) f.new }
 {
@@ -55,7 +55,7 @@ fn write_kinds<W: fmt::Write>(kinds: &[Kind], f: &mut fmt::Formatter<W>) -> fmt:
     write_more(others, f)
 }
 
-// A comma and a name for each of these kinds.
+// Writes a comma and a name for each of these kinds.
 fn write_more<W: fmt::Write>(kinds: &[Kind], f: &mut fmt::Formatter<W>) -> fmt::Result
     ensures text { WritesOnOk W.write_str_gives f.old result
         (flat_map (λ k. 44 ∷ kind_name k) kinds.now) f.new }
@@ -67,8 +67,8 @@ fn write_more<W: fmt::Write>(kinds: &[Kind], f: &mut fmt::Formatter<W>) -> fmt::
     Ok(())
 }
 
-/// The kind and what the value is, as `int -1`, `boolean true`, or `String "ab"`, where a quote and
-/// a backslash have a backslash before them.
+/// Writes the kind and the value, as `int -1`, `boolean true`, or `String "ab"`, with a backslash
+/// before each quote and backslash.
 impl fmt::Display for Value {
     ghost output = { λ value. Some (value_text value) };
 
@@ -86,7 +86,7 @@ impl fmt::Display for Value {
     }
 }
 
-// Bytes of ASCII between quotes, with a backslash before each quote and backslash.
+// Writes ASCII bytes between quotes, with a backslash before each quote and backslash.
 fn write_quoted<W: fmt::Write>(text: &[u8], f: &mut fmt::Formatter<W>) -> fmt::Result
     requires ascii { All (λ b. b < 128) text.now }
     ensures text { WritesOnOk W.write_str_gives f.old result (quoted text.now) f.new }
@@ -96,7 +96,7 @@ fn write_quoted<W: fmt::Write>(text: &[u8], f: &mut fmt::Formatter<W>) -> fmt::R
     f.write_char('"')
 }
 
-// Bytes of ASCII, with a backslash before each quote and backslash.
+// Writes ASCII bytes, with a backslash before each quote and backslash.
 fn write_escaped<W: fmt::Write>(text: &[u8], f: &mut fmt::Formatter<W>) -> fmt::Result
     requires ascii { All (λ b. b < 128) text.now }
     ensures text { WritesOnOk W.write_str_gives f.old result (flat_map escaped text.now) f.new }
@@ -110,7 +110,7 @@ fn write_escaped<W: fmt::Write>(text: &[u8], f: &mut fmt::Formatter<W>) -> fmt::
     Ok(())
 }
 
-/// The name of the exception, as `ArithmeticException`.
+/// Writes the name of the exception, as `ArithmeticException`.
 impl fmt::Display for Throw {
     ghost output = { λ thrown. Some (throw_name thrown) };
 
@@ -122,7 +122,7 @@ impl fmt::Display for Throw {
     }
 }
 
-/// The value, or `thrown` and the exception.
+/// Writes the value, or `thrown` and the exception.
 impl fmt::Display for Outcome {
     ghost output = { λ outcome. Some (outcome_text outcome) };
 

@@ -14,7 +14,7 @@ pub enum Kind {
 }
 
 impl Kind {
-    /// The name of the kind: `int`, `long`, `boolean` or `String`.
+    /// Returns the name of the kind: `int`, `long`, `boolean` or `String`.
     pub fn name(self) -> &'static str
         ensures value { result.now ≡ kind_name self }
     {
@@ -26,7 +26,7 @@ impl Kind {
         }
     }
 
-    /// The kind of a name, or none.
+    /// Returns the kind with a name, or `None` if there is none.
     pub fn from_name(name: &str) -> Option<Kind>
         ensures value { result ≡ kind_named name.now }
     {
@@ -39,7 +39,7 @@ impl Kind {
         }
     }
 
-    /// Whether both kinds are one.
+    /// Returns whether both kinds are equal.
     pub fn is(self, other: Kind) -> bool
         ensures value { result ≡ kind_eq self other }
         ensures same { IsTrue result ↔ (self ≡ other) }

@@ -15,8 +15,8 @@ use std::marker::Model;
 /// The greatest number of parameters.
 pub const MOST_PARAMETERS: usize = 16;
 
-/// A method type: a return kind and at most 16 parameter kinds (`java.lang.invoke.MethodType`).
-/// It takes no memory of its own.
+/// A method type: a return kind and at most 16 parameter kinds (`java.lang.invoke.MethodType`). It
+/// is stored without allocating.
 #[derive(Drop)]
 pub struct MethodType {
     result_kind: Kind,
@@ -37,7 +37,7 @@ impl Model for MethodType {
 }
 
 impl MethodType {
-    /// The type of these parts.
+    /// Returns the type of these parts. Fails with `TooManyParameters` if there are more than 16.
     pub fn new(ret: Kind, parameters: &[Kind]) -> Result<MethodType, TypeFault>
         ensures value { IfOk result (λ m. (m ≡ record { ret = ret; parameters = parameters.now })
             × (length parameters.now ≤ most_parameters)) }
@@ -52,7 +52,7 @@ impl MethodType {
         Ok(made)
     }
 
-    // One more parameter at the end.
+    // Appends a parameter.
     pub(crate) fn push(&mut self, kind: Kind)
         requires inside { length self.old.parameters < most_parameters }
         ensures value { self.new ≡ record {
@@ -65,7 +65,7 @@ impl MethodType {
         self.count += 1;
     }
 
-    // More parameters at the end.
+    // Appends parameters.
     fn extend(&mut self, kinds: &[Kind])
         requires inside { length self.old.parameters + length kinds.now ≤ most_parameters }
         ensures value { self.new ≡ record {
@@ -79,7 +79,7 @@ impl MethodType {
         }
     }
 
-    /// A copy of the type.
+    /// Returns a copy of the type.
     pub fn copy(&self) -> MethodType
         ensures value { result ≡ self.now }
     {
@@ -90,14 +90,14 @@ impl MethodType {
         }
     }
 
-    /// The return kind.
+    /// Returns the return kind.
     pub fn ret(&self) -> Kind
         ensures value { result ≡ self.now.ret }
     {
         self.result_kind
     }
 
-    /// The number of parameters.
+    /// Returns the number of parameters.
     pub fn count(&self) -> usize
         ensures value { result ≡ length self.now.parameters }
         ensures few { length self.now.parameters ≤ most_parameters }
@@ -105,7 +105,7 @@ impl MethodType {
         self.parameters().len()
     }
 
-    /// The kind of a parameter.
+    /// Returns the kind of a parameter.
     pub fn parameter(&self, place: usize) -> Kind
         requires inside { place < length self.now.parameters }
         ensures value { result ≡ slice_index_or self.now.parameters place result }
@@ -113,7 +113,7 @@ impl MethodType {
         self.kinds[place]
     }
 
-    /// The kinds of the parameters.
+    /// Returns the kinds of the parameters.
     pub fn parameters(&self) -> &[Kind]
         ensures value { result.now ≡ self.now.parameters }
         ensures few { length self.now.parameters ≤ most_parameters }
@@ -121,7 +121,8 @@ impl MethodType {
         &self.kinds[..self.count]
     }
 
-    /// The type with these parameters put in before the place.
+    /// Returns the type with these parameters inserted before an index. Fails with
+    /// `TooManyParameters` if there would be more than 16.
     pub fn insert(&self, place: usize, more: &[Kind]) -> Result<MethodType, TypeFault>
         requires inside { place ≤ length self.now.parameters }
         ensures value { IfOk result (λ m. (m ≡ record
@@ -141,7 +142,7 @@ impl MethodType {
         Ok(made)
     }
 
-    /// The type without so many parameters from the place on.
+    /// Returns the type without `count` parameters from an index on.
     pub fn remove(&self, place: usize, count: usize) -> MethodType
         requires inside { place + count ≤ length self.now.parameters }
         ensures value { result ≡ record {
@@ -157,7 +158,7 @@ impl MethodType {
         made
     }
 
-    /// The same type with another return kind.
+    /// Returns the same type with another return kind.
     pub fn returning(&self, ret: Kind) -> MethodType
         ensures value { result ≡ record { ret = ret; parameters = self.now.parameters } }
     {
@@ -168,7 +169,7 @@ impl MethodType {
         }
     }
 
-    /// Whether both types are one: all their parts are.
+    /// Returns whether both types are equal, that is, all their parts are.
     pub fn equals(&self, other: &MethodType) -> bool
         ensures value { result ≡ signature_eq self.now other.now }
         ensures same { IsTrue result ↔ (self.now ≡ other.now) }
@@ -176,8 +177,8 @@ impl MethodType {
         self.ret().is(other.ret()) && same_kinds(self.parameters(), other.parameters())
     }
 
-    /// The text of the type, as `(int,String)long`: `(`, the parameter kinds with commas between
-    /// them, `)`, and the return kind, with no spaces. Refused with `NoMemory` alone.
+    /// Returns the text of the type, as `(int,String)long`: `(`, the parameter kinds with commas
+    /// between them, `)`, and the return kind, without spaces. Fails only with `NoMemory`.
     pub fn write(&self, alloc: Global) -> Result<String, TypeFault>
         ensures value { IfOk result (λ s. string_bytes s ≡ written self.now) }
         ensures refused { IfErr result (λ e. e ≡ TypeFault.NoMemory) }
@@ -185,7 +186,7 @@ impl MethodType {
         format!(in alloc; "{self}").map_err(|_| TypeFault::NoMemory)
     }
 
-    /// The type with no parameters.
+    /// Returns the type without parameters.
     pub fn nullary(ret: Kind) -> MethodType
         ensures value { result ≡ record { ret = ret; parameters = [] } }
     {
@@ -196,7 +197,7 @@ impl MethodType {
         }
     }
 
-    /// The type with one parameter.
+    /// Returns the type with one parameter.
     pub fn unary(parameter: Kind, ret: Kind) -> MethodType
         ensures value { result ≡ record { ret = ret; parameters = parameter ∷ [] } }
     {
@@ -205,7 +206,7 @@ impl MethodType {
         made
     }
 
-    /// Whether these are the first parameters, in order.
+    /// Returns whether these are the first parameters, in order.
     pub fn begins_with(&self, first: &[Kind]) -> bool
         ensures value { result ≡ kinds_eq first.now (take (length first.now) self.now.parameters) }
         ensures same { IsTrue result ↔ (first.now ≡ take (length first.now) self.now.parameters) }
@@ -244,14 +245,14 @@ impl Eq for MethodType {
         (on_equiv (λ m. m.parameters) (lists_equiv (Prim.search (comparing, rules)))) };
 }
 
-/// The text of the type, as `Display` writes it.
+/// Writes the text of the type, as `Display` does.
 impl fmt::Debug for MethodType {
     fn fmt<W: fmt::Write>(&self, f: &mut fmt::Formatter<W>) -> fmt::Result {
         write!(f, "{self}")
     }
 }
 
-/// Whether two lists of kinds are one.
+/// Returns whether two lists of kinds are equal.
 pub fn same_kinds(some: &[Kind], others: &[Kind]) -> bool
     ensures value { result ≡ kinds_eq some.now others.now }
     ensures same { IsTrue result ↔ (some.now ≡ others.now) }
@@ -259,7 +260,7 @@ pub fn same_kinds(some: &[Kind], others: &[Kind]) -> bool
     some == others
 }
 
-/// Whether a list of kinds begins with another.
+/// Returns whether a list of kinds begins with another.
 pub fn begins_with(kinds: &[Kind], first: &[Kind]) -> bool
     ensures value { result ≡ kinds_eq first.now (take (length first.now) kinds.now) }
     ensures same { IsTrue result ↔ (first.now ≡ take (length first.now) kinds.now) }

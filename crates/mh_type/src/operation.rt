@@ -7,9 +7,9 @@ ghost use Rattle.mh_type.specs.Display.{op_name};
 use crate::kind::Kind;
 use crate::method_type::MethodType;
 
-/// A leaf operation. What each gives is defined after the Java Language Specification, Java SE 17:
+/// A leaf operation. The results are defined as in the Java Language Specification, Java SE 17:
 /// sums, differences, products and negations wrap (15.18.2, 15.17.1, 15.15.4), division truncates
-/// towards zero and throws on a zero divisor (15.17.2), the remainder has the dividend's sign
+/// towards zero and throws if the divisor is zero (15.17.2), the remainder has the dividend's sign
 /// (15.17.3), and conversions widen (5.1.2) or keep the low bits (5.1.3).
 #[derive(Clone, Copy, Debug, PartialEq, Eq)]
 pub enum Op {
@@ -39,7 +39,7 @@ pub enum Op {
 }
 
 impl Op {
-    /// The name of the operation, as `iadd`, of which `from_name` gives the operation.
+    /// Returns the name of the operation, as `iadd`. `from_name` is its inverse.
     pub fn name(self) -> &'static str
         ensures value { result.now ≡ op_name self }
         ensures read { op_named result.now ≡ Some self }
@@ -71,7 +71,7 @@ impl Op {
         }
     }
 
-    /// The operation of a name, as `iadd`, or none.
+    /// Returns the operation with a name, as `iadd`, or `None` if there is none.
     pub fn from_name(name: &str) -> Option<Op>
         ensures value { result ≡ op_named name.now }
     {
@@ -103,7 +103,7 @@ impl Op {
         }
     }
 
-    /// The operation's type.
+    /// Returns the operation's type.
     pub fn op_type(self) -> MethodType
         ensures value { result ≡ op_signature self }
     {
@@ -125,7 +125,7 @@ impl Op {
     }
 }
 
-// The type of two parameters of a kind.
+// Returns the type with two parameters of a kind.
 fn binary(kind: Kind, ret: Kind) -> MethodType
     ensures value { result ≡ record { ret = ret; parameters = kind ∷ kind ∷ [] } }
 {

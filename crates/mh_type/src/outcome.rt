@@ -1,17 +1,17 @@
-//! What a call ends with.
+//! Outcomes of a call.
 
 use crate::value::Value;
 
-/// What a call throws, after the exceptions of Java SE 17.
+/// An exception that a call throws, modelled on the exceptions of Java SE 17.
 #[derive(Clone, Copy, Debug, PartialEq, Eq)]
 pub enum Throw {
-    /// A division of whole numbers by zero (JLS SE 17, 15.17.2).
+    /// An integer was divided by zero (JLS SE 17, 15.17.2).
     ArithmeticException,
-    /// A joined text past 65,536 bytes.
+    /// A joined text would be longer than 65,536 bytes.
     TextTooLong,
 }
 
-/// A value or a throw.
+/// The outcome of a call: a value or a throw.
 #[derive(Debug, PartialEq, Eq, Drop)]
 pub enum Outcome {
     Value(Value),

@@ -12,14 +12,14 @@ use std::fmt;
 use std::marker::Model;
 use std::sync::Arc;
 
-/// The bytes of the longest text.
+/// The greatest number of bytes of a text.
 pub const LONGEST_TEXT: usize = 65536;
 
-/// The bytes of the longest text that takes one block of memory.
+/// The greatest number of bytes of a text that takes a single block of memory.
 const LONGEST_INLINE: usize = 32;
 
-/// A text that its owners share: at most 65,536 bytes of printable ASCII. Up to 32 bytes stand
-/// beside the count of its owners.
+/// A text that its owners share: at most 65,536 bytes of printable ASCII. Up to 32 bytes are stored
+/// next to the reference count.
 #[derive(Drop)]
 pub struct Text {
     shared: Arc<Characters>,
@@ -28,9 +28,9 @@ pub struct Text {
 // The characters of a text.
 #[derive(Drop)]
 enum Characters {
-    // Up to 32 bytes, beside the count of owners.
+    // Up to 32 bytes, stored next to the reference count.
     Inline(ArrayString<LONGEST_INLINE>),
-    // More, in a block of their own.
+    // More bytes, in a block of their own.
     Apart(String),
 }
 
@@ -48,10 +48,10 @@ impl Model for Text {
 }
 
 impl Text {
-    /// The text of these bytes.
+    /// Returns the text of these bytes.
     ///
-    /// Refused with `BadText` exactly where there are more than 65,536 bytes or one is not from
-    /// 0x20 to 0x7E, and with `NoMemory` if an allocation is refused.
+    /// Fails with `BadText` if and only if there are more than 65,536 bytes or one is not in 0x20
+    /// to 0x7E, and with `NoMemory` if an allocation is refused.
     #[tactic(auto, using(crate::proofs::Texts::is_text_from, crate::proofs::Texts::is_text_not, crate::proofs::Texts::then_nothing))]
     pub fn new(alloc: Global, text: &str) -> Result<Text, TypeFault>
         ensures value { IfOk result (λ t. (t ≡ text.now) × (is_text_bytes text.now ≡ true)) }
@@ -65,10 +65,11 @@ impl Text {
         Ok(Text { shared })
     }
 
-    /// One text and then another, whose bytes are written once, into room for just so many.
+    /// Returns the concatenation of two texts. It writes each byte once, into memory of exactly the
+    /// size needed.
     ///
-    /// Refused with `BadText` exactly where they are more than 65,536 together, and else with
-    /// `NoMemory` alone, if an allocation is refused.
+    /// Fails with `BadText` if and only if they have more than 65,536 bytes together, and otherwise
+    /// only with `NoMemory`, if an allocation is refused.
     #[tactic(auto, using(crate::proofs::Texts::concat_is_text))]
     pub fn concat(alloc: Global, some: &Text, more: &Text) -> Result<Text, TypeFault>
         ensures value { IfOk result (λ t. t ≡ some.now ++ more.now) }
@@ -84,7 +85,7 @@ impl Text {
         Ok(Text { shared })
     }
 
-    /// Another owner of the text. Refused with `NoMemory` alone.
+    /// Returns another owner of the text. Fails only with `NoMemory`.
     pub fn share(&self) -> Result<Text, TypeFault>
         ensures value { IfOk result (λ t. t ≡ self.now) }
         ensures refused { IfErr result (λ e. e ≡ TypeFault.NoMemory) }
@@ -93,7 +94,7 @@ impl Text {
         Ok(Text { shared })
     }
 
-    /// The bytes.
+    /// Returns the bytes.
     pub fn as_str(&self) -> &str
         ensures value { result.now ≡ self.now }
         ensures is_text { IsText self.now }
@@ -103,7 +104,7 @@ impl Text {
 }
 
 impl Characters {
-    // The bytes.
+    // Returns the bytes.
     fn as_str(&self) -> &str
         ensures value { result.now ≡ bytes_of self.now }
     {
@@ -114,7 +115,7 @@ impl Characters {
     }
 }
 
-// One text and then another, each written once.
+// Returns the concatenation of two texts, with each byte written once.
 fn joined(alloc: Global, some: &str, more: &str) -> Result<Characters, AllocError>
     requires short { length some.now + length more.now ≤ longest_text }
     ensures value { IfOk result (λ c. bytes_of c ≡ some.now ++ more.now) }
@@ -159,7 +160,7 @@ impl fmt::Debug for Text {
     }
 }
 
-// Whether these bytes make a text.
+// Returns whether these bytes make a text.
 fn is_text(text: &str) -> bool
     ensures decides { IsTrue result ↔ IsText text.now }
 {

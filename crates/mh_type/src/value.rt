@@ -9,7 +9,7 @@ use crate::kind::Kind;
 use crate::text::Text;
 use std::alloc::Global;
 
-/// A value.
+/// A value of one of the four kinds.
 #[derive(Debug, PartialEq, Eq, Drop)]
 pub enum Value {
     Int(i32),
@@ -19,7 +19,7 @@ pub enum Value {
 }
 
 impl Value {
-    /// The kind of the value.
+    /// Returns the kind of the value.
     pub fn kind(&self) -> Kind
         ensures value { result ≡ kind_of self.now }
     {
@@ -31,7 +31,8 @@ impl Value {
         }
     }
 
-    /// A copy of the value; a text gets another owner.
+    /// Returns a copy of the value; a text gets another owner. Fails only with `NoMemory`, and only
+    /// for a text.
     pub fn share(&self) -> Result<Value, TypeFault>
         ensures value { IfOk result (λ v. v ≡ self.now) }
         ensures refused { IfErr result (λ e. (e ≡ TypeFault.NoMemory)
@@ -46,7 +47,7 @@ impl Value {
     }
 }
 
-/// Whether there is one value for each kind, of that kind, in order.
+/// Returns whether there is exactly one value for each kind, of that kind, in order.
 pub fn have_kinds(values: &[Value], kinds: &[Kind]) -> bool
     ensures same { IsTrue result ↔ (map kind_of values.now ≡ kinds.now) }
 {
@@ -61,7 +62,7 @@ pub fn have_kinds(values: &[Value], kinds: &[Kind]) -> bool
     true
 }
 
-/// Whether both values are one: of one kind, and equal.
+/// Returns whether both values are equal, that is, of the same kind and equal.
 pub fn same_value(one: &Value, other: &Value) -> bool
     ensures value { result ≡ values_same one.now other.now }
     ensures same { IsTrue result ↔ (one.now ≡ other.now) }
@@ -75,7 +76,7 @@ pub fn same_value(one: &Value, other: &Value) -> bool
     }
 }
 
-/// Copies of the values; each text gets another owner. Refused with `NoMemory` alone.
+/// Returns copies of the values; each text gets another owner. Fails only with `NoMemory`.
 pub fn copy_values(alloc: Global, values: &[Value]) -> Result<Vec<Value>, TypeFault>
     ensures value { IfOk result (λ v. v.items ≡ values.now) }
     ensures refused { IfErr result (λ e. e ≡ TypeFault.NoMemory) }

@@ -1,4 +1,4 @@
-//! The method type of a text.
+//! Reading a method type from a text.
 
 ghost use Rattle.std.specs.Prelude.{[], ◌∷◌, ◌≡◌, ◌≤◌, ◌<◌, ◌+◌, ◌++◌, take, length, nat_lt, Ok, Err, IfOk, IsErrOf, MatchResult};
 ghost use Rattle.mh_type.specs.Signature.{Signature};
@@ -10,11 +10,12 @@ use crate::kind::Kind;
 use crate::method_type::{MOST_PARAMETERS, MethodType};
 
 impl MethodType {
-    /// The type of a text, as of `(int,String)long`. It takes no memory.
+    /// Returns the type of a text, such as `(int,String)long`. It does not allocate.
     ///
-    /// Exactly the texts that `write` gives are accepted. A text of that form with more than 16
-    /// parameters is `TooManyParameters`, and any other text is `BadText`: with a space anywhere,
-    /// an unknown kind, an empty part between commas, or anything behind the return kind.
+    /// It accepts exactly the texts that `write` returns. Fails with `TooManyParameters` for a text
+    /// of that form with more than 16 parameters, and with `BadText` for any other text: with a
+    /// space anywhere, an unknown kind, an empty part between commas, or anything after the return
+    /// kind.
     pub fn parse(text: &str) -> Result<MethodType, TypeFault>
         ensures value { MatchResult result (λ m. parsed text.now ≡ Ok m)
             (λ e. parsed text.now ≡ Err e) }
@@ -28,7 +29,7 @@ impl MethodType {
     }
 }
 
-// The type of a text, by its rule.
+// Returns the type of a text, following its grammar.
 fn read_type(text: &str) -> Result<MethodType, TypeFault>
     ensures value { MatchResult result (λ m. parsed text.now ≡ Ok m)
         (λ e. parsed text.now ≡ Err e) }
@@ -45,7 +46,7 @@ fn read_type(text: &str) -> Result<MethodType, TypeFault>
     read_parameters(ret, list)
 }
 
-// The type with this return kind and the parameters of a list with commas between them.
+// Returns the type with this return kind and the parameters of a list with commas between them.
 fn read_parameters(ret: Kind, list: &str) -> Result<MethodType, TypeFault>
     ensures value { MatchResult result (λ m. parameters_read ret list.now ≡ Ok m)
         (λ e. parameters_read ret list.now ≡ Err e) }
@@ -67,7 +68,7 @@ fn read_parameters(ret: Kind, list: &str) -> Result<MethodType, TypeFault>
     Err(TypeFault::TooManyParameters)
 }
 
-// Puts a parameter last, where there is room for it.
+// Appends a parameter if there is room, and returns whether there was.
 fn put_last(made: &mut MethodType, kind: Kind) -> bool
     ensures value { made.new ≡ record {
       ret = made.old.ret;

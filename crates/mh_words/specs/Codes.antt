@@ -1,4 +1,4 @@
--- A code of code over words, by which a proof tells it apart.
+-- A code of code over words, by which a proof tells two of them apart.
 use Rattle.std.specs.Prelude.{refl}
 use Rattle.std.specs.Coded.{Coded, coded×, code_by}
 use Rattle.mh_type.specs.contracts.kind.Kind as kind

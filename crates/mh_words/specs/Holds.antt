@@ -7,7 +7,7 @@ use Rattle.mh_words.specs.Limits.{frame_length}
 use Rattle.mh_words.specs.Running.{word_at}
 use Rattle.mh_words.specs.Values.{IsWord}
 
--- a word that is that of a value, if the value is not a text
+-- a word that represents a value, if the value is not a text
 abbrev pub IsHeld : Value → ℤ → Type 0
 IsHeld (Text t) w = Unit {0}
 IsHeld x w = IsWord x w

@@ -1,2 +1,2 @@
--- Laws of the definitions, for the proofs of crates above. Each is proved: nothing here is to be believed.
+-- Laws of the definitions, for the proofs of crates above. Each is proved, so none has to be believed.
 pub mod Crossing

@@ -1,5 +1,5 @@
--- Code over words as plain data: a routine computes words from those of a frame. The first number of an answer, and of what is kept, is
--- all steps of the way that leads there.
+-- Code over words as plain data: a routine computes words from those of a frame. The first number of an answer, and of what is stored, is
+-- the number of all steps of the way that leads there.
 use Rattle.std.specs.Prelude.{ℕ}
 use Rattle.mh_words.specs.declared.word_source.WordSource.{WordSource}
 use Rattle.mh_words.specs.declared.word_test.WordTest.{WordTest}

@@ -1,4 +1,4 @@
--- What code over words returns for a frame f, if `valid` says which points are valid.
+-- Results of code over words for a frame f, if `valid` says which points are valid.
 use Rattle.std.specs.Prelude.{ℕ, ℤ, pos, int_lt, Bool, false, not, List, slice_index_or, slice_set, Option, Some, None, if◌then◌else◌}
 use Rattle.mh_type.specs.declared.kind.Kind.{Kind}
 use Rattle.mh_type.specs.declared.outcome.Outcome.{Outcome}
@@ -33,7 +33,7 @@ holds f (Less x y) = int_lt (word_at f x.place) (word_at f y.place)
 holds f (Below x n) = int_lt (word_at f x.place) n
 holds f (Above x n) = int_lt n (word_at f x.place)
 
--- goes on with a word, and stops at a throw
+-- continues with a word, and stops at a throw
 abbrev pub and_then : Option ℤ → (ℤ → Option ℤ) → Option ℤ
 and_then (Some w) go = go w
 and_then None go = None

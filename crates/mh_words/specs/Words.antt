@@ -1,4 +1,4 @@
--- What a contract sees of code over words.
+-- The view of code over words that contracts use.
 use Rattle.mh_type.specs.declared.kind.Kind.{Kind}
 use Rattle.mh_words.specs.declared.piece.WordPiece.{WordPiece}
 

@@ -23,7 +23,7 @@ fn low(word: i64) -> i32
     low.cast_signed()
 }
 
-// Returns the result of an operation on two words, and `None` if it throws.
+// Returns the result of an operation on two words, or `None` if it throws.
 #[inline(always)]
 #[tactic(auto, using(std::proofs::lemmas::Int::wraps))]
 pub(crate) fn calculate(operation: WordOperation, first: i64, second: i64) -> Option<i64>
@@ -46,7 +46,7 @@ pub(crate) fn calculate(operation: WordOperation, first: i64, second: i64) -> Op
     }
 }
 
-// Returns the quotient of ints, and `None` if the divisor is zero.
+// Returns the quotient of ints, or `None` if the divisor is zero.
 #[inline(always)]
 fn int_quotient(x: i32, y: i32) -> Option<i64>
     ensures value { result ≡ divided (int_wrapping_div w32) x y }
@@ -57,7 +57,7 @@ fn int_quotient(x: i32, y: i32) -> Option<i64>
     Some(i64::from(x.wrapping_div(y)))
 }
 
-// Returns the remainder of ints, and `None` if the divisor is zero.
+// Returns the remainder of ints, or `None` if the divisor is zero.
 #[inline(always)]
 fn int_remainder(x: i32, y: i32) -> Option<i64>
     ensures value { result ≡ divided int_rem x y }
@@ -68,7 +68,7 @@ fn int_remainder(x: i32, y: i32) -> Option<i64>
     Some(i64::from(x.wrapping_rem(y)))
 }
 
-// Returns the quotient of longs, and `None` if the divisor is zero.
+// Returns the quotient of longs, or `None` if the divisor is zero.
 #[inline(always)]
 fn long_quotient(x: i64, y: i64) -> Option<i64>
     ensures value { result ≡ divided (int_wrapping_div w64) x y }
@@ -79,7 +79,7 @@ fn long_quotient(x: i64, y: i64) -> Option<i64>
     Some(x.wrapping_div(y))
 }
 
-// Returns the remainder of longs, and `None` if the divisor is zero.
+// Returns the remainder of longs, or `None` if the divisor is zero.
 #[inline(always)]
 fn long_remainder(x: i64, y: i64) -> Option<i64>
     ensures value { result ≡ divided int_rem x y }
@@ -90,7 +90,7 @@ fn long_remainder(x: i64, y: i64) -> Option<i64>
     Some(x.wrapping_rem(y))
 }
 
-// Returns a source's word, and `None` if the source throws.
+// Returns a source's word, or `None` if the source throws.
 #[inline(always)]
 pub(crate) fn word_from(frame: &[i64; FRAME_LENGTH], source: &WordSource) -> Option<i64>
     ensures value { result ≡ source_word frame.now source.now }

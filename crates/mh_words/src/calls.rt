@@ -12,9 +12,9 @@ use crate::slot::{ARGUMENT_SLOTS, FRAME_LENGTH};
 use crate::words::outcome_of_word;
 use mh_type::{Outcome, Value};
 
-/// Runs the code over words of a handle on arguments; `valid` says which points are valid.
-/// Returns the outcome of the handle's tree and the number of its nodes entered, or `None` if there
-/// is no code over words. It may write any slot of the frame.
+/// Runs the code over words of a handle on arguments; `valid` says which points are valid. Returns
+/// the outcome of the handle's tree and the number of its nodes evaluated, or `None` if there is no
+/// code over words. It may write any slot of the frame.
 pub fn run(
     lowered: &Lowered,
     frame: &mut [i64; FRAME_LENGTH],

@@ -1,6 +1,6 @@
 //! Constants as answers.
 
-/// A constant as an answer, and the steps.
+/// A constant answer, and the number of steps that lead to it.
 #[derive(Clone, Copy, Debug)]
 pub struct Constant {
     pub word: i64,

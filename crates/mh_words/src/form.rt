@@ -14,7 +14,7 @@ pub(crate) struct Form {
     pub(crate) returns: Kind,
 }
 
-// Returns the form of an operation on two numbers or booleans, and `None` for any other.
+// Returns the form of an operation on two numbers or booleans, or `None` for any other operation.
 pub(crate) fn form_of(op: Op) -> Option<Form>
     ensures value { result ≡ form_of_op op }
 {

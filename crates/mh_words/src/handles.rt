@@ -13,10 +13,10 @@ use mh_base::NoMemory;
 use mh_code::Prepared;
 use std::alloc::Global;
 
-// The most pieces of code over words.
+// The greatest number of pieces of code over words.
 const MOST_PIECES: u32 = 4096;
 
-// The most pieces that follow one another.
+// The greatest number of pieces that follow one another.
 const DEEPEST: u32 = 200;
 
 /// Lowers the code of a prepared handle to code over words. Returns `None` if the code reads a text,

@@ -1,4 +1,4 @@
-//! Words that are known.
+//! Words known at lowering: a slot or a constant.
 
 use crate::slot::Slot;
 

@@ -51,7 +51,7 @@ impl Lowered {
         &self.prepared
     }
 
-    /// Returns the code over words, if there is some.
+    /// Returns the code over words, or `None` if the handle has none.
     #[inline(always)]
     pub fn words(&self) -> Option<&WordCode>
         ensures means { IfSome result (λ w. Means w.now self.now) }

@@ -30,7 +30,7 @@ use mh_code::{Piece, Row};
 use mh_type::Kind;
 use std::sync::Arc;
 
-// Two pieces of which a test chooses one.
+// The two pieces that a test chooses between.
 #[derive(Clone, Copy)]
 struct Branches<'a> {
     target: &'a Piece,
@@ -46,7 +46,7 @@ struct Chain<'a> {
     otherwise: &'a Piece,
 }
 
-// Makes the piece that answers with a source.
+// Makes the piece that answers with the word of a source.
 fn give(maker: &mut Maker, made: &Made, place: &Place<'_>) -> Result<Arc<WordPiece>, Stop>
     ensures value { IfOk result (λ a. word_routine (arc_value a)
         ≡ give_word place.now.before made.now.source) }
@@ -322,7 +322,7 @@ fn lower_point(
     own(maker, piece)
 }
 
-// Returns a slot that no local before a place has, nor an argument.
+// Returns a slot that is neither an argument's nor that of a local with a lower number.
 fn slot_for(locals: &[Known], local: u32) -> Result<Slot, Stop>
     ensures free { IfOk result (λ s. AllBelow s.place (take local locals.now)) }
     ensures behind { IfOk result (λ s. argument_slots ≤ s.place) }

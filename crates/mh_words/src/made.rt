@@ -1,4 +1,4 @@
-//! Sources of words of a kind.
+//! Sources of words of a given kind.
 
 use crate::word_source::WordSource;
 use mh_type::Kind;

@@ -12,7 +12,7 @@ use crate::word_test::WordTest;
 use std::alloc::Global;
 use std::sync::Arc;
 
-/// The allocator, and how many pieces more may be made.
+/// The allocator, and how many more pieces may be made.
 #[derive(Drop)]
 pub(crate) struct Maker {
     pub(crate) alloc: Global,
@@ -30,7 +30,7 @@ pub(crate) fn own(maker: &mut Maker, piece: WordPiece) -> Result<Arc<WordPiece>,
     Arc::new(maker.alloc, piece).map_err(|_| Stop::NoMemory)
 }
 
-// Makes the piece of a test and of what it chooses.
+// Makes the piece of a test and of the two pieces that it chooses between.
 pub(crate) fn choose(
     maker: &mut Maker,
     test: WordTest,

@@ -6,8 +6,8 @@ use crate::word_source::WordSource;
 use crate::word_test::WordTest;
 use std::sync::Arc;
 
-/// A piece of code over words: what is done first, and the pieces that follow. All ways that lead to
-/// a piece have the same steps, so the steps are a number of the piece at which a way ends.
+/// A piece of code over words: an action, and the pieces that follow. All ways that lead to a piece
+/// have the same steps, so the steps are a number of the piece at which a way ends.
 #[derive(Drop)]
 pub enum WordPiece {
     /// A source's word is the answer.

@@ -18,7 +18,7 @@ pub(crate) struct Place<'a> {
 }
 
 impl<'a> Place<'a> {
-    // Returns the place after a piece of so many steps.
+    // Returns the place after a piece that takes `steps` steps.
     pub(crate) fn after(&self, steps: u32) -> Result<Place<'a>, Stop>
         ensures value { IfOk result (λ p. (p.of ≡ self.now.of) × (p.locals ≡ self.now.locals)
             × (p.before ≡ self.now.before + steps) × (p.depth + 1 ≡ self.now.depth)) }
@@ -38,7 +38,7 @@ impl<'a> Place<'a> {
     }
 }
 
-// Returns the locals with one more at a place, instead of those from there on.
+// Returns the locals before `place`, followed by `last`.
 pub(crate) fn with_local(
     alloc: Global,
     locals: &[Known],

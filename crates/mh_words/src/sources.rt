@@ -26,7 +26,7 @@ use mh_code::KeyTest;
 use mh_tree::Operand;
 use mh_type::{Kind, MethodType, Op};
 
-// Returns what is known of an argument, and `None` for a text.
+// Returns what is known of an argument, or `None` for a text.
 fn argument(of: &MethodType, place: u32) -> Option<Known>
     ensures value { IfSome result (λ k. (ks : List Known) → Reads of.now ks
         (OperandData.Argument place) k) }
@@ -43,7 +43,7 @@ fn argument(of: &MethodType, place: u32) -> Option<Known>
     Some(Known { kind, input })
 }
 
-// Returns what is known of an operand, and `None` for a text.
+// Returns what is known of an operand, or `None` for a text.
 fn known(place: &Place<'_>, operand: &Operand) -> Option<Known>
     ensures value { IfSome result (λ k. Reads place.now.of.now place.now.locals.now operand.now k) }
 {
@@ -79,8 +79,8 @@ pub(crate) fn input_of(source: &WordSource) -> Option<Input>
     }
 }
 
-// Returns the source of an operation on two inputs. An operation on two constants is a constant; if
-// it throws, returns `None`.
+// Returns the source of an operation on two inputs. An operation on two constants is a constant;
+// returns `None` if it throws.
 fn apply(operation: WordOperation, first: Input, second: Input) -> Option<WordSource>
     ensures value { IfSome result (λ s. (f : List ℤ) → source_word f s
         ≡ result_of operation (input_word f first) (input_word f second)) }
@@ -107,14 +107,14 @@ fn apply(operation: WordOperation, first: Input, second: Input) -> Option<WordSo
     })
 }
 
-// Returns `None` if a word has another kind.
+// Returns `None` if a word is not of this kind.
 fn demand(known: Known, kind: Kind) -> Option<()>
     ensures same { IfSome result (λ _. known.kind ≡ kind) }
 {
     if known.kind.is(kind) { Some(()) } else { None }
 }
 
-// Returns the source of an operation on a number or a boolean, and `None` for any other.
+// Returns the source of an operation on a number or a boolean, or `None` for any other operation.
 fn one(op: Op, first: Known) -> Option<Made>
     ensures value { IfSome result (λ y. (k : Known) → Computes op first k y) }
 {
@@ -154,7 +154,7 @@ fn one(op: Op, first: Known) -> Option<Made>
     }
 }
 
-// Returns the source of an operation on two numbers or booleans, and `None` for any other.
+// Returns the source of an operation on two numbers or booleans, or `None` for any other operation.
 fn two(op: Op, first: Known, second: Known) -> Option<Made>
     ensures value { IfSome result (λ y. Computes op first second y) }
 {
@@ -168,7 +168,7 @@ fn two(op: Op, first: Known, second: Known) -> Option<Made>
     })
 }
 
-// Returns the source of an operation, and `None` for an operation on texts.
+// Returns the source of an operation, or `None` for an operation on texts.
 fn operation(op: Op, first: Known, second: Known) -> Option<Made>
     ensures value { IfSome result (λ y. Computes op first second y) }
 {

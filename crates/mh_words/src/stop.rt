@@ -1,11 +1,11 @@
-//! Why prepared code was not lowered.
+//! Reasons not to lower prepared code.
 
 use mh_base::NoMemory;
 
-/// Why prepared code was not lowered.
+/// The reason why prepared code was not lowered.
 #[derive(Clone, Copy, Debug)]
 pub(crate) enum Stop {
-    /// An allocation was refused.
+    /// An allocation failed.
     NoMemory,
     /// The code has a part that code over words does not have, or is too large.
     Unfit,

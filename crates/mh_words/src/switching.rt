@@ -20,17 +20,17 @@ use std::sync::Arc;
 // The fewest tests that become a table.
 const FEWEST: usize = 3;
 
-// The most entries of a table.
+// The greatest number of entries of a table.
 const WIDEST: usize = 256;
 
-// The most tests that are made one after another.
+// The greatest number of tests that are made one after another.
 const MOST_IN_TURN: usize = 4;
 
-// The most halvings.
+// The greatest number of halvings.
 const MOST_HALVINGS: u32 = 8;
 
 // Makes the piece of tests: a table if their keys lie close together, a piece for each test if they
-// are few, and else two halves, by whether the word is less than a key in the middle.
+// are few, and otherwise two halves, split by whether the word is less than a middle key.
 pub(crate) fn switch(maker: &mut Maker, slot: Slot, tests: Tests) -> Result<Arc<WordPiece>, Stop>
     ensures same { IfOk result (λ a. Same (word_routine (arc_value a)) (tests_of slot
         (word_routine (arc_value tests.otherwise)) tests.keyed.items)) }
@@ -38,7 +38,7 @@ pub(crate) fn switch(maker: &mut Maker, slot: Slot, tests: Tests) -> Result<Arc<
     halve(maker, slot, tests, MOST_HALVINGS)
 }
 
-// Does what `switch` does, with at most so many halvings.
+// Does what `switch` does, with at most `halvings` halvings.
 #[tactic(auto, using(crate::proofs::Entries::same_is))]
 fn halve(maker: &mut Maker, slot: Slot, tests: Tests, halvings: u32) -> Result<Arc<WordPiece>, Stop>
     ensures same { IfOk result (λ a. Same (word_routine (arc_value a)) (tests_of slot
@@ -57,7 +57,8 @@ fn halve(maker: &mut Maker, slot: Slot, tests: Tests, halvings: u32) -> Result<A
     choose(maker, WordTest::Below(slot, pivot), target, fallback)
 }
 
-// Returns the least key, and how many keys a table has from it on, if the keys lie close together.
+// Returns the least key and the number of keys that a table covers from it on, if the keys lie
+// close together.
 fn close_keys(keyed: &[Keyed]) -> Option<(i64, usize)>
     ensures within { IfSome result (λ s. AllWithin s.0 s.1 keyed.now) }
 {
@@ -129,7 +130,7 @@ fn chain(maker: &mut Maker, slot: Slot, tests: Tests) -> Result<Arc<WordPiece>, 
     Ok(piece)
 }
 
-// Makes a table of so many keys from the least on.
+// Makes a table of `count` keys from `least` on.
 fn table(
     maker: &mut Maker,
     slot: Slot,
@@ -190,14 +191,14 @@ fn constants_of(alloc: Global, targets: &[Arc<WordPiece>]) -> Result<Option<Vec<
     Ok(Some(answers))
 }
 
-// Returns the key of a place in a table.
+// Returns the key at a place of a table.
 fn key_at(least: i64, place: usize) -> Option<i64>
     ensures value { IfSome result (λ k. k ≡ least +ℤ pos place) }
 {
     least.checked_add(i64::try_from(place).ok()?)
 }
 
-// Returns the piece that follows if the slot has a word.
+// Returns the piece that follows if the slot has this word.
 fn target<'a>(word: i64, keyed: &'a [Keyed], otherwise: &'a Arc<WordPiece>) -> &'a Arc<WordPiece>
     ensures value { word_routine (arc_value result.now) ≡ target_of word
         (word_routine (arc_value otherwise.now)) keyed.now }
@@ -211,7 +212,7 @@ fn target<'a>(word: i64, keyed: &'a [Keyed], otherwise: &'a Arc<WordPiece>) -> &
     target(word, rest, otherwise)
 }
 
-// Returns whether each key is one of so many from the least on.
+// Returns whether each key is one of the `count` keys from `least` on.
 fn are_within(keyed: &[Keyed], least: i64, count: usize) -> bool
     ensures within { IsTrue result → AllWithin least count keyed.now }
 {
@@ -224,7 +225,7 @@ fn are_within(keyed: &[Keyed], least: i64, count: usize) -> bool
     are_within(rest, least, count)
 }
 
-// Returns the least key, and how many keys there may be up to the greatest.
+// Returns the least key, and the number of keys from it up to the greatest.
 fn span_of(keyed: &[Keyed]) -> Option<(i64, usize)> {
     let mut least = i64::MAX;
     let mut most = i64::MIN;

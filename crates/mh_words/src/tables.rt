@@ -2,7 +2,8 @@
 
 ghost use Rattle.std.specs.Prelude.{◌≡◌, ◌≢◌, ◌<◌, ◌^◌, ◌+ℤ◌, ℕ, pos, IfSome, IfNone};
 
-// Returns which of so many keys from the least on a word is, and `None` if it is none of them.
+// Returns the index of a word among the `count` keys from `least` on, or `None` if it is not one of
+// them.
 #[inline(always)]
 pub(crate) fn place_in(word: i64, least: i64, count: usize) -> Option<usize>
     ensures found { IfSome result (λ i. (i < count) × (word ≡ least +ℤ pos i)) }

@@ -1,4 +1,4 @@
-//! Where a word comes from.
+//! The origin of a word.
 
 use crate::operation::WordOperation;
 use crate::slot::Slot;

@@ -7,7 +7,7 @@ ghost use Rattle.mh_words.specs.Values.{IsWord, value_of_word as value_of};
 
 use mh_type::{Kind, Outcome, Throw, Value};
 
-/// Returns the word of a value, and `None` for a text.
+/// Returns the word of a value, or `None` for a text.
 #[inline(always)]
 pub fn word_of(value: &Value) -> Option<i64>
     ensures word { IfSome result (λ w. IsWord value.now w) }
@@ -21,8 +21,8 @@ pub fn word_of(value: &Value) -> Option<i64>
     }
 }
 
-/// Returns the value of a kind that a word is. Returns `None` if the kind is `Text`, or if the kind
-/// is `Int` and the word is not an int.
+/// Returns the value of this kind that a word represents. Returns `None` if the kind is `Text`, or
+/// if the kind is `Int` and the word is not an int.
 #[inline(always)]
 pub fn value_of_word(kind: Kind, word: i64) -> Option<Value>
     ensures value { IfSome result (λ x. x ≡ value_of kind word) }
@@ -35,8 +35,8 @@ pub fn value_of_word(kind: Kind, word: i64) -> Option<Value>
     }
 }
 
-/// Returns the outcome that the word of an answer is, or the throw of an `ArithmeticException` if
-/// there is no word. Returns `None` if `value_of_word` does.
+/// Returns the outcome that the word of an answer represents, or the throw of an
+/// `ArithmeticException` if there is no word. Returns `None` if `value_of_word` does.
 #[inline(always)]
 pub fn outcome_of_word(kind: Kind, word: Option<i64>) -> Option<Outcome>
     ensures value { IfSome result (λ o. o ≡ outcome_of kind word) }

@@ -13,7 +13,7 @@ use std::io::{BufWriter, ErrorKind, IsTerminal};
 use std::process::ExitCode;
 use std::{env, io};
 
-/// Whether the words, the first of which is the program's name, ask for this subcommand.
+/// Returns whether the words, of which the first is the program's name, ask for this subcommand.
 fn asks_for(words: &[String], subcommand: &str) -> bool {
     matches!(words.get(1), Some(word) if word.as_str() == subcommand)
 }

@@ -1,29 +1,29 @@
-//! How much of the input is read, on a terminal.
+//! The progress of reading the input, on a terminal.
 ghost use Rattle.std.specs.Prelude.{◌≡◌};
 
 use std::io;
 use std::io::{Read, Write};
 use std::time::{Clock, Instant};
 
-/// The bytes of a mebibyte, as a power of two.
+/// The number of bytes of a mebibyte, as a power of two.
 const MEBIBYTE: u32 = 20;
 
 /// A reader that shows on a terminal how many mebibytes it has read, once reading takes more than a
-/// second. Whatever is written there next takes the place of that line, and its end clears it.
+/// second. The next text on the terminal overwrites that line, and the end of the input clears it.
 #[derive(Drop)]
 pub(crate) struct Progress<'a, R, W, C> {
     reader: R,
     terminal: W,
     clock: &'a C,
-    /// When reading began; none where nothing is to be shown.
+    /// The time when reading began, or `None` if nothing is to be shown.
     start: Option<Instant>,
     bytes: u64,
-    /// How many mebibytes are shown.
+    /// The number of mebibytes shown.
     shown: u64,
 }
 
 impl<'a, R, W: Write, C: Clock> Progress<'a, R, W, C> {
-    /// A reader that shows what it has read where that is asked for.
+    /// Returns a reader that shows what it has read, if that is asked for.
     pub(crate) fn new(clock: &'a C, reader: R, terminal: W, shows: bool) -> Progress<'a, R, W, C>
         ensures reader { result.reader ≡ reader }
     {
@@ -42,13 +42,13 @@ impl<'a, R, W: Write, C: Clock> Progress<'a, R, W, C> {
         }
     }
 
-    /// Whether more than a second has gone by.
+    /// Returns whether more than a second has passed.
     fn is_slow(&self, start: Instant) -> bool {
         matches!(start.elapsed(self.clock), Ok(time) if time.as_secs() >= 1)
     }
 
-    /// Shows how much is read, where that is a mebibyte more, or clears it at the end. What a
-    /// terminal refuses is not shown.
+    /// Shows how much is read, if that is a mebibyte more, or clears it at the end. Failures of the
+    /// terminal are ignored.
     fn show(&mut self, start: Instant, ended: bool)
         ensures reader { self.new.reader ≡ self.old.reader }
     {

@@ -1,4 +1,4 @@
-//! That the program waits for its input, on a terminal.
+//! The prompt that the program shows on a terminal while it waits for its input.
 
 use std::io;
 use std::io::{Read, Write};
@@ -9,12 +9,12 @@ use std::io::{Read, Write};
 pub(crate) struct Prompt<R, W> {
     reader: R,
     terminal: W,
-    /// Whether that is still to be said.
+    /// True if that is still to be said.
     waits: bool,
 }
 
 impl<R, W> Prompt<R, W> {
-    /// A reader that says so where that is asked for.
+    /// Returns a reader that says so, if that is asked for.
     pub(crate) fn new(reader: R, terminal: W, asks: bool) -> Prompt<R, W> {
         Prompt {
             reader,
@@ -30,7 +30,7 @@ impl<R: Read, W: Write> Read for Prompt<R, W> {
     fn read(&mut self, buf: &mut [u8]) -> io::Result<usize> {
         if self.waits {
             self.waits = false;
-            // What a terminal refuses is not shown.
+            // Failures of the terminal are ignored.
             let _ = self
                 .terminal
                 .write_all(b"mhlink reads standard input; Ctrl-D ends it\n");

@@ -1,29 +1,29 @@
-//! How many rounds of a stress are made, on a terminal.
+//! The progress of the rounds of a stress, on a terminal.
 
 use mh_command::ShowRounds;
 use std::io::Write;
 use std::time::Instant;
 
-/// The most times that a line of rounds is shown.
+/// The greatest number of times that a line of rounds is shown.
 const MOST_LINES: u32 = 100;
 
-/// Shows on a terminal how many rounds are made, once they take more than a second. What is shown
-/// next takes the place of that line, and the end of the rounds clears it.
+/// Shows on a terminal how many rounds are made, once they take more than a second. The next text
+/// overwrites that line, and the end of the rounds clears it.
 #[derive(Clone, Copy)]
 pub(crate) struct Rounds<'a> {
     rt: &'a HostRuntime,
-    /// When the program began; none where nothing is to be shown.
+    /// The time when the program began, or `None` if nothing is to be shown.
     start: Option<Instant>,
 }
 
 impl<'a> Rounds<'a> {
-    /// What shows rounds where that is asked for.
+    /// Returns a display of rounds, if that is asked for.
     pub(crate) fn new(rt: &'a HostRuntime, shows: bool) -> Rounds<'a> {
         let start = if shows { Instant::now(rt).ok() } else { None };
         Rounds { rt, start }
     }
 
-    /// Whether rounds are to be shown, and more than a second has gone by.
+    /// Returns whether rounds are to be shown, and more than a second has passed.
     fn is_slow(&self) -> bool {
         match self.start {
             Some(start) => { matches!(start.elapsed(self.rt), Ok(time) if time.as_secs() >= 1) }
@@ -36,7 +36,7 @@ impl<'a> ShowRounds for Rounds<'a> {
     fn show(&self, done: u32, rounds: u32) {
         let step = rounds / MOST_LINES + 1;
         if done % step == 0 && self.is_slow() {
-            // What a terminal refuses is not shown.
+            // Failures of the terminal are ignored.
             let _ = write!(self.rt.stderr(), "{done} of {rounds} rounds\x1b[K\r");
         }
     }

@@ -34,7 +34,7 @@ impl<N: ListName> fmt::Debug for Answer<N> {
     }
 }
 
-/// Why an event was refused.
+/// The reason why an event was refused.
 #[derive(Debug, Drop, Error)]
 enum Refused {
     #[error("{0}")]

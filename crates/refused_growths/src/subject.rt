@@ -25,7 +25,7 @@ pub(crate) enum Subject {
     Event(usize),
 }
 
-/// The subjects that are no events, with their words.
+/// The subjects other than events, with their words.
 const NAMED: [(&str, Subject); 19] = [
     ("constant", Subject::Tree(Maker::Constant)),
     ("identity", Subject::Tree(Maker::Identity)),
@@ -77,7 +77,7 @@ pub(crate) fn try_subject<R: Print + Wait>(
     }
 }
 
-/// Prints the words of all subjects, one a line.
+/// Prints the words of all subjects, one per line.
 pub(crate) fn tell_subjects(rt: &impl Print, input: Input<'_>) -> anyhow::Result<()> {
     for (name, _) in NAMED {
         println!(rt; "{name}")?;

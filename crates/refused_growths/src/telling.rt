@@ -1,4 +1,4 @@
-//! Prints the state before, between and after the two times that a work is done.
+//! Prints the state before, between and after the two times that work is done.
 
 use std::fmt;
 

@@ -6,7 +6,7 @@ use mh_live::mh_core::{Declared, Handle, Kind, MethodType, Op, Prepared, Text, T
 use mh_pic::{Entry, chain, may_chain};
 use std::alloc::Global;
 
-/// What makes a tree.
+/// A constructor, or another way to make a tree.
 #[derive(Clone, Copy, Debug, PartialEq, Eq)]
 pub(crate) enum Maker {
     Constant,
@@ -26,7 +26,7 @@ pub(crate) enum Maker {
     Chain,
 }
 
-/// The trees and the text of which trees are made.
+/// The trees and the text from which trees are made.
 #[derive(Debug, Drop)]
 struct Parts {
     text: Value,
@@ -45,7 +45,7 @@ fn make_parts(alloc: Global) -> anyhow::Result<Parts> {
     })
 }
 
-/// The lists of which trees are made, and the base of a chain.
+/// The lists from which trees are made, and the base of a chain.
 #[derive(Debug, Drop)]
 struct Lists {
     filters: Vec<Option<Handle>>,
@@ -62,12 +62,12 @@ fn make_lists(alloc: Global) -> anyhow::Result<Lists> {
     })
 }
 
-/// Makes the test whether an int is 1.
+/// Makes the test of whether an int is 1.
 fn equals_one(alloc: Global) -> Result<Handle, TreeFault> {
     Handle::insert(alloc, &Handle::op(alloc, Op::Ieq)?, 1, &[Value::Int(1)])
 }
 
-/// Makes a filter and no filter.
+/// Makes a list of a filter and no filter.
 fn filters(alloc: Global) -> anyhow::Result<Vec<Option<Handle>>> {
     let negation = Handle::op(alloc, Op::Ineg)?;
     Ok(vec![in alloc; Some(negation), None]?)

@@ -1,4 +1,4 @@
-//! Inline caches as trees, which no program makes without their code.
+//! Tests of inline caches as trees, which no program makes without their code.
 
 use crate::examples::{Given, example, int, walked};
 use crate::failed::Failed;
@@ -8,7 +8,7 @@ use mh_type::Value;
 use std::alloc::Global;
 use std::test::Fail;
 
-/// The chain of an entry for 1, which needs the point 0, over the example.
+/// Returns the chain of an entry for 1, which needs the point 0, over the example.
 fn chain_of_one(alloc: Global) -> Result<Handle, Failed> {
     let base = Declared::new(&example(alloc)?)?;
     let entries = vec![in alloc; Entry::new(Value::Int(1), Vec::from_slice(alloc, &[0])?)]?;
@@ -18,7 +18,7 @@ fn chain_of_one(alloc: Global) -> Result<Handle, Failed> {
     Ok(chain(alloc, &base, 0, entries.as_slice())?)
 }
 
-/// What it gives on 1 and on 2, and on 1 where its point is not valid.
+/// Returns its results for 1 and for 2, and for 1 if its point is not valid.
 fn chain_gives(alloc: Global) -> Result<[Given; 3], Failed> {
     let cache = chain_of_one(alloc)?;
     Ok([
@@ -37,7 +37,7 @@ fn a_chain_of_one_key_runs(rt: HostRuntime) -> Result<(), Fail> {
     Ok(())
 }
 
-/// How large the example is that is specialised for 1.
+/// Returns the size of the example specialised for 1.
 fn size_for_one(alloc: Global) -> Result<usize, Failed> {
     let handle = example(alloc)?;
     if handle.method_type().count() == 0 {

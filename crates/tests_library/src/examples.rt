@@ -1,4 +1,4 @@
-//! The trees that the tests run, and what they give.
+//! The trees that the tests run, and their results.
 
 use crate::failed::Failed;
 use mh_code::Prepared;
@@ -8,25 +8,25 @@ use mh_tree::Handle;
 use mh_type::{Kind, Op, Outcome, Throw, Value};
 use std::alloc::Global;
 
-/// An operation as a tree.
+/// Returns an operation as a tree.
 pub(crate) fn op(alloc: Global, op: Op) -> Result<Handle, Failed> {
     Ok(Handle::op(alloc, op)?)
 }
 
-/// An operation behind the argument 1.
+/// Returns an operation with 1 inserted as its second argument.
 pub(crate) fn with_one(alloc: Global, op: Op) -> Result<Handle, Failed> {
     let op = Handle::op(alloc, op)?;
     Ok(Handle::insert(alloc, &op, 1, &[Value::Int(1)])?)
 }
 
-/// 100, whatever the argument.
+/// Returns the tree that returns 100, whatever the argument.
 pub(crate) fn hundred(alloc: Global) -> Result<Handle, Failed> {
     let hundred = Handle::constant(alloc, &Value::Int(100))?;
     Ok(Handle::drop(alloc, &hundred, 0, &[Kind::Int])?)
 }
 
-/// The target of the example site: 100 on 1 and else one more, while point 0 is valid; and then the
-/// negation.
+/// Returns the target of the example site: 100 for 1 and otherwise one more, while point 0 is
+/// valid; and then the negation.
 pub(crate) fn example(alloc: Global) -> Result<Handle, Failed> {
     let test = with_one(alloc, Op::Ieq)?;
     let next = with_one(alloc, Op::Iadd)?;
@@ -34,12 +34,12 @@ pub(crate) fn example(alloc: Global) -> Result<Handle, Failed> {
     Ok(Handle::point(alloc, 0, &guard, &op(alloc, Op::Ineg)?)?)
 }
 
-/// A handle with its code.
+/// Returns a handle with its code.
 fn prepared(alloc: Global, handle: Handle) -> Result<Prepared, Failed> {
     Ok(Prepared::new(alloc, &handle)?)
 }
 
-/// The guard of the example, each part of which was prepared before.
+/// Returns the guard of the example, each part of which was prepared before.
 pub(crate) fn prepared_guard(alloc: Global) -> Result<Prepared, Failed> {
     let test = prepared(alloc, with_one(alloc, Op::Ieq)?)?;
     let next = prepared(alloc, with_one(alloc, Op::Iadd)?)?;
@@ -47,14 +47,14 @@ pub(crate) fn prepared_guard(alloc: Global) -> Result<Prepared, Failed> {
     Ok(Prepared::guard(alloc, &test, &hundred, &next)?)
 }
 
-/// The example with its code, where each part of its guard and of its point was prepared before.
+/// Returns the example with its code; each part of its guard and of its point was prepared before.
 pub(crate) fn prepared_example(alloc: Global) -> Result<Prepared, Failed> {
     let guard = prepared_guard(alloc)?;
     let negation = prepared(alloc, op(alloc, Op::Ineg)?)?;
     Ok(Prepared::point(alloc, 0, &guard, &negation)?)
 }
 
-/// What a tree gives: an int, a throw, or neither; and its steps.
+/// The result of a tree: an int, a throw, or neither; and its steps.
 #[derive(Clone, Copy, Debug, PartialEq, Eq)]
 pub(crate) struct Given {
     int: Option<i32>,
@@ -62,7 +62,7 @@ pub(crate) struct Given {
     steps: u128,
 }
 
-/// An int after so many steps.
+/// Returns an int after this many steps.
 pub(crate) fn int(number: i32, steps: u128) -> Given {
     Given {
         int: Some(number),
@@ -71,7 +71,7 @@ pub(crate) fn int(number: i32, steps: u128) -> Given {
     }
 }
 
-/// A throw after so many steps.
+/// Returns a throw after this many steps.
 pub(crate) fn thrown(throw: Throw, steps: u128) -> Given {
     Given {
         int: None,
@@ -80,7 +80,7 @@ pub(crate) fn thrown(throw: Throw, steps: u128) -> Given {
     }
 }
 
-/// What an outcome is.
+/// Returns the result of an outcome.
 pub(crate) fn read(outcome: &Outcome, steps: u128) -> Given {
     let (int, throw) = match outcome {
         Outcome::Value(Value::Int(number)) => (Some(*number), None),
@@ -90,7 +90,7 @@ pub(crate) fn read(outcome: &Outcome, steps: u128) -> Given {
     Given { int, throw, steps }
 }
 
-/// What a handle gives on arguments where the given points are valid.
+/// Returns the result of a handle for arguments, given the validity of points.
 pub(crate) fn walked(
     alloc: Global,
     valid: &[bool],
@@ -101,7 +101,7 @@ pub(crate) fn walked(
     Ok(read(&outcome, steps))
 }
 
-/// What a handle with its code gives on one int, by one call more on a stack.
+/// Returns the result of a handle with its code for one int, by one more call on a stack.
 pub(crate) fn ran(
     stack: &mut Stack,
     valid: &[bool],

@@ -1,4 +1,5 @@
-//! Why a scenario gave nothing. Its errors are not kept: `Fail` of std would have the proof of each show it.
+//! Failures of scenarios. Their errors are not kept: with `Fail` of std, the proof of each scenario
+//! would have to show them.
 
 use mh_base::NoMemory;
 use mh_eval::Unevaluated;
@@ -7,7 +8,7 @@ use mh_tree::TreeFault;
 use mh_type::TypeFault;
 use std::alloc::{AllocError, AllocFailed};
 
-/// A scenario that gave nothing.
+/// A scenario that returned nothing.
 #[derive(Clone, Copy, Debug)]
 pub(crate) struct Failed;
 

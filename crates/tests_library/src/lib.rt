@@ -1,5 +1,5 @@
-//! Tests of what neither a command line nor a host in C reaches: the pieces of code, chains as trees,
-//! and how many workers plan.
+//! Tests of parts that neither a command line nor a host in C reaches: the pieces of code, chains
+//! as trees, and the number of workers that plan.
 #![tactic(auto)]
 
 #[cfg(test)]

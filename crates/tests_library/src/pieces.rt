@@ -1,4 +1,4 @@
-//! Tests of code: the pieces that trees are made into, and their runs.
+//! Tests of code: the pieces that are made of trees, and their runs.
 
 use crate::examples::{Given, hundred, int, op, prepared_example, prepared_guard, read, with_one};
 use crate::failed::Failed;
@@ -10,7 +10,7 @@ use mh_type::{Op, Value};
 use std::alloc::Global;
 use std::test::Fail;
 
-/// What a piece is, with its steps.
+/// The kind of a piece, with its steps.
 #[derive(Clone, Copy, Debug, PartialEq, Eq)]
 enum Kindred {
     Leaf(u32),
@@ -24,7 +24,7 @@ enum Kindred {
     Other,
 }
 
-/// What a piece is.
+/// Returns the kind of a piece.
 fn kindred_of(piece: &Piece) -> Kindred {
     match piece {
         Piece::Leaf { steps, .. } => Kindred::Leaf(*steps),
@@ -39,7 +39,7 @@ fn kindred_of(piece: &Piece) -> Kindred {
     }
 }
 
-/// The first piece, and the pieces behind it that it chooses from or goes on with.
+/// Returns the kinds of the first piece, and of the pieces that it chooses from or continues with.
 fn first_pieces(code: &Code) -> (Kindred, Kindred, Kindred) {
     match code.entry() {
         Piece::Case {
@@ -63,7 +63,8 @@ fn first_pieces(code: &Code) -> (Kindred, Kindred, Kindred) {
     }
 }
 
-/// The code of a guard, all parts of which are prepared with it: 100 on 1, and else one more.
+/// Returns the code of a guard, all parts of which are prepared with it: 100 for 1, and otherwise
+/// one more.
 fn whole_guard(alloc: Global) -> Result<Prepared, Failed> {
     let test = with_one(alloc, Op::Ieq)?;
     let next = with_one(alloc, Op::Iadd)?;
@@ -71,26 +72,26 @@ fn whole_guard(alloc: Global) -> Result<Prepared, Failed> {
     Ok(Prepared::new(alloc, &guard)?)
 }
 
-/// The `not` of whether an int is 1, as a filter of the result.
+/// Returns the `not` of whether an int is 1, as a filter of the result.
 fn not_of_result(alloc: Global) -> Result<Handle, Failed> {
     let test = with_one(alloc, Op::Ieq)?;
     Ok(Handle::filter_return(alloc, &test, &op(alloc, Op::Not)?)?)
 }
 
-/// The same as a filter of the argument.
+/// Returns the same as a filter of the argument.
 fn not_of_argument(alloc: Global) -> Result<Handle, Failed> {
     let filters = [Some(with_one(alloc, Op::Ieq)?)];
     Ok(Handle::filter(alloc, &op(alloc, Op::Not)?, 0, &filters)?)
 }
 
-/// The negation of one more.
+/// Returns the code of the negation of one more.
 fn negated(alloc: Global) -> Result<Prepared, Failed> {
     let next = with_one(alloc, Op::Iadd)?;
     let negated = Handle::filter_return(alloc, &next, &op(alloc, Op::Ineg)?)?;
     Ok(Prepared::new(alloc, &negated)?)
 }
 
-/// What code gives on one int.
+/// Returns the result of code for one int.
 fn ran(alloc: Global, valid: &[bool], code: &Prepared, argument: i32) -> Result<Given, Failed> {
     let arguments = [Value::Int(argument)];
     if !fits(code.handle().method_type(), &arguments) {
@@ -119,14 +120,14 @@ fn a_guard_on_a_key_is_one_piece(rt: HostRuntime) -> Result<(), Fail> {
     Ok(())
 }
 
-/// The code of a guard on a test: 100 where it holds, and else one more.
+/// Returns the code of a guard on a test: 100 if it holds, and otherwise one more.
 fn guard_on(alloc: Global, test: Handle) -> Result<Prepared, Failed> {
     let next = with_one(alloc, Op::Iadd)?;
     let guard = Handle::guard(alloc, &test, &hundred(alloc)?, &next)?;
     Ok(Prepared::new(alloc, &guard)?)
 }
 
-/// The first pieces of a guard on a test, and what it gives on 1 and on 7.
+/// The first pieces of a guard on a test, and its results for 1 and for 7.
 type Guarded = ((Kindred, Kindred, Kindred), [Given; 2]);
 
 fn guarded(alloc: Global, code: &Prepared) -> Result<Guarded, Failed> {
@@ -180,8 +181,8 @@ fn a_guard_below_a_point_runs(rt: HostRuntime) -> Result<(), Fail> {
     Ok(())
 }
 
-/// What a guard that a cache prepares gives on 1, and what an equal one gives on 7 that has its code
-/// from there.
+/// Returns the result for 1 of a guard that a cache prepares, and the result for 7 of an equal one
+/// that has its code from there.
 fn both_cached_give(alloc: Global) -> Result<(Given, Given), Failed> {
     let mut cache = CodeCache::new(alloc);
     let first = cache.prepare(whole_guard(alloc)?.handle())?;

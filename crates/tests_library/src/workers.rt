@@ -1,4 +1,4 @@
-//! That as many workers plan as are asked for.
+//! Tests that as many workers plan as are asked for.
 
 ghost use Rattle.std.specs.Prelude.{◌<◌, ◌≤◌};
 
@@ -10,11 +10,12 @@ use std::sync::atomic::{AtomicU64, Ordering};
 use std::test::Fail;
 use std::thread::{Threads, yield_now};
 
-/// How often a gate looks for the others, and lets other threads run, before it goes on: some
-/// seconds.
+/// The number of times that a gate checks for the others, and lets other threads run, before it
+/// continues: some seconds.
 const TURNS: u64 = 10_000_000;
 
-/// Lets a worker go on when all have come, or after many turns, and counts those that saw all come.
+/// A gate that lets a worker continue when all have come, or after many turns, and counts those
+/// that saw all come.
 #[derive(Drop)]
 struct MeetingGate {
     awaited: u64,
@@ -37,7 +38,7 @@ impl Gate for MeetingGate {
     fn leave(&self, _part: usize) {}
 }
 
-/// So many links that gain 3 each, and need a point each, which costs 1.
+/// Returns a problem of `links` links that gain 3 each, and need a point each, which costs 1.
 fn links(alloc: Global, links: u32) -> Result<Problem, Failed> {
     let mut rows = Vec::new(alloc);
     let mut costs = Vec::new(alloc);
@@ -48,7 +49,7 @@ fn links(alloc: Global, links: u32) -> Result<Problem, Failed> {
     Ok(Problem::new(alloc, &rows, &costs)?)
 }
 
-/// A link that needs these points.
+/// Returns a link that needs these points.
 fn link_to(needs: Vec<u32>) -> LinkRow {
     LinkRow {
         gain: 3,
@@ -58,8 +59,8 @@ fn link_to(needs: Vec<u32>) -> LinkRow {
     }
 }
 
-/// How many of the workers see all of them at work at one time: each waits in its part for all the
-/// others.
+/// Returns how many of the workers see all of them at work at the same time: each waits in its part
+/// for all the others.
 fn meeting<R: Threads + Sync>(
     rt: &R,
     alloc: Global,

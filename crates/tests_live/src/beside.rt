@@ -15,7 +15,7 @@ use std::thread::{Threads, join, map_vec, yield_now};
 /// The number of calls between two retargetings.
 const CALLS_BETWEEN: u64 = 200;
 
-/// How often a retargeting checks for the calls that it awaits before it goes on.
+/// The number of times that a retargeting checks for the calls that it awaits before it continues.
 const TURNS: u64 = 10_000;
 
 /// The number of calls of each pass.

@@ -4,7 +4,7 @@ use mh_live::{CallFault, ListName, Live, Pass, PassAnswer, Settled};
 use mh_type::{Outcome, Value};
 use std::sync::Wait;
 
-/// What a call gave: a whole number, or None for any other outcome; the steps; and the number of
+/// The result of a call: an int, or `None` for any other outcome; the steps; and the number of
 /// controls.
 #[derive(Clone, Copy, Debug, PartialEq, Eq)]
 pub(crate) struct CallAnswer {
@@ -14,13 +14,13 @@ pub(crate) struct CallAnswer {
 }
 
 impl CallAnswer {
-    /// The number of controls by whose world it was answered.
+    /// Returns the number of controls of the world that answered the call.
     pub(crate) fn front(&self) -> u64 {
         self.front
     }
 }
 
-/// What a call is to give.
+/// Returns the result that a call is to have.
 pub(crate) fn given(value: i32, steps: u128, front: u64) -> CallAnswer {
     CallAnswer {
         value: Some(value),
@@ -29,7 +29,7 @@ pub(crate) fn given(value: i32, steps: u128, front: u64) -> CallAnswer {
     }
 }
 
-/// What an answer says.
+/// Returns the result in an answer.
 fn read(answer: &PassAnswer) -> CallAnswer {
     let value = match &answer.outcome {
         Outcome::Value(Value::Int(value)) => Some(*value),
@@ -52,7 +52,7 @@ pub(crate) fn call<N: ListName>(
     Ok(read(&answer))
 }
 
-/// The hits of the link 0, unflushed and ever.
+/// Returns the hits of the link 0, unflushed and in all.
 pub(crate) fn hits<N: ListName>(pass: &Pass<N>) -> Option<(u64, u64)> {
     if pass.links() == 0 {
         return None;
@@ -60,7 +60,7 @@ pub(crate) fn hits<N: ListName>(pass: &Pass<N>) -> Option<(u64, u64)> {
     Some((pass.unflushed(0), pass.made(0)))
 }
 
-/// The hits of the link 0: made, flushed, and not flushed.
+/// Returns the hits of the link 0: made, flushed, and not flushed.
 pub(crate) fn sums<N: ListName>(settled: &Settled<N>) -> Option<(u128, u64, u128)> {
     if settled.links() == 0 {
         return None;
@@ -68,7 +68,7 @@ pub(crate) fn sums<N: ListName>(settled: &Settled<N>) -> Option<(u128, u64, u128
     Some((settled.made(0), settled.total(0), settled.unflushed(0)))
 }
 
-/// Flushes a pass, and answers whether it is done and before any change.
+/// Flushes a pass, and returns whether this succeeded before any change.
 pub(crate) fn flush<N: ListName, R: Wait>(rt: &R, live: &Live<N>, pass: &mut Pass<N>) -> bool {
     match live.flush(rt, pass) {
         Ok(receipt) => receipt.front().len() == 0,

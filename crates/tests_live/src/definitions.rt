@@ -1,4 +1,4 @@
-//! What the tests open, and the trees that they give a site.
+//! The definitions that the tests open, and the trees that they give to a site.
 
 ghost use Rattle.std.specs.Prelude.{◌<◌, ◌≤◌};
 
@@ -10,29 +10,30 @@ use mh_type::{Kind, MethodType, Op, Value};
 use std::alloc::Global;
 use std::test::Fail;
 
-/// The argument negated: 1 step.
+/// Returns the tree that negates the argument: 1 step.
 pub(crate) fn negation(alloc: Global) -> Result<Declared, Fail> {
     Ok(Declared::new(&Handle::op(alloc, Op::Ineg)?)?)
 }
 
-/// One more than the argument: 2 steps.
+/// Returns the tree that adds one to the argument: 2 steps.
 pub(crate) fn successor(alloc: Global) -> Result<Declared, Fail> {
     Ok(Declared::new(&with_one(alloc, Op::Iadd)?)?)
 }
 
-/// A tree of the type (int,int)int.
+/// Returns a tree of the type (int,int)int.
 pub(crate) fn sum(alloc: Global) -> Result<Declared, Fail> {
     Ok(Declared::new(&Handle::op(alloc, Op::Iadd)?)?)
 }
 
-/// An operation behind the argument 1.
+/// Returns an operation with 1 inserted as its second argument.
 fn with_one(alloc: Global, op: Op) -> Result<Handle, Fail> {
     let mut one = Vec::new(alloc);
     one.push(Value::Int(1))?;
     Ok(Handle::insert(alloc, &Handle::op(alloc, op)?, 1, &one)?)
 }
 
-/// While the point 0 is valid, 100 for 1 and one more for any other; else the argument negated.
+/// Returns the tree that, while the point 0 is valid, returns 100 for 1 and one more for any other
+/// int, and otherwise the argument negated.
 fn guarded(alloc: Global) -> Result<Declared, Fail> {
     let hundred = Handle::constant(alloc, &Value::Int(100))?;
     let hundred = Handle::drop(alloc, &hundred, 0, &[Kind::Int])?;
@@ -42,7 +43,7 @@ fn guarded(alloc: Global) -> Result<Declared, Fail> {
     Ok(Declared::new(&point)?)
 }
 
-/// The calls with this key gain so much each, and need these points.
+/// Returns the link of the calls with this key, with this weight, which needs these points.
 fn link(alloc: Global, key: i32, weight: u64, needs: &[u32]) -> Result<Link, Fail> {
     Ok(Link {
         when: Value::Int(key),
@@ -59,7 +60,8 @@ fn point(alloc: Global, name: &str, cost: u64) -> Result<Point, Fail> {
     })
 }
 
-/// A site f of the type (int)int with these links, behind its only argument.
+/// Returns the list of a site f of the type (int)int with these links, whose keys are those of its
+/// only argument.
 fn site_of(alloc: Global, target: Declared, links: Vec<Link>) -> Result<Listing<Site>, Fail> {
     let mut sites = Listing::from_vec(Vec::new(alloc));
     sites.push(Site {
@@ -73,7 +75,7 @@ fn site_of(alloc: Global, target: Declared, links: Vec<Link>) -> Result<Listing<
     Ok(sites)
 }
 
-/// No point, and the negation with a link for 1 that gains 3.
+/// Returns the definition of no points, and of the negation with a link for 1 that gains 3.
 pub(crate) fn plain(alloc: Global) -> Result<Definition, Fail> {
     let mut links = Vec::new(alloc);
     links.push(link(alloc, 1, 3, &[])?)?;
@@ -87,7 +89,7 @@ pub(crate) fn plain(alloc: Global) -> Result<Definition, Fail> {
     Ok(made)
 }
 
-/// A site of the type (int)int without links.
+/// Returns a site of the type (int)int without links.
 fn bare_site(alloc: Global, name: &str, level: u64, target: Declared) -> Result<Site, Fail> {
     Ok(Site {
         name: Name::new(alloc, name)?,
@@ -99,13 +101,14 @@ fn bare_site(alloc: Global, name: &str, level: u64, target: Declared) -> Result<
     })
 }
 
-/// The invocation of a site of the type (int)int.
+/// Returns the invocation of a site of the type (int)int.
 fn invocation(alloc: Global, site: u32) -> Result<Declared, Fail> {
     let method_type = MethodType::unary(Kind::Int, Kind::Int);
     Ok(Declared::new(&Handle::invoke(alloc, site, &method_type)?)?)
 }
 
-/// The site f with a link for 1 that gains 3, which invokes g, which invokes h, which negates.
+/// Returns the definition of a site f with a link for 1 that gains 3, which invokes g, which
+/// invokes h, which negates.
 fn invoking(alloc: Global) -> Result<Definition, Fail> {
     let mut links = Vec::new(alloc);
     links.push(link(alloc, 1, 3, &[])?)?;
@@ -125,7 +128,7 @@ fn invoking(alloc: Global) -> Result<Definition, Fail> {
     Ok(made)
 }
 
-/// The points `a` of cost 5 and `b` of cost 7.
+/// Returns the points `a` of cost 5 and `b` of cost 7.
 fn points(alloc: Global) -> Result<Listing<Point>, Fail> {
     let mut points = Listing::from_vec(Vec::new(alloc));
     points.push(point(alloc, "a", 5)?)?;
@@ -133,8 +136,8 @@ fn points(alloc: Global) -> Result<Listing<Point>, Fail> {
     Ok(points)
 }
 
-/// Two points, and the guarded tree with a link for 1, that needs `a`, and one for 2, that needs
-/// both.
+/// Returns the definition of two points, and of the guarded tree with a link for 1, which needs
+/// `a`, and one for 2, which needs both.
 fn pointed(alloc: Global) -> Result<Definition, Fail> {
     let mut links = Vec::new(alloc);
     links.push(link(alloc, 1, 3, &[0])?)?;
@@ -144,7 +147,7 @@ fn pointed(alloc: Global) -> Result<Definition, Fail> {
     Ok(made)
 }
 
-/// These limits.
+/// Returns these limits.
 fn limits(history: u64, ledger: u64, total: u64) -> Result<Limits, Fail> {
     match Limits::new(history, ledger, total) {
         Some(limits) => Ok(limits),
@@ -152,7 +155,8 @@ fn limits(history: u64, ledger: u64, total: u64) -> Result<Limits, Fail> {
     }
 }
 
-/// Opens the negation for so many workers, with room for so many events and unflushed hits.
+/// Opens the negation for `workers` workers, with room for `history` events and `ledger` unflushed
+/// hits.
 pub(crate) fn open_plain(
     alloc: Global,
     workers: u32,
@@ -166,7 +170,7 @@ pub(crate) fn open_plain(
     Ok(Opening::new(alloc, &plain(alloc)?, workers, limits)?)
 }
 
-/// The same of the negation two invocations below the site 0.
+/// Opens the negation two invocations below the site 0, in the same way.
 pub(crate) fn open_invoking(
     alloc: Global,
     workers: u32,
@@ -180,7 +184,7 @@ pub(crate) fn open_invoking(
     Ok(Opening::new(alloc, &invoking(alloc)?, workers, limits)?)
 }
 
-/// Opens the guarded tree for two workers, with room for so many events.
+/// Opens the guarded tree for two workers, with room for `history` events.
 pub(crate) fn open_pointed(alloc: Global, history: u64) -> Result<Opening, Fail> {
     let limits = limits(history, 9, 9)?;
     Ok(Opening::new(alloc, &pointed(alloc)?, 2, limits)?)

@@ -33,7 +33,7 @@ fn judged<N: ListName>(
     Some(answer.outcome)
 }
 
-/// What a call gives behind a retargeting that its pass has learnt.
+/// Returns the outcome of a call after a retargeting that its pass has learnt.
 fn call_retargeted<N: ListName, R: Wait>(
     rt: &R,
     alloc: Global,

@@ -1,4 +1,5 @@
-//! Tests of running threads: what no clause says, and each public call once with ample memory.
+//! Tests of running threads: properties that no clause states, and each public function once with
+//! ample memory.
 #![tactic(auto)]
 
 #[cfg(test)]

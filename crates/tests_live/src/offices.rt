@@ -1,10 +1,10 @@
-//! Changes of the world: what passes see of them, and what the history counts.
+//! Changes of the world: what passes see of them, and which of them the history counts.
 
 use crate::definitions::open_plain;
 use crate::scenario::{Step, Tree, play};
 use std::test::Fail;
 
-/// A pass that learns a receipt of both after that of the first has still seen both.
+/// A pass that learns a receipt of both, and then that of the first, has still seen both.
 #[test]
 fn equal_retargetings_have_two_fronts(rt: HostRuntime) -> Result<(), Fail> {
     let table = [
@@ -20,7 +20,7 @@ fn equal_retargetings_have_two_fronts(rt: HostRuntime) -> Result<(), Fail> {
     Ok(())
 }
 
-/// The test of a key takes 3 steps, and the negation behind it 1.
+/// The test of a key takes 3 steps, and the negation after it 1.
 #[test]
 fn an_installed_plan_is_run(rt: HostRuntime) -> Result<(), Fail> {
     let table = [

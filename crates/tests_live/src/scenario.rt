@@ -1,4 +1,4 @@
-//! Scenarios: what an office and its passes are asked one after another, and what each answers.
+//! Scenarios: the steps of an office and its passes, one after another, and the answer to each.
 
 ghost use Rattle.std.specs.Prelude.{◌≡◌};
 
@@ -27,21 +27,21 @@ pub(crate) enum Tree {
     Sum,
 }
 
-/// What is asked. Passes, sites, points and receipts are numbered from 0, snapshots and plans from
-/// 1.
+/// A step of a scenario. Passes, sites, points and receipts are numbered from 0, snapshots and
+/// plans from 1.
 #[derive(Clone, Copy)]
 pub(crate) enum Step {
     /// A pass calls the site 0 with an int.
     Call(usize, i32),
     /// A pass calls a site with no argument.
     CallBare(usize, usize),
-    /// What a pass counts of the link 0.
+    /// The counts of a pass for the link 0 are asked for.
     Count(usize),
     /// A pass is flushed.
     Flush(usize),
     /// A site gets a tree.
     Target(usize, Tree),
-    /// The site 0 gets a tree by the office that is lent.
+    /// The site 0 gets a tree through the locked office.
     TargetByOffice(Tree),
     /// A point becomes invalid.
     Invalidate(u32),
@@ -77,7 +77,7 @@ fn tree_of(alloc: Global, tree: &Tree) -> Result<Declared, Fail> {
     }
 }
 
-/// The pass at a place.
+/// Returns the pass at an index.
 fn pass_at<N: ListName>(passes: &mut Vec<Pass<N>>, place: usize) -> Result<&mut Pass<N>, Fail> {
     match passes.get_mut(place) {
         Some(pass) => Ok(pass),
@@ -85,7 +85,8 @@ fn pass_at<N: ListName>(passes: &mut Vec<Pass<N>>, place: usize) -> Result<&mut 
     }
 }
 
-/// What a call gives, its steps, and the number of changes by whose world it is answered.
+/// Returns the outcome of a call, its steps, and the number of changes of the world that answers
+/// it.
 fn call<N: ListName>(
     alloc: Global,
     pass: &mut Pass<N>,
@@ -101,7 +102,8 @@ fn call<N: ListName>(
     }
 }
 
-/// Which pass it is, the hits of the link 0, and how many changes it has seen.
+/// Returns the number of a pass's worker, the hits of the link 0, and how many changes the pass has
+/// seen.
 fn count<N: ListName>(alloc: Global, pass: &Pass<N>) -> Result<String, Fail> {
     let Some((unflushed, made)) = hits(pass) else {
         return Err(Fail::from("there is no link"));
@@ -110,13 +112,13 @@ fn count<N: ListName>(alloc: Global, pass: &Pass<N>) -> Result<String, Fail> {
     Ok(format!(in alloc; "worker {worker}, unflushed {unflushed} of {made}, front {front}")?)
 }
 
-/// What a receipt says.
+/// Returns the text of a receipt.
 fn read<N: ListName>(alloc: Global, receipt: &Receipt<N>) -> Result<String, Fail> {
     let front = receipt.front().len();
     Ok(format!(in alloc; "{}, front {front}", receipt.reply())?)
 }
 
-/// Keeps the receipt of an event that was accepted, and answers what it says.
+/// Stores the receipt of an accepted event, and returns its text.
 fn keep<N: ListName>(
     alloc: Global,
     receipts: &mut Vec<Receipt<N>>,
@@ -129,7 +131,7 @@ fn keep<N: ListName>(
     }
 }
 
-/// Keeps the receipt of an event, and answers what it says, or why there is none.
+/// Stores the receipt of an event, and returns its text, or the reason why there is none.
 fn keep_or_tell<N: ListName>(
     alloc: Global,
     receipts: &mut Vec<Receipt<N>>,
@@ -141,7 +143,7 @@ fn keep_or_tell<N: ListName>(
     }
 }
 
-/// The link 0, no point, and this value.
+/// Returns the plan of the link 0, no point, and this value.
 fn one_link(alloc: Global, value: i64) -> Result<SharedPlan, Fail> {
     let plan = Plan {
         links: Listing::from_vec(Vec::from_slice(alloc, &[0])?),
@@ -153,7 +155,7 @@ fn one_link(alloc: Global, value: i64) -> Result<SharedPlan, Fail> {
     Ok(SharedPlan::new(alloc, plan)?)
 }
 
-/// The planner's plan of a snapshot.
+/// Returns the planner's plan of a snapshot.
 fn planned<N: ListName, R: Wait + Threads + Sync>(
     rt: &R,
     alloc: Global,
@@ -164,7 +166,7 @@ fn planned<N: ListName, R: Wait + Threads + Sync>(
     Ok(SharedPlan::new(alloc, plan(rt, alloc, &problem, 1, &OpenGate)?)?)
 }
 
-/// How many links the problem of a snapshot has.
+/// Returns how many links the problem of a snapshot has.
 fn problem<N: ListName, R: Wait>(
     rt: &R,
     alloc: Global,
@@ -177,8 +179,8 @@ fn problem<N: ListName, R: Wait>(
     }
 }
 
-/// Retargets the site 0 by the office that is lent: whether it is closed then, and how many changes
-/// it counts.
+/// Retargets the site 0 through the locked office, and returns whether the office is closed
+/// afterwards, and how many changes it counts.
 fn target_by_office<N: ListName, R: Wait>(
     rt: &R,
     alloc: Global,
@@ -192,7 +194,7 @@ fn target_by_office<N: ListName, R: Wait>(
     Ok(format!(in alloc; "closed {closed}, front {front}")?)
 }
 
-/// A point becomes invalid.
+/// Invalidates a point.
 fn invalidate<N: ListName, R: Wait>(
     rt: &R,
     alloc: Global,
@@ -204,7 +206,7 @@ fn invalidate<N: ListName, R: Wait>(
     keep_or_tell(alloc, &mut running.receipts, told)
 }
 
-/// A site gets a tree.
+/// Gives a site a tree.
 fn target<N: ListName, R: Wait>(
     rt: &R,
     alloc: Global,
@@ -217,7 +219,7 @@ fn target<N: ListName, R: Wait>(
     keep_or_tell(alloc, &mut running.receipts, told)
 }
 
-/// A plan is published for a snapshot.
+/// Publishes a plan for a snapshot.
 fn publish<N: ListName, R: Wait>(
     rt: &R,
     alloc: Global,
@@ -229,7 +231,7 @@ fn publish<N: ListName, R: Wait>(
     keep_or_tell(alloc, &mut running.receipts, told)
 }
 
-/// A pass is flushed.
+/// Flushes a pass.
 fn flush<N: ListName, R: Wait>(
     rt: &R,
     alloc: Global,
@@ -243,7 +245,7 @@ fn flush<N: ListName, R: Wait>(
     }
 }
 
-/// A pass learns a receipt.
+/// Makes a pass learn a receipt.
 fn learn<N: ListName>(
     alloc: Global,
     running: &mut Running<N>,
@@ -258,7 +260,7 @@ fn learn<N: ListName>(
     Ok(format!(in alloc; "front {}", pass.front().len())?)
 }
 
-/// Each pass learns the last receipt.
+/// Makes each pass learn the last receipt.
 fn learn_all<N: ListName>(alloc: Global, running: &mut Running<N>) -> Result<String, Fail> {
     let Some(receipt) = running.receipts.last() else {
         return Err(Fail::from("there is no receipt"));
@@ -269,7 +271,7 @@ fn learn_all<N: ListName>(alloc: Global, running: &mut Running<N>) -> Result<Str
     Ok(format!(in alloc; "front {}", receipt.front().len())?)
 }
 
-/// A snapshot is taken.
+/// Takes a snapshot.
 fn take<N: ListName, R: Wait>(
     rt: &R,
     alloc: Global,
@@ -279,7 +281,7 @@ fn take<N: ListName, R: Wait>(
     keep_or_tell(alloc, &mut running.receipts, told)
 }
 
-/// The planner's plan of a snapshot is published.
+/// Publishes the planner's plan of a snapshot.
 fn publish_planned<N: ListName, R: Wait + Threads + Sync>(
     rt: &R,
     alloc: Global,
@@ -290,7 +292,7 @@ fn publish_planned<N: ListName, R: Wait + Threads + Sync>(
     publish(rt, alloc, running, snapshot, plan)
 }
 
-/// A plan is installed.
+/// Installs a plan.
 fn install<N: ListName, R: Wait>(
     rt: &R,
     alloc: Global,
@@ -301,7 +303,7 @@ fn install<N: ListName, R: Wait>(
     keep_or_tell(alloc, &mut running.receipts, told)
 }
 
-/// Asks, and returns the answer.
+/// Makes one step, and returns its answer.
 fn ask<N: ListName, R: Wait + Threads + Sync>(
     rt: &R,
     alloc: Global,
@@ -331,8 +333,8 @@ fn ask<N: ListName, R: Wait + Threads + Sync>(
     }
 }
 
-/// Asks all, and returns how many steps answered what stands beside them, which are all of them:
-/// fails with the first answer that is another.
+/// Makes all steps, and returns how many of them had the answers next to them, which are all. Fails
+/// with the first answer that differs.
 fn ask_all<N: ListName, R: Wait + Threads + Sync>(
     rt: &R,
     alloc: Global,
@@ -369,8 +371,8 @@ fn play_named<N: ListName, R: Wait + Threads + Sync>(
     ask_all(rt, alloc, &mut running, table)
 }
 
-/// Asks an office that is just opened, and its passes, what the table has, and returns how many
-/// steps answered what stands beside them: all, or it fails with the first answer that is another.
+/// Plays the steps of a table on a newly opened office and its passes, and returns how many of them
+/// had the answers next to them, which are all. Fails with the first answer that differs.
 pub(crate) fn play<R: Wait + Threads + Sync>(
     rt: &R,
     alloc: Global,

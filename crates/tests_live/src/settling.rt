@@ -1,4 +1,4 @@
-//! Settles an office, and opens another that goes on from it.
+//! Settles an office, and opens another that continues from it.
 
 ghost use Rattle.std.specs.Prelude.{◌≡◌};
 
@@ -11,17 +11,18 @@ use std::marker::Brand;
 use std::sync::Wait;
 use std::test::Fail;
 
-/// Calls so that the link is hit, and answers whether -1 came in one step.
+/// Makes a call that hits the link, and returns whether the answer was -1 in one step.
 fn hit<N: ListName>(pass: &mut Pass<N>) -> bool {
     call(pass, 1) == Ok(given(-1, 1, 0))
 }
 
-/// Two calls that hit the link, a flush, and one more.
+/// Makes two calls that hit the link, flushes, and makes one more, and returns whether all
+/// succeeded.
 fn work<N: ListName, R: Wait>(rt: &R, live: &Live<N>, pass: &mut Pass<N>) -> bool {
     hit(pass) && hit(pass) && flush(rt, live, pass) && hit(pass)
 }
 
-/// Each pass works.
+/// Has each pass work.
 fn work_each<N: ListName, R: Wait>(rt: &R, live: &Live<N>, passes: &mut Vec<Pass<N>>) -> bool {
     let mut right = true;
     for pass in passes.iter_mut() {
@@ -30,7 +31,7 @@ fn work_each<N: ListName, R: Wait>(rt: &R, live: &Live<N>, passes: &mut Vec<Pass
     right
 }
 
-/// What stands after a settlement.
+/// Returns the state after a settlement.
 fn settle<N: ListName, R: Wait>(
     rt: &R,
     alloc: Global,
@@ -43,7 +44,7 @@ fn settle<N: ListName, R: Wait>(
     }
 }
 
-/// The hits of the link 0, made, flushed and not flushed; how many changes there were; and how many
+/// The hits of the link 0 (made, flushed and unflushed), the number of changes, and the number of
 /// records.
 type Counts = (Option<(u128, u64, u128)>, u64, usize);
 
@@ -52,7 +53,7 @@ fn counts<N: ListName>(settled: &Settled<N>) -> Counts {
     (sums(settled), front, records)
 }
 
-/// Whether each pass works, and what is counted then.
+/// Returns whether each pass works, and the counts afterwards.
 fn settles_all_hits<N: ListName, R: Wait>(
     rt: &R,
     alloc: Global,
@@ -69,7 +70,7 @@ fn settles_all_hits<N: ListName, R: Wait>(
     Ok((right, counts(&settled)))
 }
 
-/// What the next office is made of, once each pass has worked and all is settled.
+/// Returns the parts of the next office, after each pass has worked and all is settled.
 fn works_and_renews<N: ListName, R: Wait>(
     rt: &R,
     alloc: Global,

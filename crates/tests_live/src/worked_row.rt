@@ -1,5 +1,5 @@
-//! The first example of the README through two passes: seven events, which are all that the history
-//! may have.
+//! The first example of the README through two passes: seven events, which is as many as the
+//! history may have.
 
 use crate::definitions::open_pointed;
 use crate::scenario::{Step, Tree, play};

@@ -1,4 +1,4 @@
--- A routine reads the locals that it names, whatever stands above them.
+-- A routine reads the locals that it names, whatever locals are above them.
 use Rattle.std.proofs.Common.{◌≡◌, ℕ, ◌+◌, ◌≤◌, refl, ap, List, [], ◌∷◌, ◌++◌, map, length, arith, if◌then◌else◌}
 use Rattle.std.proofs.lemmas.List.{take-append-le}
 use Rattle.mh_type.specs.declared.value.Value.{Value}

@@ -1,4 +1,4 @@
--- The routine of code takes the steps that the code takes, and then those of what its value is for.
+-- The routine of code takes the steps of the code, and then those of the use of its value.
 use Rattle.std.proofs.Common.{◌≡◌, Bool, true, false, ℕ, ◌+◌, ◌≤◌, refl, ap, sym, ◌∙◌, List, [], ◌∷◌, ◌++◌, length, length-append, arith, if◌then◌else◌}
 use Rattle.std.specs.Prelude.{max}
 use Rattle.mh_type.specs.Operations.{operate}
@@ -26,7 +26,7 @@ no_more : (o : Outcome) (n : ℕ) → n ≡ n + after o (λ x. 0)
 no_more (outcome.Value x) n = omega arith
 no_more (outcome.Thrown t) n = omega arith
 
--- the steps of one thing after another
+-- the steps of one part after another
 in_turn : (o : Outcome) (n : ℕ) (g : Value → ℕ) (h : Value → Outcome) (w : Value → ℕ) → n + after o (λ x. g x + after (h x) w) ≡ (n + after o g) + after (o >>= h) w
 in_turn (outcome.Value x) n g h w = omega arith
 in_turn (outcome.Thrown t) n g h w = omega arith
@@ -45,7 +45,7 @@ one_of false s m i j x y w = omega arith
 regrouped : (s m i j k : ℕ) → (s + m) + ((i + j) + k) ≡ s + ((m + (i + j)) + k)
 regrouped s m i j k = omega arith
 
--- a truth chooses the other way where its `not` does, which takes a step
+-- a truth chooses the other way if its `not` does, which takes a step
 denied : (s i j : ℕ) (b : Bool) → (s + 1) + (0 + choose_steps (value.Boolean b) j i) ≡ s + (0 + (1 + after (operate Not (value.Boolean b ∷ [])) (λ c. choose_steps c i j)))
 denied s i j true = omega arith
 denied s i j false = omega arith
@@ -70,7 +70,7 @@ module _ (C : ℕ → ℕ → Type 0) (k n : ℕ) (v : Environment) (a : List Va
       ∙ (λ i. 1 + after (operate Not (newest a l d x deep i ∷ [])) (λ b. choose_steps b (routine_steps v r a (put_last l d x deep i)) (routine_steps v q a (put_last l d x deep i))))
       ∙ (λ i. purpose_steps_above C k n d v a l (x ∷ []) (omega (arith, deep)) (untruth r q) x h i)
 
-  -- a source whose value is kept and then negated
+  -- a source whose value is stored and then negated
   kept_costs : (d s : ℕ) (x : Source) (r q : Routine) (l : List Value) → IsPurposeIn C k n d (untruth r q) → d ≡ length l → routine_steps v (keep s x d (negated_local d r q)) a l ≡ s + (source_steps v x a l + after (source_outcome v x a l) (purpose_steps v (untruth r q) a l))
   kept_costs d s x r q l h deep = λ i. s + (source_steps v x a l + after (source_outcome v x a l) (λ z. negates d r q l h deep z i))
 
@@ -93,7 +93,7 @@ module _ (C : ℕ → ℕ → Type 0) (k n : ℕ) (v : Environment) (a : List Va
   used_costs d s x (truth r q) l h deep = tested_costs d s x r q l h deep
   used_costs d s x (untruth r q) l h deep = negated_costs d s x r q l h deep
 
-  -- what follows the first of two parts takes as many steps as where it does so as a local
+  -- the part that follows the first of two parts takes as many steps as if it did so as a local
   bound_costs : (c : Code) (d : ℕ) (u : Purpose) (r : Routine) (l : List Value) (x : Value) → d ≡ length l → routine_steps v r a (put l d x) ≡ code_steps v c a (l ++ x ∷ []) + after (run_code v c a (l ++ x ∷ [])) (purpose_steps v u a l) → purpose_steps v (bound d c u r) a l x ≡ code_steps v c a (l ++ x ∷ []) + after (run_code v c a (l ++ x ∷ [])) (purpose_steps v u a l)
   bound_costs c d u r l x deep h =
       bound_by (λ e w z. purpose_steps v z a l x ≡ code_steps v e a (l ++ x ∷ []) + after (run_code v e a (l ++ x ∷ [])) (purpose_steps v w a l)) d c u r h
@@ -127,7 +127,7 @@ module _ (C : ℕ → ℕ → Type 0) (k n : ℕ) (v : Environment) (a : List Va
       ∙ one_of (is_valid v p) s m (code_steps v x a l) (code_steps v y a l) (run_code v x a l) (run_code v y a l) (purpose_steps v u a l)
   costs (invoke m site os) d s u l h g deep = used_costs d (s + m) (invocation site os) u l g deep ∙ omega arith
 
--- it weighs at most as much as the code and what its value is for
+-- the weight is at most that of the code and the use of its value
 tested_weighs : (n d s : ℕ) (x : Source) (r q : Routine) → weight n (tested d s x r q) ≤ s + (source_weight n x + purpose_weight n (truth r q))
 tested_weighs n d s (operand o) r q = omega arith
 tested_weighs n d s (operation op x y) r q = omega arith

@@ -1,4 +1,4 @@
--- Prepared handles may go to another thread, and threads may share them.
+-- Prepared handles can be sent to another thread and shared between threads.
 use denote.Param.Send.{IsSend, IsSync}
 use Rattle.mh_code.specs.contracts.prepared.Prepared as prepared
 

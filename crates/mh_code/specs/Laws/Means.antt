@@ -1,4 +1,4 @@
--- The routine of code does what the code does, and then what its value is for.
+-- The routine of code does what the code does, and then uses its value.
 use Rattle.std.proofs.Common.{◌≡◌, Bool, true, false, ℕ, ◌+◌, refl, ap, sym, ◌∙◌, List, [], ◌∷◌, ◌++◌, take, length, length-append, arith, if◌then◌else◌}
 use Rattle.std.proofs.Math.Seq.{take-length, get_or-append_seam}
 use Rattle.mh_type.specs.Operations.{operate}
@@ -26,7 +26,7 @@ only_value : (o : Outcome) → o ≡ (o >>= (λ x. outcome.Value x))
 only_value (outcome.Value x) = refl
 only_value (outcome.Thrown t) = refl
 
--- one thing after another
+-- one part after another
 in_turn : (o : Outcome) (f g : Value → Outcome) → ((o >>= f) >>= g) ≡ (o >>= (λ x. f x >>= g))
 in_turn (outcome.Value x) f g = refl
 in_turn (outcome.Thrown t) f g = refl
@@ -52,7 +52,7 @@ newest a l d x deep =
 pub put_last : (l : List Value) (d : ℕ) (x : Value) → d ≡ length l → put l d x ≡ l ++ x ∷ []
 put_last l d x deep = ap (λ n. take n l ++ x ∷ []) deep ∙ ap (λ t. t ++ x ∷ []) (take-length l)
 
--- a truth chooses the other way where its `not` does
+-- a truth chooses the other way if its `not` does
 denied : (b : Bool) (x y : Outcome) → choose (value.Boolean b) y x ≡ (operate Not (value.Boolean b ∷ []) >>= (λ c. choose c x y))
 denied true x y = refl
 denied false x y = refl
@@ -92,7 +92,7 @@ module _ (C : ℕ → ℕ → Type 0) (k n : ℕ) (v : Environment) (a : List Va
   used_means d s x (truth r q) l h deep = tested_means d s x r q l h deep
   used_means d s x (untruth r q) l h deep = negated_means d s x r q l h deep
 
-  -- what follows the first of two parts, where it does so as a local
+  -- the part that follows the first of two parts, if it does so as a local
   bound_means : (c : Code) (d : ℕ) (u : Purpose) (r : Routine) (l : List Value) (x : Value) → d ≡ length l → run_routine v r a (put l d x) ≡ (run_code v c a (l ++ x ∷ []) >>= purpose_outcome v u a l) → purpose_outcome v (bound d c u r) a l x ≡ (run_code v c a (l ++ x ∷ []) >>= purpose_outcome v u a l)
   bound_means c d u r l x deep h =
       bound_by (λ e w z. purpose_outcome v z a l x ≡ (run_code v e a (l ++ x ∷ []) >>= purpose_outcome v w a l)) d c u r h

@@ -1,4 +1,4 @@
--- The routine of code that names only what is there names only what is there.
+-- The routine of code that names only existing operands, points and sites names only existing ones.
 use Rattle.std.proofs.Common.{Bool, true, false, ℕ, ◌+◌, ◌≤◌, List, [], ◌∷◌, arith, if◌then◌else◌}
 use Rattle.mh_tree.specs.Code.{Code, leaf, apply, bind, branch, point as point_code, invoke}
 use Rattle.mh_tree.specs.inner.Scoped.{IsIn, AllIn, IsScoped}
@@ -42,7 +42,7 @@ module _ (C : ℕ → ℕ → Type 0) (k n : ℕ) where
   tested_in d s (operation op x y) r q h g = (h, g.0, g.1)
   tested_in d s (invocation site os) r q h g = (h, omega arith, (omega arith, routine_more d r g.0, routine_more d q g.1))
 
-  -- what is kept is negated below one more local
+  -- a stored value is negated below one more local
   below_in : (d : ℕ) (r q : Routine) → IsPurposeIn C k n d (untruth r q) → (d ≤ d) × IsRoutineIn C k n (d + 1) (negated_local d r q)
   below_in d r q g = (omega arith, ((omega arith, omega arith), routine_more d r g.0, routine_more d q g.1))
 
@@ -67,7 +67,7 @@ module _ (C : ℕ → ℕ → Type 0) (k n : ℕ) where
   used_in d s x (truth r q) h g = tested_in d s x r q h g
   used_in d s x (untruth r q) h g = negated_in d s x r q h g
 
-  -- what the first of two parts is for names what is there
+  -- the use of the first of two parts names only existing operands, points and sites
   pub bound_in : (d : ℕ) (c : Code) (u : Purpose) (r : Routine) → IsRoutineIn C k n (d + 1) r → IsPurposeIn C k n d u → IsPurposeIn C k n d (bound d c u r)
   bound_in d c u r h g = bound_by (λ e w z. IsPurposeIn C k n d w → IsPurposeIn C k n d z) d c u r (λ g'. (omega arith, h)) (λ x q y g'. g') g
 

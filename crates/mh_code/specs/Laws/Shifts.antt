@@ -1,4 +1,4 @@
--- Steps before code may be counted in it or before it.
+-- Steps before code may be counted in the code or before it.
 use Rattle.std.proofs.Common.{◌≡◌, Bool, true, false, if◌then◌else◌, ℕ, ◌+◌, refl, ap, sym, ◌∙◌, List, [], ◌∷◌, ◌++◌, take, drop, map, length, arith, zero-add}
 use Rattle.mh_type.specs.Operations.{op_signature}
 use Rattle.mh_tree.specs.Code.{Code, leaf, apply, bind, branch, point as point_code, invoke as code_invoke}

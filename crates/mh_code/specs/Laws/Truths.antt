@@ -1,4 +1,4 @@
--- Operations that give a truth, and code that negates one.
+-- Operations that return a truth, and code that negates one.
 use Rattle.std.proofs.Common.{◌≡◌, Bool, true, false, ◌&&◌, ◌==◌, ℕ, refl, ap, sym, ◌∙◌, subst, List, [], ◌∷◌, ◌++◌, length, ℤ, Some, None, if◌then◌else◌}
 use Rattle.std.specs.Option.{unwrap_or}
 use Rattle.std.proofs.Math.Seq.{get_or-append_seam}
@@ -63,7 +63,7 @@ of_boolean (Int m) xs go = (false, refl)
 of_boolean (Long m) xs go = (false, refl)
 of_boolean (Text m) xs go = (false, refl)
 
--- an operation of a truth gives one on any values
+-- an operation that returns a truth returns one for any values
 pub true_or_false : (op : Op) (x y : Value) → gives_truth op ≡ true → IsTruth (operate op (x ∷ y ∷ []))
 true_or_false Iadd x y h = cc
 true_or_false Isub x y h = cc
@@ -136,7 +136,7 @@ negates_is i (branch n c x y) h = cc
 negates_is i (point_code n p x y) h = cc
 negates_is i (invoke n s os) h = cc
 
--- what holds where the second of two parts negates the first, and where it is as any other
+-- a fact that holds both if the second of two parts negates the first, and if it is any other
 pub bound_by : (P : Code → Purpose → Purpose → Type 0) (d : ℕ) (c : Code) (u : Purpose) (r : Routine) → P c u (local d r) → ((x q : Routine) (y : Operand) → P (apply 1 Not (Local d) y) (truth x q) (untruth x q)) → P c u (bound d c u r)
 bound_by P d c answer r h k = h
 bound_by P d c (local i x) r h k = h

@@ -1,4 +1,4 @@
--- Trees whose code negates a local: the operation `not`, behind filters of no place.
+-- Trees whose code negates a local: the operation `not`, after filters that are all absent.
 use Rattle.std.specs.Prelude.{Bool, true, false}
 use Rattle.mh_tree.specs.Tree.{Tree, Filters, operation, no_more, absent, present}
 use Rattle.mh_code.specs.RoutineOf.{is_not}

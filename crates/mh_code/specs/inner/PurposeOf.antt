@@ -1,4 +1,4 @@
--- What the value of a part is for, as plain data.
+-- The use of the value of a part, as plain data.
 use Rattle.std.specs.Arc.{arc_value}
 use Rattle.mh_code.specs.PieceOf.{routine_of}
 use Rattle.mh_code.specs.Routine.{Purpose, answer, local, truth, untruth}

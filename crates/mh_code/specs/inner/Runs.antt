@@ -1,4 +1,4 @@
--- What a routine does in an environment v with arguments a and locals l.
+-- The outcome and the steps of a routine in an environment v with arguments a and locals l.
 use Rattle.std.specs.Prelude.{ℕ, ◌+◌, max, List, [], ◌∷◌, ◌++◌, map, take, if◌then◌else◌}
 use Rattle.mh_type.specs.declared.value.Value.{Value}
 use Rattle.mh_type.specs.declared.outcome.Outcome.{Outcome}
@@ -20,7 +20,7 @@ source_steps v (operand o) a l = 0
 source_steps v (operation op x y) a l = 0
 source_steps v (invocation s os) a l = v.call_steps s (map (value_of a l) os)
 
--- the locals before a place, and a value there
+-- the locals before an index, followed by a value
 abbrev pub put : List Value → ℕ → Value → List Value
 put l i x = take i l ++ x ∷ []
 
@@ -43,7 +43,7 @@ routine_steps v (pick s x r q) a l =
     s + (source_steps v x a l + after (source_outcome v x a l) (λ b. choose_steps b (routine_steps v r a l) (routine_steps v q a l)))
 routine_steps v (point s p r q) a l = s + (if is_valid v p then routine_steps v r a l else routine_steps v q a l)
 
--- what is done with a value
+-- the outcome of the use of a value
 abbrev pub purpose_outcome : Environment → Purpose → List Value → List Value → Value → Outcome
 purpose_outcome v answer a l x = outcome.Value x
 purpose_outcome v (local i r) a l x = run_routine v r a (put l i x)
@@ -52,7 +52,7 @@ purpose_outcome v (untruth r q) a l x = do
   b ← operate Not (x ∷ [])
   choose b (run_routine v r a l) (run_routine v q a l)
 
--- the steps that this takes
+-- the steps of that use
 abbrev pub purpose_steps : Environment → Purpose → List Value → List Value → Value → Steps
 purpose_steps v answer a l x = 0
 purpose_steps v (local i r) a l x = routine_steps v r a (put l i x)
@@ -60,7 +60,7 @@ purpose_steps v (truth r q) a l x = choose_steps x (routine_steps v r a l) (rout
 purpose_steps v (untruth r q) a l x =
     1 + after (operate Not (x ∷ [])) (λ b. choose_steps b (routine_steps v r a l) (routine_steps v q a l))
 
--- the most steps of a source, where an invocation takes at most n
+-- the greatest number of steps of a source, if an invocation takes at most n
 abbrev pub source_weight : ℕ → Source → ℕ
 source_weight n (operand o) = 0
 source_weight n (operation op x y) = 0
@@ -73,7 +73,7 @@ weight n (keep s x i r) = s + (source_weight n x + weight n r)
 weight n (pick s x r q) = s + (source_weight n x + max (weight n r) (weight n q))
 weight n (point s p r q) = s + max (weight n r) (weight n q)
 
--- that of what is done with a value
+-- the steps of the longest way through the use of a value
 abbrev pub purpose_weight : ℕ → Purpose → ℕ
 purpose_weight n answer = 0
 purpose_weight n (local i r) = weight n r

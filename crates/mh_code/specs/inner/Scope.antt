@@ -1,4 +1,4 @@
--- Routines that name only what is there.
+-- Routines that name only existing operands, points and sites.
 use Rattle.std.specs.Prelude.{ℕ, ◌+◌, ◌<◌, ◌≤◌, length}
 use Rattle.mh_tree.specs.inner.Scoped.{IsIn, AllIn}
 use Rattle.mh_code.specs.Routine.{Source, operand, operation, invocation, Routine, give, keep, pick, point, Purpose, answer, local, truth, untruth}

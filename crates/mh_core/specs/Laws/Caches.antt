@@ -1,5 +1,5 @@
--- The inline cache that a site runs: its links are the site's own, it names declared points alone, it invokes sites as its base tree
--- does, and it means what its base tree means.
+-- The inline cache that a site runs: its links are the site's own, it names only declared points, it invokes sites as its base tree does,
+-- and it means what its base tree means.
 use Rattle.std.proofs.Common.{◌≡◌, ℕ, ◌+◌, ◌<◌, ◌≤◌, ◌==◌, Bool, true, false, cond, Option, Some, None, List, [], ◌∷◌, length, map, take, slice_index_or, refl, ap, sym, subst, ◌∙◌, arith}
 use Rattle.std.specs.List.{All}
 use Rattle.std.proofs.lemmas.List.Elements.{All-filter, All-map}
@@ -40,7 +40,7 @@ before_some : (x : Site) (q : ℕ) → x.key ≡ Some q → before_key x ≡ tak
 before_some x q e = rw e refl
 
 module _ (d : DefinitionData) (s : ℕ) where
-  -- what all links of the site are, those that it holds are
+  -- a fact of all links of the site holds of those that it holds
   pub kept_all : (P : ℕ → Type 0) (r : List Record) → All P (own_links d s) → All P (kept d r s)
   kept_all P [] own = none_of P
   kept_all P (Flushed w hits ∷ r) own = kept_all P r own
@@ -70,7 +70,7 @@ module _ (d : DefinitionData) (s : ℕ) where
   kept_lawful r is h = kept_all IsOwn r (own_lawful is h)
 
   module _ (t : TypedTree) (js : List ℕ) (own : All IsOwn js) where
-    -- the cache names declared points alone
+    -- the cache names only declared points
     pub cache_bound : point_bound t.tree ≤ length d.points → point_bound (cached d s t js).tree ≤ length d.points
     cache_bound small =
         let needs : HaveNeedsBelow (length d.points) (map (entry d) js) = All-map (λ (e : PlainEntry). All (λ p. p < length d.points) e.needs) (entry d) js (λ k e below. (own k e below).known) in

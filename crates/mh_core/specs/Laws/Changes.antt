@@ -1,4 +1,4 @@
--- What a change that a book made ready changes in a world.
+-- Effects of prepared changes on a world.
 use Rattle.std.proofs.Common.{◌≡◌, ℕ, ◌∷◌, Some, ap, refl, sym, subst}
 use Rattle.mh_site.specs.declared.control.Control.{Control}
 use Rattle.mh_site.specs.declared.control.Control.TheVariants as control
@@ -13,7 +13,7 @@ use Rattle.mh_core.specs.Records.{total}
 use Rattle.mh_core.specs.Replayed.{changes, controls}
 use Rattle.mh_core.specs.Snapshots.{snapshots_of}
 
--- a control changes the world, and nothing else that a book keeps
+-- a control changes the world, and nothing else of the book
 pub record Moves (b : BookState) (e : Record) (c : Control) : Type 0 where
   pub controls : controls b.definition (e ∷ b.records) ≡ c ∷ controls b.definition b.records
   pub totals : (j : ℕ) → total (e ∷ b.records) j ≡ total b.records j
@@ -34,7 +34,7 @@ moves b (Installed m) c h =
     let same : c ≡ control.Install (changes b.definition b.records m) = cc in
     record { controls = ap (λ (x : Control). x ∷ controls b.definition b.records) (sym same); totals = λ j. refl; snapshots = refl; plans = refl }
 
--- the control of a change is what its record changes in a world
+-- the control of a change is that of its record
 pub change_of : (b : BookState) (e : Record) (x : Effect) (c : Control) → HasEffect b e x → control_of x ≡ Some c → controls b.definition (e ∷ b.records) ≡ c ∷ controls b.definition b.records
 change_of b e (effect.World d) c has is =
     let same : d ≡ c = cc in

@@ -1,4 +1,4 @@
--- What an extension keeps.
+-- Facts that an extension preserves.
 use Rattle.std.proofs.Common.{◌≡◌, ℕ, zero, suc, ◌+◌, ◌<◌, ◌≤◌, ◌==◌, Bool, true, false, List, [], ◌∷◌, ◌++◌, length, map, filter, not, ◌&&◌, take, refl, ap, sym, subst, ◌∙◌, arith}
 use Rattle.std.specs.List.{range_with_len}
 use Rattle.std.proofs.lemmas.List.{length-append, length-take}
@@ -33,7 +33,7 @@ use Rattle.mh_core.specs.Laws.MoreSites.{SamePoints, StayWithin, mean_among}
 use Rattle.mh_core.specs.Laws.Renewing.{absent_cond, among, plain_carried, twice}
 use Rattle.mh_core.specs.Laws.Worlds.{base_suits}
 
--- a number past a range is not kept of it
+-- a number past a range is not among the numbers filtered from it
 absent_past : (f : ℕ → Bool) (a n p : ℕ) → a + n ≤ p → member (filter f (range_with_len a n)) p ≡ false
 absent_past f a zero p h = refl
 absent_past f a (suc n) p h = absent_cond (f a) a p (filter f (range_with_len (a + 1) n)) (grind (arith, nat_tests)) (absent_past f (a + 1) n p (omega arith))
@@ -56,7 +56,7 @@ own_targets d r l is legal = record {
       };
 }
 
--- the longer definition has no fewer points and links
+-- the longer definition has at least as many points and links
 pub extension_longer : (d : DefinitionData) (r : List Record) (points : List Point) (sites : List Site) → IsLonger d (extension d r points sites)
 extension_longer d r points sites =
     let now : DefinitionData = extension d r points sites in

@@ -1,4 +1,4 @@
--- Worlds whose trees stand are lawful: what calls of their linked trees ask for, and that these calls give what the base trees mean.
+-- Worlds whose trees calls can run satisfy the conditions of calls of their linked trees, which return what the base trees mean.
 use Rattle.std.proofs.Common.{◌≡◌, ℕ, suc, ◌<◌, ◌≤◌, List, length, map, sym, subst, ap, ◌∙◌, arith}
 use Rattle.std.specs.List.{All}
 use Rattle.std.proofs.lemmas.List.{get_or-map, get_or_default, length-map}
@@ -104,7 +104,7 @@ module _ (d : DefinitionData) (w : WorldState) (standing : AreStanding d w) (typ
   links_lawful s h =
       lawful d few_levels (linkeds w) (length-map w.sites (λ x. x.linked) ∙ many) linked_signature linked_typed linked_own s (state_at w s).linked.tree h (standing s h).linked_invokes
 
-  -- and they name known points
+  -- and they name only known points
   pub links_known : length w.valid ≡ length d.points → HavePoints (length w.valid) (linkeds w)
   links_known count =
       All-map (λ (t : TypedTree). point_bound t.tree ≤ length w.valid) (λ (x : SiteState). x.linked) w.sites
@@ -124,7 +124,7 @@ module _ (d : DefinitionData) (w : WorldState) (standing : AreStanding d w) (typ
             ∙ ((standing s h).faithful own v a (subst (λ (n : Signature). Fits n a) (base_signature s h) fits) ∙ sym (ap (λ (t : TypedTree). mean v t.tree a) (base_at s h)));
       }
 
-  -- what a linked tree gives over the linked trees is what the base tree means over the base trees
+  -- a linked tree, run over the linked trees, returns what the base tree means over the base trees
   pub links_mean : (s : ℕ) (a : List Value) → s < length d.sites → Fits (site_at d s).method_type a
       → mean (environment_of_links w) (state_at w s).linked.tree a ≡ mean (environment_of_bases w) (state_at w s).base.tree a
   links_mean s a h fits =

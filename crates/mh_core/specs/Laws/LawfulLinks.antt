@@ -1,4 +1,4 @@
--- What each link of a definition is, by its number.
+-- Facts about each link of a definition, by its number.
 use Rattle.std.proofs.Common.{◌≡◌, ℕ, zero, suc, ◌+◌, ◌-◌, ◌*◌, ◌<◌, ◌≤◌, length, slice_index_or, sym, subst, ap, ◌∙◌, arith}
 use Rattle.std.proofs.lemmas.List.{length-append, length-map}
 use Rattle.mh_site.specs.declared.link.Link.{Link}

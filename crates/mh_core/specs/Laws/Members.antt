@@ -1,4 +1,4 @@
--- Numbers that rise, among all numbers of a range.
+-- Ascending numbers, among all numbers of a range.
 use Rattle.std.proofs.Common.{◌≡◌, ◌<◌, ◌≤◌, ◌+◌, ℕ, zero, suc, List, [], ◌∷◌, ◌++◌, Bool, false, cond, filter, slice_index_or, refl, sym, ap, ◌∙◌, arith, inl, inr}
 use Rattle.std.specs.Prelude.{◌==◌}
 use Rattle.std.specs.List.{All, AllPairs, range_with_len}
@@ -9,7 +9,7 @@ use Rattle.std.proofs.lemmas.List.FromFn.{get_or-range_with_len, length-range_wi
 use Rattle.std.proofs.lemmas.List.Kept.{AllPairs-from_increasing}
 use Rattle.mh_network.specs.Selection.{member}
 
--- tests that agree at each element keep the same elements
+-- tests that agree on each element keep the same elements
 pub filter_alike : (p q : ℕ → Bool) (xs : List ℕ) → All (λ x. p x ≡ q x) xs → filter p xs ≡ filter q xs
 filter_alike p q [] same = refl
 filter_alike p q (x ∷ xs) same =
@@ -43,7 +43,7 @@ range_from a n k e below =
     let at = get_or-range_with_len a n k e inside in
     omega (arith, at)
 
--- a number below all of a list is not in it
+-- a number below all elements of a list is not in it
 absent : (j : ℕ) (xs : List ℕ) → All (λ x. j < x) xs → member xs j ≡ false
 absent j xs above = list_any_none (λ x. x == j) xs (λ k e below. let more = above k e below in ne_eqb _ j (λ same. absurd (omega arith)))
 
@@ -75,6 +75,6 @@ among (x ∷ xs) a (suc n) up least most =
           rw (absent a (x ∷ xs) above) (among (x ∷ xs) (a + 1) n up (λ k e below. let more = above k e below in omega (arith, more)) (λ k e below. let high = most k e below in omega (arith, high)))
     ]
 
--- numbers that rise below a bound are those of all numbers below it that they have
+-- ascending numbers below a bound are the numbers below the bound that are among them
 pub rising_below : (n : ℕ) (xs : List ℕ) → IsStrictlyIncreasing xs → All (λ x. x < n) xs → filter (member xs) (range_with_len 0 n) ≡ xs
 rising_below n xs up below = among xs 0 n (AllPairs-from_increasing xs up) (λ k e inside. omega arith) (λ k e inside. let high = below k e inside in omega (arith, high))

@@ -1,4 +1,4 @@
--- A tree means the same where there are more points and more sites than it names.
+-- A tree means the same if there are more points and more sites than it names.
 use Rattle.std.proofs.Common.{◌≡◌, ℕ, zero, suc, ◌+◌, ◌<◌, ◌≤◌, Bool, false, List, [], ◌∷◌, take, length, map, refl, ap, ◌∙◌, arith, if◌then◌else◌, slice_index_or}
 use Rattle.std.specs.Prelude.{slice_set}
 use Rattle.mh_type.specs.declared.value.Value.{Value}
@@ -14,7 +14,7 @@ use Rattle.mh_tree.specs.Tree.{Tree, Filters, constant, identity, operation, ins
 abbrev pub SamePoints : ℕ → List Bool → List Bool → Type 0
 SamePoints k v w = (p : ℕ) → p < k → slice_index_or v p false ≡ slice_index_or w p false
 
--- an invocation of the first sites gives the same in both
+-- an invocation of the first sites returns the same in both
 abbrev pub SameCalls : ℕ → Environment → Environment → Type 0
 SameCalls n v w = (s : ℕ) → s < n → (a : List Value) → v.calls s a ≡ w.calls s a
 
@@ -46,7 +46,7 @@ module _ (k n : ℕ) (v w : Environment) (valid : SamePoints k v.valid w.valid) 
     filtered_same (present f fs) h m p a =
         λ i. with_value (mean_same f (omega arith) (omega arith) (argument a p ∷ []) i) (λ x. filtered_same fs (omega arith) (omega arith) (p + 1) (slice_set a p x) i)
 
--- the trees of the first sites name the first points and sites alone
+-- the trees of the first sites name only the first points and sites
 abbrev pub StayWithin : ℕ → ℕ → List TypedTree → Type 0
 StayWithin k n targets = (s : ℕ) → s < n → (point_bound (target_at targets s).tree ≤ k) × (site_bound (target_at targets s).tree ≤ n)
 

@@ -21,7 +21,7 @@ all_numbers P f n h k d within =
 pub at_number : (f : ℕ → ℕ) (n j : ℕ) → j < n → at (map f (numbers n)) j ≡ f j
 at_number f n j h = get_or-map-range_with_len f 0 n j j 0 h (omega arith)
 
--- a loop that pushes one item for each number
+-- a loop that pushes one item per number
 pub more_numbers : {X : Type 0} (f : ℕ → X) (n : ℕ) (xs ys : List X) (x : X) → xs ≡ map f (numbers n) → x ≡ f n → ys ≡ xs ++ x ∷ [] → ys ≡ map f (numbers (n + 1))
 more_numbers f n xs ys x before same push =
     push ∙ (ap (λ zs. zs ++ x ∷ []) before ∙ (ap (λ z. map f (numbers n) ++ z ∷ []) same ∙ sym (map-range_with_len_more f 0 n n (omega arith))))

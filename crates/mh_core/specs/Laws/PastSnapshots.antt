@@ -1,4 +1,4 @@
--- What a book keeps of its snapshots, by number.
+-- The snapshots that a book stores, by number.
 use Rattle.std.proofs.Common.{◌≡◌, inl, inr, ℕ, ◌+◌, ◌*◌, ◌<◌, ◌≤◌, Bool, false, cond, List, [], ◌∷◌, ◌++◌, length, map, slice_index_or, refl, sym, subst, ap, ◌∙◌, arith}
 use Rattle.std.specs.Prelude.{reverse}
 use Rattle.std.specs.List.{All, list_all, sum_by}
@@ -42,7 +42,7 @@ past_last r n e = ap (λ (b : Bool). cond b r (past r n)) (eq-eqb (snapshots r +
 past_earlier : (r : List Record) (n : ℕ) → n ≤ snapshots r → past (Snapped ∷ r) n ≡ past r n
 past_earlier r n h = ap (λ (b : Bool). cond b r (past r n)) (ne_eqb (snapshots r + 1) n (λ e. absurd (omega arith)))
 
--- what is kept of the snapshot of a number, oldest first
+-- the snapshot with a number as it is stored, oldest first
 pub kept_at : (d : DefinitionData) (r : List Record) (n : ℕ) (none : SnapshotState) → n < snapshots r → slice_index_or (reverse (snapshots_of d r)) n none ≡ snapshot_of d (past r (n + 1))
 kept_at d [] n none h = absurd (omega arith)
 kept_at d (Flushed w hits ∷ r) n none h = kept_at d r n none h
@@ -83,7 +83,7 @@ past_legal d l (Snapped ∷ r) n legal taken = elim (cases_lt (snapshots r) n) [
 past_legal d l (Published m plan ∷ r) n legal taken = past_legal d l r n legal.1 taken
 past_legal d l (Installed m ∷ r) n legal taken = past_legal d l r n legal.1 taken
 
--- no total passes its limit
+-- no total exceeds its limit
 pub total_within : (d : DefinitionData) (l : LimitsData) (r : List Record) (j : ℕ) → Legal d l r → j < length (links d) → total r j ≤ l.total
 total_within d l [] j legal h = omega arith
 total_within d l (Flushed w hits ∷ r) j legal h = legal.0.1.1.1.0 j h
@@ -109,7 +109,7 @@ row_same d g j is h =
     ap (λ (n : ℕ). made n (are_valid (valid_points d g) (link_at d j).1.needs)) (at_number (total g) (length (links d)) j h)
     ∙ ap (made (total g j)) (eligible_same d g j is h)
 
--- the rows that a snapshot kept are those of its records
+-- the rows of a stored snapshot are those of its records
 pub rows_same : (d : DefinitionData) (g : List Record) → IsDefinition d → rows_in d (snapshot_of d g).totals (snapshot_of d g).valid ≡ map (row d g) (numbers (length (links d)))
 rows_same d g is = same_numbers record { gain = 0; eligible = false; needs = []; charge = 0 } (row_in d (snapshot_of d g).totals (snapshot_of d g).valid) (row d g) (length (links d)) (λ j h. row_same d g j is h)
 

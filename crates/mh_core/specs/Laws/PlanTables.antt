@@ -1,4 +1,4 @@
--- What a book keeps of its plans, by number.
+-- The plans that a book stores, by number.
 use Rattle.std.proofs.Common.{◌≡◌, inl, inr, ℕ, ◌+◌, ◌-◌, ◌<◌, ◌≤◌, Bool, true, cond, List, [], ◌∷◌, ◌++◌, length, map, slice_index_or, refl, sym, subst, ap, ◌∙◌, arith}
 use Rattle.std.specs.Prelude.{reverse}
 use Rattle.std.specs.List.{All}
@@ -41,7 +41,7 @@ plan_last r n plan m e = ap (λ (b : Bool). cond b (published n plan) (plan_at r
 plan_earlier : (r : List Record) (n : ℕ) (plan : Plan) (m : ℕ) → m ≤ plans r → plan_at (Published n plan ∷ r) m ≡ plan_at r m
 plan_earlier r n plan m h = ap (λ (b : Bool). cond b (published n plan) (plan_at r m)) (ne_eqb (plans r + 1) m (λ e. absurd (omega arith)))
 
--- what is kept of the plan of a number, oldest first
+-- the plan with a number as it is stored, oldest first
 pub plan_kept : (r : List Record) (m : ℕ) (none : PublishedPlan) → m < plans r → slice_index_or (reverse (plans_of r)) m none ≡ plan_at r (m + 1)
 plan_kept [] m none h = absurd (omega arith)
 plan_kept (Flushed w hits ∷ r) m none h = plan_kept r m none h
@@ -69,7 +69,7 @@ pub plans_now : (b now : BookState) (kept : List PublishedPlan) → IsBook b →
 plans_now b now kept is seen e =
     sym (length-reverse kept) ∙ (ap length (sym e ∙ is.plans) ∙ (plans_count b.records ∙ ap (λ (x : BookState). plans x.records) seen))
 
--- a kept plan as it is read, by a book that callers see as `now`
+-- a stored plan as it is read, by a book that callers see as `now`
 pub plan_read : (b now : BookState) (kept : List PublishedPlan) (m : ℕ) (p : PublishedPlan) → IsBook b → b ≡ now → b.plans ≡ reverse kept → IsPublished now.records m → p ≡ slice_index_or kept (m - 1) p
     → p ≡ plan_at now.records m
 plan_read b now kept m p is seen e known which =

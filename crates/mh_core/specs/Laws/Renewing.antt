@@ -1,4 +1,4 @@
--- What a renewal keeps.
+-- Facts that a renewal preserves.
 use Rattle.std.proofs.Common.{◌≡◌, ℕ, zero, suc, ◌+◌, ◌<◌, ◌≤◌, ◌==◌, Bool, true, false, cond, List, [], ◌∷◌, length, map, filter, not, nat_lt, ◌&&◌, ◌||◌, slice_index_or, refl, ap, sym, subst, ◌∙◌, arith}
 use Rattle.std.specs.List.{range_with_len}
 use Rattle.std.proofs.lemmas.List.{get_or_past}
@@ -135,7 +135,7 @@ pub twice : (b : Bool) → (not (not b) && true) ≡ b
 twice true = refl
 twice false = refl
 
--- of the members of a list those that pass a test
+-- the members of a filtered list are the members that pass the test
 member_filter : (f : ℕ → Bool) (ps : List ℕ) (p : ℕ) → is_among (filter f ps) p ≡ (f p && is_among ps p)
 member_filter f [] p = sym (and_none (f p))
 member_filter f (q ∷ ps) p = by_test (f q) (q == p) refl refl (member_filter f ps p)
@@ -150,12 +150,12 @@ member_filter f (q ∷ ps) p = by_test (f q) (q == p) refl refl (member_filter f
         rw e (rest ∙ ap (λ b. b && is_among ps p) fails ∙ sym (ap (λ b. b && ((q == p) || is_among ps p)) fails))
     by_test false false e k rest = rw (e, k) rest
 
--- what is given back was invalid
+-- a point that is given back was invalid
 given_fell : (v a : Bool) → (not v && a) ≡ true → v ≡ false
 given_fell true a h = cc
 given_fell false a h = refl
 
--- what is not given back is as it was
+-- a point that is not given back is as it was
 not_given : (v a : Bool) → (not v && a) ≡ false → (v || a) ≡ v
 not_given true a h = refl
 not_given false a h = h
@@ -219,7 +219,7 @@ module _ (d : DefinitionData) (r : List Record) (again : List ℕ) (shares : Lis
   retires : Retires (given_back r again) (valid_points d r) (map (is_valid_anew r again) (numbers (length d.points)))
   retires = record { taken = was_invalid; others = stays }
 
-  -- where there is no site
+  -- the tree of a site that does not exist
   abbrev absent_tree : TypedTree
   absent_tree = record { tree = constant (Boolean false); signature = record { ret = kind.Boolean; parameters = [] } }
 

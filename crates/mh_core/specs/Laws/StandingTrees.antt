@@ -20,7 +20,7 @@ use Rattle.mh_core.specs.Laws.Caches.{cache_bound, cache_invokes, cache_mean, ke
 use Rattle.mh_core.specs.Laws.Worlds.{base_suits, read, site_after}
 use Rattle.mh_tree.specs.Environment.{Environment}
 
--- what stands of a state stands of an equal one
+-- a fact about a state holds of an equal state
 abbrev Stands : DefinitionData → ℕ → SiteState → Type 0
 Stands d s x =
     (x.base.signature ≡ (site_at d s).method_type) × (x.linked.signature ≡ (site_at d s).method_type)

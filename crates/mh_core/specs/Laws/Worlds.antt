@@ -1,4 +1,4 @@
--- The tables of a world are what looking back through the records finds, and what a book keeps with one record more.
+-- The tables of a world agree with looking back through the records, and with the state of a book that has one more record.
 use Rattle.std.proofs.Common.{◌≡◌, ℕ, zero, suc, ◌+◌, ◌<◌, ◌≤◌, ◌==◌, nat_lt, Bool, true, false, cond, List, [], ◌∷◌, ◌++◌, length, map, filter, not, ◌&&◌, ◌||◌, refl, ap, sym, subst, ◌∙◌, arith}
 use Rattle.std.specs.Prelude.{reverse}
 use Rattle.std.specs.List.{range_with_len}
@@ -32,12 +32,12 @@ newest_push xs x = reverse-append xs (x ∷ [])
 pub oldest_push : {A : Type 0} (x : A) (xs : List A) → reverse (x ∷ xs) ≡ reverse xs ++ x ∷ []
 oldest_push x xs = reverse-append (x ∷ []) xs
 
--- a world that takes one control more is that of one record more
+-- a world that absorbs one more control is that of one more record
 pub world_push : (d : DefinitionData) (r older : List Record) (c : Control) → controls d r ≡ c ∷ controls d older
     → world d r ≡ replay (opened d) (reverse (controls d older) ++ c ∷ [])
 world_push d r older c e = ap (λ (cs : List Control). replay (opened d) (reverse cs)) e ∙ ap (replay (opened d)) (oldest_push c (controls d older))
 
--- ---- what the controls of records say is what the records say
+-- ---- the controls of records agree with the records
 base_same : (d : DefinitionData) (r : List Record) (s : ℕ) → look.base d (controls d r) s ≡ base d r s
 base_same d [] s = refl
 base_same d (Flushed w hits ∷ r) s = base_same d r s
@@ -91,7 +91,7 @@ world_sites d r = sites.world_sites d (controls d r)
 pub world_front : (d : DefinitionData) (r : List Record) → (world d r).front ≤ length r
 world_front d r = omega (arith, sites.world_front d (controls d r), controls_count d r)
 
--- what a site is after the records
+-- the state of a site after the records
 abbrev pub site_after : DefinitionData → List Record → ℕ → SiteState
 site_after d r s = record { base = base d r s; linked = linked d r s; kept = kept d r s; version = version r s }
 
@@ -147,7 +147,7 @@ module _ {X : Type 0} (part : Relinked → X) (make : ℕ → Relinked) (own : (
           ap (λ b. told (filter p (range_with_len (a + 1) n)) (cond (p a && b) (part (make a)) other)) e
           ∙ (ap (told (filter p (range_with_len (a + 1) n))) (and_false (p a) (part (make a)) other) ∙ rest later)
 
--- what an installation says of a site
+-- the result of an installation for a site
 changed_once : {X : Type 0} (part : Relinked → X) (d : DefinitionData) (r : List Record) (m s : ℕ) (other : X) → s < length d.sites
     → last_of part s other (changes d r m) ≡ cond (is_concerned d r m s && is_current r m s) (part (relinked d r m s)) other
 changed_once part d r m s other h =
@@ -234,7 +234,7 @@ bases_are d r = trees_are (λ x. x.base) (base d r) d r (λ s h. ap (λ (x : Sit
 pub linkeds_are : (d : DefinitionData) (r : List Record) → worlds.linkeds (world d r) ≡ linkeds d r
 linkeds_are d r = trees_are (λ x. x.linked) (linked d r) d r (λ s h. ap (λ (x : SiteState). x.linked) (read d r s h))
 
--- ---- a base tree has its site's type, names declared points alone, and invokes lower sites with their types
+-- ---- a base tree has its site's type, names only declared points, and invokes lower sites with their types
 pub record Suits (d : DefinitionData) (s : ℕ) (t : TypedTree) : Type 0 where
   pub signature : t.signature ≡ (site_at d s).method_type
   pub points : point_bound t.tree ≤ length d.points

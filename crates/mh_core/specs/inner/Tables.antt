@@ -1,4 +1,4 @@
--- The row of a link by tables: the totals, and which points are valid.
+-- The row of a link by tables: the totals, and the validity of the points.
 use Rattle.std.specs.Prelude.{ℕ, ◌*◌, Bool, false, List, slice_index_or}
 use Rattle.std.specs.List.{list_all}
 use Rattle.mh_network.specs.declared.link_row.LinkRow.{LinkRow}

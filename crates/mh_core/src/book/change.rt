@@ -1,4 +1,4 @@
-//! Changes that a book makes ready first and takes in later, so that nothing can fail between.
+//! Changes that a book prepares first and commits later, so that nothing can fail in between.
 
 ghost use Rattle.std.specs.Prelude.{◌≡◌, ◌+◌, ℕ, true, Some, length, OnErr, OnOk, IfOk, IfErr};
 ghost use Rattle.mh_cert.specs.Plans.{Matches};
@@ -23,7 +23,7 @@ use mh_tree::Declared;
 use std::alloc::Global;
 use std::marker::Model;
 
-/// A change that passed its tests, with all the memory that its book takes to commit it.
+/// A change that passed its tests, with all the memory that its book needs to commit it.
 #[derive(Debug, Drop)]
 pub struct PendingChange {
     entry: Record,
@@ -47,20 +47,21 @@ impl Model for PendingChange {
     } };
 }
 
-/// What a record changes beside the records.
+/// The effect of a record, besides the record itself.
 #[derive(Debug, Drop)]
 pub(crate) enum Effect {
-    /// The world.
+    /// The world changes.
     World(Control),
-    /// The snapshots: one more.
+    /// There is one more snapshot.
     Snapshot(Snapshot),
-    /// The published plans: one more.
+    /// There is one more published plan.
     Plan(PublishedPlan),
 }
 
 impl PendingChange {
-    /// What it changes in a world, for a further world: on trees with owners of their own. None where
-    /// it changes no world. Fails only if an allocation or a reference count is refused.
+    /// Returns the change of the world, with other owners of its trees, so that it can be applied
+    /// to another world; `None` if no world changes. Fails only if an allocation or a reference
+    /// count is refused.
     pub fn control(&self) -> Result<Option<Control>, NoMemory>
         ensures value { IfOk result (λ c. c ≡ control_of self.now.effect) }
     {
@@ -73,11 +74,12 @@ impl PendingChange {
 }
 
 impl Book {
-    /// Makes a change ready: all its tests, where so many calls were accepted beside the records,
-    /// and then all its growths. A flush is no such change, since it moves the hits of a ledger.
+    /// Prepares a change, given that `calls` calls were accepted besides the records: runs all its
+    /// tests, and then makes all allocations. A flush is not such a change, since it moves the hits
+    /// of a ledger.
     ///
-    /// Refused as the change is (`target`, `invalidate`, `snapshot`, `publish`, `install`), and
-    /// then nothing changes.
+    /// Fails as the change itself does (`target`, `invalidate`, `snapshot`, `publish`, `install`),
+    /// and then nothing changes.
     pub fn prepare(&mut self, calls: usize, entry: Record) -> Result<PendingChange, Refusal>
         requires other { IsNoFlush entry }
         ensures ready { IfOk result (λ p. (p.entry ≡ entry) × (p.calls ≡ calls)
@@ -89,8 +91,8 @@ impl Book {
         self.ready(calls, entry).map_err(|_| Refusal::NoMemory)
     }
 
-    /// Takes in a change that was made ready, while the book is as it was left then, and answers
-    /// it. It takes no memory, and is not refused.
+    /// Commits a prepared change, provided that the book has not changed since, and returns its
+    /// reply. It does not allocate, and never fails.
     pub fn commit(&mut self, change: PendingChange) -> Reply
         requires ready { IsReady self.old change }
         ensures taken { Takes self.old change.calls change.entry self.new }
@@ -112,9 +114,9 @@ impl Book {
         reply
     }
 
-    /// Makes a change ready and takes it in, and answers it.
+    /// Prepares a change, commits it, and returns its reply.
     ///
-    /// Refused as `prepare` is, and then nothing changes.
+    /// Fails as `prepare` does, and then nothing changes.
     pub fn accept(&mut self, calls: usize, entry: Record) -> Result<Reply, Refusal>
         requires other { IsNoFlush entry }
         ensures taken { OnOk result (Takes self.old calls entry self.new) }
@@ -127,11 +129,11 @@ impl Book {
         Ok(self.commit(change))
     }
 
-    /// Publishes a plan that is known to match the problem of a snapshot: `accept` of it, which does
-    /// not check the plan anew. O(1).
+    /// Publishes a plan that is known to match the problem of a snapshot. Does the same as
+    /// `accept`, but does not check the plan again. O(1).
     ///
-    /// Refused with `HistoryFull`, also where there are 1,024 plans, and then with `NoMemory`;
-    /// nothing changes.
+    /// Fails with `HistoryFull`, also if there are 1,024 plans, and otherwise only with `NoMemory`;
+    /// then nothing changes.
     pub fn publish_for(
         &mut self,
         calls: usize,
@@ -158,7 +160,7 @@ impl Book {
         Ok(self.commit(change))
     }
 
-    // All growths of a change that passes its tests. The last one is that of the records.
+    // Makes all allocations of a change that passes its tests. Those of the records come last.
     fn ready(&mut self, calls: usize, entry: Record) -> Result<PendingChange, NoMemory>
         requires other { IsNoFlush entry }
         requires passes { MayTake self.old calls entry }
@@ -177,7 +179,7 @@ impl Book {
         })
     }
 
-    // Room for one more of each: records, snapshots and plans.
+    // Reserves room for one more record, one more snapshot and one more plan.
     fn reserve(&mut self) -> Result<(), NoMemory>
         ensures room { OnOk result (self.new.room ≡ true) }
         ensures same { SameBook self.old self.new }
@@ -189,7 +191,7 @@ impl Book {
         Ok(())
     }
 
-    // What a change that passes its tests changes beside the records, and its answer.
+    // Returns the effect and the reply of a change that passes its tests.
     fn effect(&self, entry: &Record) -> Result<(Effect, Reply), NoMemory>
         requires other { IsNoFlush entry.now }
         requires passes { (calls : ℕ) × MayTake self.now calls entry.now }
@@ -237,7 +239,7 @@ impl Book {
     }
 }
 
-// What a retargeting changes, and its answer.
+// Returns the effect of a retargeting, and its reply.
 fn retargeting(alloc: Global, site: usize, tree: &Declared) -> Result<(Effect, Reply), NoMemory>
     ensures value { IfOk result (λ p. (p.0 ≡ World (Target record { site = site; tree = tree.now }))
         × (p.1 ≡ Done)) }
@@ -247,7 +249,7 @@ fn retargeting(alloc: Global, site: usize, tree: &Declared) -> Result<(Effect, R
     Ok((Effect::World(control), Reply::Done))
 }
 
-// What an invalidation changes, and its answer.
+// Returns the effect of an invalidation, and its reply.
 fn invalidation(points: &Listing<u32>) -> Result<(Effect, Reply), NoMemory>
     ensures value { IfOk result (λ p. (p.0 ≡ World (Invalidate points.now)) × (p.1 ≡ Done)) }
 {
@@ -255,7 +257,7 @@ fn invalidation(points: &Listing<u32>) -> Result<(Effect, Reply), NoMemory>
     Ok((Effect::World(control), Reply::Done))
 }
 
-// Another owner of what a control has.
+// Returns a copy of a control, with other owners of its trees.
 fn share_control(control: &Control) -> Result<Option<Control>, NoMemory>
     ensures value { IfOk result (λ c. c ≡ Some control.now) }
 {

@@ -1,4 +1,4 @@
-//! Installations: the caches of linked sites, and the world that an installation leaves.
+//! Installations: the caches of linked sites, and the world after an installation.
 ghost use Rattle.std.specs.Prelude.{◌≡◌, ◌<◌, ◌≤◌, ◌++◌, ◌||◌, not, nat_lt, filter, length, map, IfOk, OnOk, ◌∷◌, ◌&&◌, [], true, false};
 ghost use Rattle.std.specs.List.{All};
 ghost use Rattle.std.specs.List.Sorted.{IsStrictlyIncreasing};
@@ -24,7 +24,7 @@ use mh_pic::{Entry, prepared_chain};
 use mh_site::{Control, Installation, KeptLinks, Listing, Relinking};
 
 impl Book {
-    // The inline cache of the usable links of a site over its base tree.
+    // Returns the inline cache of the usable links of a site over its base tree.
     pub(crate) fn make_cache(
         &self,
         plan: usize,
@@ -67,7 +67,7 @@ impl Book {
         Ok(Entry::new(key, needs))
     }
 
-    // The links of a site that a plan has.
+    // Returns the links of a site that a plan selects.
     pub(crate) fn chosen(&self, plan: usize, site: usize) -> KeptLinks
         requires published { IsPublished self.now.records plan }
         requires inside { site < length self.now.definition.sites }
@@ -83,8 +83,7 @@ impl Book {
         chosen
     }
 
-    // Those of some links whose needs are all valid. The others are added to those that are left
-    // out.
+    // Returns those of some links whose needs are all valid, and appends the others to `left_out`.
     pub(crate) fn usable(
         &self,
         chosen: &[usize],
@@ -110,8 +109,8 @@ impl Book {
         Ok(usable)
     }
 
-    // Whether an installation concerns a site of which a plan has these links: there are some, or
-    // the site holds links.
+    // Returns whether an installation concerns a site of which a plan selects these links: there
+    // are some, or the site holds links.
     pub(crate) fn is_concerned(&self, site: usize, chosen: &[usize]) -> bool
         requires inside { site < length self.now.definition.sites }
         ensures value { result ≡ (nat_lt 0 (length chosen.now) ||
@@ -120,7 +119,7 @@ impl Book {
         !chosen.is_empty() || !self.world.kept(site).is_empty()
     }
 
-    // Whether a plan has a link. O(log links).
+    // Returns whether a plan selects a link. O(log links).
     fn has(&self, plan: usize, link: usize) -> bool
         requires published { IsPublished self.now.records plan }
         requires inside { link < length (links_of self.now.definition) }
@@ -130,7 +129,7 @@ impl Book {
         links.binary_search(&(link as u32)).is_ok()
     }
 
-    // The links of a plan, ascending.
+    // Returns the links of a plan, ascending.
     fn links_of_plan(&self, plan: usize) -> &[u32]
         requires published { IsPublished self.now.records plan }
         ensures value { result.now ≡ (plan_at self.now.records plan).plan.links }
@@ -141,8 +140,8 @@ impl Book {
         self.plan(plan).links.as_slice()
     }
 
-    /// Whether a site was not retargeted since the snapshot of a plan, so that an installation of the
-    /// plan does not skip it. O(1).
+    /// Returns whether a site was not retargeted since the snapshot of a plan, so that an
+    /// installation of the plan does not skip it. O(1).
     pub fn is_current(&self, plan: usize, site: usize) -> bool
         requires published { IsPublished self.now.records plan }
         requires inside { site < length self.now.definition.sites }
@@ -152,8 +151,8 @@ impl Book {
         self.snapshots[snapshot - 1].versions()[site] == self.world.version(site)
     }
 
-    /// Whether all points that a link needs are valid. An installation leaves out a link that is not.
-    /// O(needs).
+    /// Returns whether all points that a link needs are valid. An installation leaves out a link of
+    /// which one is invalid. O(needs).
     pub fn is_eligible(&self, link: usize) -> bool
         requires inside { link < length (links_of self.now.definition) }
         ensures value { result ≡ is_eligible_after self.now.definition self.now.records link }
@@ -164,7 +163,7 @@ impl Book {
 }
 
 impl Book {
-    // What the installation of a plan changes, and its answer.
+    // Returns the effect of the installation of a plan, and its reply.
     pub(crate) fn installation(&self, plan: usize) -> Result<(Effect, Reply), NoMemory>
         requires published { IsPublished self.now.records plan }
         ensures effect { IfOk result (λ p. HasEffect self.now (Installed plan) p.0) }
@@ -176,8 +175,8 @@ impl Book {
         Ok((Effect::World(control), Reply::Installed(report)))
     }
 
-    // What becomes of each site that an installation concerns, and the new linked trees of those
-    // that it does not skip. Each site and each link of the plan is decided once.
+    // Returns the report for each site that an installation concerns, and the new linked trees of
+    // those that it does not skip. Each site and each link of the plan is decided once.
     fn decide(&self, plan: usize) -> Result<(InstallReport, Vec<Relinking>), NoMemory>
         requires published { IsPublished self.now.records plan }
         ensures report { IfOk result (λ p. p.0
@@ -201,8 +200,9 @@ impl Book {
         Ok((InstallReport { sites, left_out }, relinkings))
     }
 
-    // Adds the new linked tree of a site of which the plan has these links, unless the installation
-    // skips it, and says what became of it. Those of the links that it does not link are left out.
+    // Adds the new linked tree of a site of which the plan selects these links, unless the
+    // installation skips the site, and returns the result for the site. Those of the links that it
+    // does not link are appended to `left_out`.
     fn link(
         &self,
         plan: usize,
@@ -237,7 +237,7 @@ impl Book {
     }
 }
 
-// What a site has with these links.
+// Returns the linkage of a site with these links.
 fn linkage(links: &[usize]) -> Linkage
     ensures value { result ≡ linkage_of links.now }
 {

@@ -1,4 +1,4 @@
-//! The tests of a record, where so many calls were accepted beside those of a book.
+//! The tests of a record, given that `calls` calls were accepted besides the records of a book.
 
 ghost use Rattle.std.specs.Prelude.{◌≡◌, ◌⊎◌, ◌<◌, ◌≤◌, ◌+◌, ◌↔◌, length, OnOk, IfErr, IsTrue};
 ghost use Rattle.std.specs.List.{All};
@@ -27,8 +27,8 @@ use mh_tree::Declared;
 use std::alloc::Global;
 
 impl Book {
-    /// Whether as many events were accepted as may be, where so many calls were accepted beside the
-    /// records.
+    /// Returns whether the limit of events is reached, given that `calls` calls were accepted
+    /// besides the records.
     pub fn is_full(&self, calls: usize) -> bool
         ensures decides { IsTrue result
             ↔ (self.now.limits.history ≤ length self.now.records + calls) }
@@ -36,7 +36,7 @@ impl Book {
         self.records.len().saturating_add(calls) as u64 >= self.limits.history()
     }
 
-    // The tests of a record that is no flush: reports the first that fails.
+    // Runs the tests of a record other than a flush, and reports the first that fails.
     pub(crate) fn test(&self, calls: usize, entry: &Record) -> Result<(), Refusal>
         requires other { IsNoFlush entry.now }
         ensures passes { OnOk result (MayTake self.now calls entry.now) }
@@ -52,7 +52,7 @@ impl Book {
         }
     }
 
-    // The tests of a flush: reports the first that fails.
+    // Runs the tests of a flush, and reports the first that fails.
     pub(crate) fn test_flush(&self, calls: usize, ledger: &Ledger) -> Result<(), Refusal>
         requires held { Holds self.now.totals ledger.now }
         ensures passes { OnOk result (MayTake self.now calls (Flushed ledger.now.worker (hits_in ledger.now.unflushed))) }
@@ -68,7 +68,7 @@ impl Book {
         Ok(())
     }
 
-    // The tests of a retargeting: reports the first that fails.
+    // Runs the tests of a retargeting, and reports the first that fails.
     fn test_target(&self, calls: usize, site: usize, tree: &Declared) -> Result<(), Refusal>
         ensures passes { OnOk result (MayTake self.now calls (Targeted site tree.now)) }
         ensures refuses { IfErr result
@@ -95,7 +95,7 @@ impl Book {
         Ok(())
     }
 
-    // The tests of an invalidation: reports the first that fails.
+    // Runs the tests of an invalidation, and reports the first that fails.
     fn test_points(&self, calls: usize, points: &Listing<u32>) -> Result<(), Refusal>
         ensures passes { OnOk result (MayTake self.now calls (Invalidated points.now)) }
         ensures refuses { IfErr result
@@ -110,7 +110,7 @@ impl Book {
         Ok(())
     }
 
-    // The tests of a snapshot: reports the first that fails.
+    // Runs the tests of a snapshot, and reports the first that fails.
     fn test_snapshot(&self, calls: usize) -> Result<(), Refusal>
         ensures passes { OnOk result (MayTake self.now calls Snapped) }
         ensures refuses { IfErr result
@@ -126,7 +126,7 @@ impl Book {
         Ok(())
     }
 
-    // The tests of a plan that is offered: reports the first that fails.
+    // Runs the tests of a plan that is offered, and reports the first that fails.
     fn test_publish(&self, calls: usize, snapshot: usize, plan: &SharedPlan) -> Result<(), Refusal>
         ensures passes { OnOk result (MayTake self.now calls (Published snapshot plan.now)) }
         ensures refuses { IfErr result
@@ -141,7 +141,7 @@ impl Book {
         Ok(())
     }
 
-    // Whether as many events were accepted, or plans published, as may be.
+    // Returns whether the limit of events or that of published plans is reached.
     pub(crate) fn plans_are_full(&self, calls: usize) -> bool
         ensures decides { IsTrue result ↔ ((self.now.limits.history
             ≤ length self.now.records + calls) ⊎ (most_plans ≤ plans self.now.records)) }
@@ -149,7 +149,7 @@ impl Book {
         self.is_full(calls) || self.plans.len() >= MOST_PLANS
     }
 
-    // The tests of an installation: reports the first that fails.
+    // Runs the tests of an installation, and reports the first that fails.
     fn test_install(&self, calls: usize, plan: usize) -> Result<(), Refusal>
         ensures passes { OnOk result (MayTake self.now calls (Installed plan)) }
         ensures refuses { IfErr result
@@ -169,7 +169,7 @@ impl Book {
     }
 }
 
-// Whether a plan matches its problem, or its first part that is wrong.
+// Tests whether a plan matches its problem. If it does not, reports its first part that is wrong.
 fn test_plan(alloc: Global, problem: &Problem, plan: &Plan) -> Result<(), Refusal>
     ensures matching { OnOk result (Matches problem.now plan.now) }
     ensures refused { IfErr result (λ told. (told ≡ Refusal.NoMemory)

@@ -1,4 +1,4 @@
--- Whether a site may be invoked, as a test that computes.
+-- The test of whether a site may be invoked, which computes.
 use Rattle.std.specs.Prelude.{ℕ, Bool, ◌&&◌, List, length, nat_lt}
 use Rattle.mh_type.specs.Signature.{Signature, signature_eq}
 use Rattle.mh_tree.specs.Handle.{TypedTree}

@@ -1,4 +1,4 @@
--- What walking a tree on the arguments of a frame gives.
+-- The result of walking a tree on the arguments of a frame.
 use Rattle.std.specs.Prelude.{◌≡◌, ℕ, ◌+◌, ◌*◌, ◌≤◌, Bool, false, List, [], ◌∷◌, length, slice_set, ◌++◌, Result, Ok, Err}
 use Rattle.mh_type.specs.declared.value.Value.{Value}
 use Rattle.mh_type.specs.declared.value.Value.TheVariants as value
@@ -17,8 +17,8 @@ use Rattle.mh_type.specs.Limits.{most_parameters}
 use Rattle.mh_eval.specs.inner.Limits.{level_room}
 use Rattle.mh_tree.specs.Sites.{Setting, env, most_at}
 
--- The outcome and the steps, or memory was refused. With n values on the stack and a capacity of c it is not refused where no node
--- that is entered has String in its type and each level of the tree, and of 96 of each tree that is invoked below it, has room for 32 more, whatever further arguments e there are.
+-- The outcome and the steps, or memory was refused. With n values on a stack of capacity c, it is not refused if no node evaluated has
+-- String in its type and each level of the tree, and 96 of each tree invoked below it, has room for 32 more, for all further arguments e.
 pub record Walked (r : Answer) (k : ℕ) (v : Setting) (t : Tree) (a : List Value) (n c : ℕ) : Type 0 where
   pub ran : Ran r k (mean (env v) t a) (steps (env v) t a)
   pub few : k ≤ most_steps (most_at v.level) t
@@ -49,7 +49,7 @@ Ends (Thrown t) k o m = (o ≡ outcome.Thrown t) × (k ≡ m)
 Ends NoMemory k o m = Unit {0}
 Ends _ k o m = ⊥
 
--- A filter's value stands in the place of its argument, or the walk ends and the stack is as before.
+-- A filter's value replaces its argument, or the walk ends and the stack is as before.
 pub record Placed {A : Type 0} (r : Result A Answer) (k : ℕ) (v : Setting) (f : Tree) (p : ℕ) (old new : List Value) (c : ℕ) : Type 0 where
   pub value : Settles r (λ s. Ends s k (mean (env v) f (argument old p ∷ [])) (steps (env v) f (argument old p ∷ [])) × (new ≡ old))
       ((mean (env v) f (argument old p ∷ []) ≡ outcome.Value (argument new p)) × (k ≡ steps (env v) f (argument old p ∷ [])) × (new ≡ slice_set old p (argument new p)))
@@ -62,7 +62,7 @@ Stops (Thrown t) k r m = (r ≡ Err t) × (k ≡ m)
 Stops NoMemory k r m = Unit {0}
 Stops _ k r m = ⊥
 
--- The arguments after filters stand in their places, or the walk ends.
+-- The arguments after filters are in their places, or the walk ends.
 pub record Passed {A : Type 0} (r : Result A Answer) (k : ℕ) (v : Setting) (fs : Filters) (p : ℕ) (old new : List Value) (n c : ℕ) : Type 0 where
   pub value : Settles r (λ s. Stops s k (filtered (env v) fs p old) (filter_steps (env v) fs p old)) ((filtered (env v) fs p old ≡ Ok new) × (k ≡ filter_steps (env v) fs p old))
   pub few : k ≤ all_steps (most_at v.level) fs

@@ -2,25 +2,26 @@
 use mh_base::NoMemory;
 use std::alloc::Global;
 
-/// A list or an object that is open at some place of a text.
+/// A list or an object that is open at a place of a text.
 #[derive(Clone, Copy)]
 pub(crate) struct Level {
     pub(crate) is_list: bool,
-    /// Whether a colon stands behind its last comma.
+    /// True if there is a colon after its last comma.
     pub(crate) has_colon: bool,
 }
 
-/// What a text leaves open, up to the first bracket, colon or comma that cannot stand where it does.
+/// The lists, objects and strings that a text leaves open, up to the first bracket, colon or comma
+/// that is not allowed where it is.
 #[derive(Drop)]
 pub(crate) struct Levels {
-    /// Lists and objects, the innermost last.
+    /// The open lists and objects, from the outermost to the innermost.
     levels: Vec<Level>,
     pub(crate) is_in_string: bool,
     is_escaped: bool,
 }
 
 impl Levels {
-    /// What a text leaves open, and how many of its bytes were read.
+    /// Returns what a text leaves open, and how many of its bytes were read.
     pub(crate) fn by(alloc: Global, text: &[u8]) -> Result<(Levels, usize), NoMemory> {
         let mut levels = Levels {
             levels: Vec::new(alloc),
@@ -36,17 +37,17 @@ impl Levels {
         Ok((levels, text.len()))
     }
 
-    /// How many lists and objects are open.
+    /// Returns how many lists and objects are open.
     pub(crate) fn depth(&self) -> usize {
         self.levels.len()
     }
 
-    /// The innermost list or object that is open.
+    /// Returns the innermost list or object that is open.
     pub(crate) fn innermost(&self) -> Option<Level> {
         self.levels.as_slice().last().copied()
     }
 
-    /// Whether a byte, if it is a bracket, a colon or a comma, may stand here.
+    /// Returns whether a byte, if it is a bracket, a colon or a comma, is allowed here.
     fn has_place_for(&self, byte: u8) -> bool {
         let Some(level) = self.innermost() else {
             return byte != b']' && byte != b'}';
@@ -60,7 +61,7 @@ impl Levels {
         }
     }
 
-    /// Takes in one byte more.
+    /// Reads one more byte.
     fn go_on(&mut self, byte: u8) -> Result<(), NoMemory> {
         if self.is_in_string {
             self.is_in_string = byte != b'"' || self.is_escaped;
@@ -82,7 +83,7 @@ impl Levels {
         Ok(())
     }
 
-    /// Takes in a colon or a comma.
+    /// Reads a colon or a comma.
     fn set_colon(&mut self, has_colon: bool) {
         if let Some(level) = self.levels.last_mut() {
             level.has_colon = has_colon;

@@ -1,7 +1,8 @@
-//! Why a text is no JSON, by what stands before and behind the place where reading it stopped.
+//! The reason why a text is not valid JSON, given the bytes before and after the place where
+//! reading it stopped.
 use crate::no_json::levels::Level;
 
-/// Why `//` and `#` are none.
+/// The reason why `//` and `#` are not valid.
 pub(crate) const COMMENTS: &str = "JSON has no comments";
 
 const QUOTES: &str = "a string of JSON stands in \"\"";
@@ -26,7 +27,7 @@ const TOO_LARGE: &str = "the number before this is too large";
 
 const NOTHING: &str = "no text of JSON has this here";
 
-/// A place where a text, which is no value of JSON up to there, cannot go on so.
+/// A place where a text, which is not a JSON value up to there, cannot continue as it does.
 #[derive(Clone, Copy)]
 pub(crate) struct Stop<'a> {
     pub(crate) before: &'a [u8],
@@ -36,7 +37,7 @@ pub(crate) struct Stop<'a> {
 }
 
 impl Stop<'_> {
-    /// Why the text cannot go on so.
+    /// Returns the reason why the text cannot continue as it does.
     pub(crate) fn reason(&self) -> &'static str {
         match self.rest {
             [b'/' | b'#', ..] => return COMMENTS,
@@ -53,7 +54,7 @@ impl Stop<'_> {
         }
     }
 
-    /// Why no text begins so.
+    /// Returns the reason why a text cannot begin as it does.
     fn reason_at_start(&self) -> &'static str {
         match self.rest {
             [b'"', ..] => reason_in_string(self.rest),
@@ -61,7 +62,7 @@ impl Stop<'_> {
         }
     }
 
-    /// Why no key begins so, behind a bracket or a comma.
+    /// Returns the reason why a key cannot begin as it does, after a bracket or a comma.
     fn reason_at_key(&self, last: u8) -> &'static str {
         match self.rest {
             [b',', ..] => COMMA_HERE,
@@ -73,7 +74,7 @@ impl Stop<'_> {
         }
     }
 
-    /// Why no value begins so, behind a bracket, a comma or a colon.
+    /// Returns the reason why a value cannot begin as it does, after a bracket, a comma or a colon.
     fn reason_at_value(&self, last: u8) -> &'static str {
         match self.rest {
             [b',' | b']' | b'}', ..] if last == b':' => NO_VALUE,
@@ -87,7 +88,7 @@ impl Stop<'_> {
         }
     }
 
-    /// Why the text does not go on so behind a value, or behind a key.
+    /// Returns the reason why the text cannot continue as it does after a value or a key.
     fn reason_behind(&self, last: u8) -> &'static str {
         let Some(level) = self.level else {
             return NOTHING;
@@ -106,7 +107,7 @@ impl Stop<'_> {
         }
     }
 
-    /// Why a byte does not stand behind a value.
+    /// Returns the reason why a byte is not allowed after a value.
     fn reason_behind_value(&self, last: u8, byte: u8) -> &'static str {
         if has_exponent(self.before) && !begins(byte) {
             return TOO_LARGE;
@@ -121,7 +122,7 @@ impl Stop<'_> {
         }
     }
 
-    /// What a bracket of the other kind does not close.
+    /// Returns the reason why a bracket of the other kind closes nothing.
     fn reason_crossed(&self) -> &'static str {
         match self.level {
             Some(Level { is_list: true, .. }) => "a list is open here, which ends with ]",
@@ -131,12 +132,12 @@ impl Stop<'_> {
     }
 }
 
-/// Whether JSON has a byte between its words.
+/// Returns whether JSON allows a byte as white space between its tokens.
 pub(crate) fn is_white(byte: u8) -> bool {
     byte == b' ' || byte == b'\t' || byte == b'\n' || byte == b'\r'
 }
 
-/// The last byte that is not white.
+/// Returns the last byte that is not white space.
 fn last_of(before: &[u8]) -> Option<u8> {
     let mut last = None;
     for byte in before {
@@ -147,18 +148,18 @@ fn last_of(before: &[u8]) -> Option<u8> {
     last
 }
 
-/// Whether a value or a key may begin with a byte, or is meant to.
+/// Returns whether a value or a key may begin with a byte, or was meant to.
 fn begins(byte: u8) -> bool {
     let is_word = byte.is_ascii_alphanumeric() || byte == b'-' || byte == b'_';
     is_word || byte == b'"' || byte == b'[' || byte == b'{'
 }
 
-/// Whether a value of JSON may end with a byte.
+/// Returns whether a JSON value may end with a byte.
 fn ends_a_value(byte: u8) -> bool {
     byte.is_ascii_alphanumeric() || byte == b'"' || byte == b']' || byte == b'}'
 }
 
-/// Whether a text ends with a number that has an exponent.
+/// Returns whether a text ends with a number that has an exponent.
 fn has_exponent(before: &[u8]) -> bool {
     for byte in before.iter().rev() {
         match *byte {
@@ -170,7 +171,7 @@ fn has_exponent(before: &[u8]) -> bool {
     false
 }
 
-/// Why no value is written so.
+/// Returns the reason why a value cannot be written as it is.
 fn reason_in_value(rest: &[u8]) -> &'static str {
     if rest.starts_with(b"NaN") || rest.starts_with(b"Inf") || rest.starts_with(b"-Inf") {
         return NOT_FINITE;
@@ -186,7 +187,7 @@ fn reason_in_value(rest: &[u8]) -> &'static str {
     }
 }
 
-/// Why no number is written so.
+/// Returns the reason why a number cannot be written as it is.
 fn reason_in_number(rest: &[u8]) -> &'static str {
     if let [b'0', b'0'..=b'9', ..] | [b'-', b'0', b'0'..=b'9', ..] = rest {
         return "a number of JSON does not begin with 0";
@@ -201,8 +202,8 @@ fn reason_in_number(rest: &[u8]) -> &'static str {
     }
 }
 
-/// Whether a text begins with a whole number, which is a value of JSON: then reading stopped at it
-/// for the number before it.
+/// Returns whether a text begins with a whole number, which is a JSON value: then reading stopped
+/// because of the number before it.
 fn is_whole(rest: &[u8]) -> bool {
     for byte in rest {
         match *byte {
@@ -214,7 +215,7 @@ fn is_whole(rest: &[u8]) -> bool {
     false
 }
 
-/// The first byte that no number has.
+/// Returns the first byte that is not part of a number.
 fn behind_number(rest: &[u8]) -> Option<u8> {
     for byte in rest {
         match *byte {
@@ -225,7 +226,7 @@ fn behind_number(rest: &[u8]) -> Option<u8> {
     None
 }
 
-/// Why no string is written so.
+/// Returns the reason why a string cannot be written as it is.
 fn reason_in_string(rest: &[u8]) -> &'static str {
     for byte in rest {
         match *byte {

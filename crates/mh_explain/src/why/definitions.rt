@@ -1,4 +1,4 @@
-//! Definitions that are not lawful.
+//! Explanations of definitions that are not lawful.
 use crate::scope::scope_at;
 use crate::spot::Spot;
 use crate::values::{items, items_at, known, named_behind, version_of};
@@ -15,7 +15,7 @@ use mh_type::{Kind, MethodType, same_value};
 use serde_json::Value;
 use std::alloc::Global;
 
-/// Why a definition is not lawful: what is said of the part that has the cause.
+/// Explains why a definition is not lawful, by the part that has the fault.
 pub(crate) fn why_definition(
     alloc: Global,
     cause: DefinitionFault,
@@ -40,7 +40,7 @@ pub(crate) fn why_definition(
     }
 }
 
-/// That there are too many points or sites.
+/// Explains that there are too many points or sites.
 fn why_long(
     alloc: Global,
     list: Field,
@@ -55,14 +55,14 @@ fn why_long(
     why_too_many(alloc, what, found, most, later)
 }
 
-/// The name that an item of a list has.
+/// Returns the name of an item of a list.
 fn name_of(item: &Value) -> &str {
     item.get(Field::Name.name())
         .and_then(Value::as_str)
         .unwrap_or("")
 }
 
-/// That an item of a list has the name of an earlier one: both numbers.
+/// Explains that an item of a list has the name of an earlier one, with both numbers.
 fn why_name_twice(
     alloc: Global,
     list: Field,
@@ -75,7 +75,7 @@ fn why_name_twice(
     Ok(format!(in alloc; "{list}[{one}] and {list}[{item}] have one name")?)
 }
 
-/// Why a point is not lawful, of which this part is not.
+/// Explains why a point is not lawful, by this part of it.
 fn why_point(
     alloc: Global,
     cause: DefinitionFault,
@@ -111,14 +111,14 @@ pub(crate) struct Site<'a> {
 }
 
 impl<'a> Site<'a> {
-    /// The first site with a name.
+    /// Returns the first site with a name.
     pub(crate) fn named(definition: &'a Value, name: &str) -> Option<Site<'a>> {
         let sites = items_at(definition, Field::Sites);
         let number = sites.iter().position(|site| name_of(site) == name)?;
         Some(Site { definition, number })
     }
 
-    /// Why it is not lawful.
+    /// Explains why the site is not lawful.
     fn why(
         &self,
         alloc: Global,
@@ -151,7 +151,7 @@ impl<'a> Site<'a> {
         self.sites().get(self.number)
     }
 
-    /// What the site has at a key.
+    /// Returns the value of the site's key.
     fn part(&self, field: Field) -> Option<&'a Value> {
         self.value()?.get(field.name())
     }
@@ -160,7 +160,7 @@ impl<'a> Site<'a> {
         self.part(Field::Level).map_or(0, number_of)
     }
 
-    /// Its type, where that can be read.
+    /// Returns the site's type, if it can be read.
     pub(crate) fn method_type(&self) -> Result<Option<MethodType>, NoMemory> {
         match self.part(Field::Type) {
             Some(text) => known(read_type(text)),
@@ -168,7 +168,7 @@ impl<'a> Site<'a> {
         }
     }
 
-    /// What is wrong with a part of the site.
+    /// Explains what is wrong with a part of the site.
     fn why_part(
         &self,
         alloc: Global,
@@ -192,7 +192,7 @@ impl<'a> Site<'a> {
         }
     }
 
-    /// Why the key place is none.
+    /// Explains why the key position is not valid.
     fn why_no_place(&self, alloc: Global) -> Result<Option<String>, NoMemory> {
         let Some(place) = self.part(Field::Key).and_then(Value::as_u64) else {
             return Ok(Some(String::from_str(
@@ -237,7 +237,7 @@ impl<'a> Site<'a> {
         Ok(Some(format!(in alloc; "is {own}, and its target {target}")?))
     }
 
-    /// That a target invokes a site that is not of a lower level: the first such.
+    /// Explains that a target invokes a site that is not of a lower level, by the first such site.
     pub(crate) fn why_not_lower(
         &self,
         alloc: Global,
@@ -258,7 +258,7 @@ impl<'a> Site<'a> {
         Ok(None)
     }
 
-    /// That the first of these names that no point has is that of none.
+    /// Explains that a name is not that of a point, by the first such name.
     fn why_no_point(&self, alloc: Global, names: &[&str]) -> Result<Option<String>, NoMemory> {
         let points = names_in(alloc, self.definition, Field::Points)?;
         for name in names {
@@ -273,7 +273,7 @@ impl<'a> Site<'a> {
         Ok(None)
     }
 
-    /// What is wrong with a link, or with this part of it.
+    /// Explains what is wrong with a link, or with this part of it.
     fn why_link(
         &self,
         alloc: Global,
@@ -292,7 +292,7 @@ impl<'a> Site<'a> {
         }
     }
 
-    /// That the key of a link is of another kind than the key place.
+    /// Explains that the key of a link is not of the kind of the parameter at the key position.
     fn why_other_kind(
         &self,
         alloc: Global,
@@ -312,7 +312,7 @@ impl<'a> Site<'a> {
         )?))
     }
 
-    /// The kind of the parameter at the key place.
+    /// Returns the kind of the parameter at the key position.
     fn key_kind(&self) -> Result<Option<Kind>, NoMemory> {
         let place = self
             .part(Field::Key)
@@ -323,7 +323,7 @@ impl<'a> Site<'a> {
         Ok(method_type.parameters().get(place).copied())
     }
 
-    /// That a link has the key of an earlier one: both numbers.
+    /// Explains that a link has the key of an earlier one, with both numbers.
     fn why_key_twice(&self, alloc: Global, link: usize) -> Result<Option<String>, NoMemory> {
         let kind = self.key_kind()?;
         let Some(links) = self.part(Field::Links).map(items) else {
@@ -348,7 +348,7 @@ impl<'a> Site<'a> {
     }
 }
 
-/// The key of a link.
+/// Returns the key of a link.
 fn key_of(
     alloc: Global,
     kind: Option<Kind>,
@@ -360,7 +360,7 @@ fn key_of(
     }
 }
 
-/// That a link has more than it may.
+/// Explains that a part of a link exceeds its limit.
 fn why_many(
     alloc: Global,
     cause: DefinitionFault,
@@ -389,7 +389,7 @@ fn why_many(
     })
 }
 
-/// The texts in a list.
+/// Returns the texts in a list.
 fn texts_in(alloc: Global, list: &Value) -> Result<Vec<&str>, NoMemory> {
     let mut texts = Vec::new(alloc);
     for item in items(list) {
@@ -400,7 +400,7 @@ fn texts_in(alloc: Global, list: &Value) -> Result<Vec<&str>, NoMemory> {
     Ok(texts)
 }
 
-/// The first text that is there before, too.
+/// Returns the first text that also occurs before.
 fn twice<'a>(texts: &[&'a str]) -> Option<&'a str> {
     for (i, text) in texts.iter().enumerate() {
         if is_among(text, &texts[..i]) {

@@ -1,4 +1,4 @@
-//! Events that were refused.
+//! Explanations of refused events.
 use crate::found::cut;
 use crate::path::ShownPath;
 use crate::scope::scope_at;
@@ -18,7 +18,7 @@ use mh_type::{Kind, MethodType};
 use serde_json::Value;
 use std::alloc::Global;
 
-/// Which test of an event failed.
+/// The reason why a test of an event failed.
 #[derive(Drop)]
 struct Reason {
     /// The numbers of the items that lead from the event to the part that failed.
@@ -27,7 +27,7 @@ struct Reason {
 }
 
 impl Reason {
-    /// Of the event itself.
+    /// Returns a reason about the event itself.
     fn of_event(alloc: Global, why: String) -> Reason {
         Reason {
             items: Vec::new(alloc),
@@ -35,14 +35,14 @@ impl Reason {
         }
     }
 
-    /// Of an item of the event.
+    /// Returns a reason about an item of the event.
     fn of_item(alloc: Global, item: usize, why: String) -> Result<Reason, NoMemory> {
         let mut items = Vec::new(alloc);
         items.push(item)?;
         Ok(Reason { items, why })
     }
 
-    /// Of an item of a list that is an item of the event.
+    /// Returns a reason about an item of a list that is an item of the event.
     fn of_item_in(
         alloc: Global,
         list: usize,
@@ -56,7 +56,8 @@ impl Reason {
     }
 }
 
-/// The part of the event of this number, from 1, that failed a test, and which test: a line each.
+/// Returns the lines about the part of the event with this number, from 1, that failed a test, and
+/// about that test.
 pub(crate) fn reasons_of_event(
     alloc: Global,
     script: &Value,
@@ -81,7 +82,7 @@ pub(crate) fn reasons_of_event(
     Ok(format!(in alloc; "  where: {path}\n  found: {found}\n  why:   {why}\n")?)
 }
 
-/// What stands at the end of these items, as far as they lead.
+/// Returns the value at the end of these items, as far as they lead.
 fn part_at<'a>(event: &'a Value, items: &[usize]) -> &'a Value {
     let mut part = event;
     for item in items {
@@ -93,7 +94,7 @@ fn part_at<'a>(event: &'a Value, items: &[usize]) -> &'a Value {
     part
 }
 
-/// The keys of a part of an event.
+/// Returns the keys of a part of an event.
 fn keys_to(alloc: Global, place: usize, items: &[usize]) -> Result<Vec<Key>, NoMemory> {
     let mut keys = Vec::new(alloc);
     keys.push(Key::Member(Field::Events))?;
@@ -108,12 +109,12 @@ fn keys_to(alloc: Global, place: usize, items: &[usize]) -> Result<Vec<Key>, NoM
 #[derive(Clone, Copy)]
 struct Event<'a> {
     script: &'a Value,
-    /// Its word, and what that heads.
+    /// Its word, and the items after it.
     parts: &'a [Value],
 }
 
 impl<'a> Event<'a> {
-    /// Which of its tests failed.
+    /// Explains which of its tests failed.
     fn why(&self, alloc: Global, refusal: Refusal) -> Result<Reason, NoMemory> {
         match refusal {
             Refusal::NoWorker => self.why_no_worker(alloc),
@@ -146,7 +147,7 @@ impl<'a> Event<'a> {
         }
     }
 
-    /// What has no room for more.
+    /// Explains which limit is reached.
     fn why_full(&self, alloc: Global, refusal: Refusal) -> Result<String, NoMemory> {
         Ok(match refusal {
             Refusal::HistoryFull => self.why_history_full(alloc)?,
@@ -180,7 +181,7 @@ impl<'a> Event<'a> {
         })
     }
 
-    /// A limit of the script, or the greatest, where it gives none.
+    /// Returns a limit of the script, or the greatest if the script does not give one.
     fn limit(&self, field: Field, greatest: u64) -> u64 {
         self.script
             .get(Field::Limits.name())
@@ -193,7 +194,7 @@ impl<'a> Event<'a> {
         self.parts.first().and_then(Value::as_str).unwrap_or("")
     }
 
-    /// The name at an item.
+    /// Returns the name at an item.
     fn name_at(&self, item: usize) -> &'a str {
         self.parts.get(item).and_then(Value::as_str).unwrap_or("")
     }
@@ -202,7 +203,7 @@ impl<'a> Event<'a> {
         self.script.get(Field::Definition.name())
     }
 
-    /// That of the number behind the word.
+    /// Returns a reason about the number after the word.
     fn of_number(&self, alloc: Global, why: &str) -> Result<Reason, NoMemory> {
         Reason::of_item(alloc, 1, String::from_str(alloc, why)?)
     }
@@ -213,7 +214,7 @@ impl<'a> Event<'a> {
         Reason::of_item(alloc, 1, numbered(alloc, workers, "worker", "workers")?)
     }
 
-    /// Where the name of the site stands: behind the worker of a call.
+    /// Returns the index of the name of the site, which comes after the worker in a call.
     fn place_of_site(&self) -> usize {
         if self.word() == "call" { 2 } else { 1 }
     }
@@ -253,7 +254,7 @@ impl<'a> Event<'a> {
         Reason::of_item(alloc, 2, why)
     }
 
-    /// The site that the event names.
+    /// Returns the site that the event names.
     fn site(&self) -> Option<Site<'a>> {
         Site::named(self.definition()?, self.name_at(self.place_of_site()))
     }
@@ -272,7 +273,7 @@ impl<'a> Event<'a> {
         self.why_unfit(alloc, &method_type)
     }
 
-    /// Why the arguments of a call do not fit a type.
+    /// Explains why the arguments of a call do not fit a type.
     fn why_unfit(&self, alloc: Global, method_type: &MethodType) -> Result<Reason, NoMemory> {
         let arguments = self.parts.get(3).map_or(&[][..], items);
         let parameters = method_type.parameters();
@@ -295,7 +296,7 @@ impl<'a> Event<'a> {
         Ok(Reason::of_event(alloc, String::new(alloc)))
     }
 
-    /// Why a tree is of another type than its site.
+    /// Explains why a tree is not of its site's type.
     fn why_other_type(&self, alloc: Global, method_type: &MethodType) -> Result<Reason, NoMemory> {
         let why = match self.tree(alloc)? {
             Some(tree) => {
@@ -307,7 +308,7 @@ impl<'a> Event<'a> {
         Reason::of_item(alloc, 2, why)
     }
 
-    /// The tree of a retargeting.
+    /// Returns the tree of a retargeting.
     fn tree(&self, alloc: Global) -> Result<Option<Declared>, NoMemory> {
         let Some(tree) = self.parts.get(2) else {
             return Ok(None);
@@ -333,7 +334,7 @@ impl<'a> Event<'a> {
     }
 }
 
-/// The kind of an argument that is of another kind than is wanted.
+/// Returns the kind of an argument, if it is not the kind that is expected.
 fn other_kind(alloc: Global, argument: &Value, wanted: Kind) -> Result<Option<Kind>, NoMemory> {
     let Some(value) = known(read_value(alloc, Some(wanted), argument))? else {
         return Ok(None);
@@ -342,7 +343,7 @@ fn other_kind(alloc: Global, argument: &Value, wanted: Kind) -> Result<Option<Ki
     Ok(if kind == wanted { None } else { Some(kind) })
 }
 
-/// That a name is that of no such thing.
+/// Explains that nothing of this sort has a name.
 fn why_unknown(
     alloc: Global,
     name: &str,

@@ -1,14 +1,14 @@
-//! The words that head trees and events, and how the list of each is written.
+//! The words with which trees and events begin, and the form of the list of each.
 use mh_json::Word;
 
-/// The words that head trees.
+/// The words with which trees begin.
 pub(crate) const TREE_WORDS: &str =
     "const id op insert drop permute filter return fold guard point ref invoke";
 
-/// The words that head events.
+/// The words with which events begin.
 pub(crate) const EVENT_WORDS: &str = "call flush target invalidate snapshot offer plan install";
 
-/// How a list that this word heads is written.
+/// Returns the form of a list that begins with this word.
 pub(crate) fn form_of(word: Word) -> &'static str {
     match word {
         Word::Const => r#"["const",KIND,VALUE]"#,

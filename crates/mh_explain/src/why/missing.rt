@@ -1,4 +1,4 @@
-//! Objects that lack a key, and other values where an object is read.
+//! Explanations of objects that lack a key, and of other values in place of an object.
 use crate::near::nearest;
 use crate::objects::{Object, is_profile_line};
 use crate::spot::Spot;
@@ -9,7 +9,7 @@ use mh_json::{Field, InputForm};
 use serde_json::{Map, Value};
 use std::alloc::Global;
 
-/// Why there is no such key.
+/// Explains why there is no such key.
 pub(crate) fn why_missing(
     alloc: Global,
     field: Field,
@@ -24,7 +24,7 @@ pub(crate) fn why_missing(
     }
 }
 
-/// That another value stands where an object is read.
+/// Explains that another value was found in place of an object.
 fn why_no_object(alloc: Global, object: Object, value: &Value) -> Result<String, NoMemory> {
     let noun = object.noun();
     let what = format!(in alloc; "{noun}, which is an object,")?;
@@ -33,7 +33,7 @@ fn why_no_object(alloc: Global, object: Object, value: &Value) -> Result<String,
     Ok(format!(in alloc; "{why}; one is {example}")?)
 }
 
-/// That an object lacks a key, or the key that stands in its place.
+/// Explains that an object lacks a key, with the key that it has instead.
 fn why_lacking(
     alloc: Global,
     field: Field,
@@ -57,7 +57,7 @@ fn why_lacking(
     Ok(format!(in alloc; "the key \"{name}\" is missing; {noun} is {example}")?)
 }
 
-/// The keys of an object that are none of these.
+/// Returns the keys of an object that are not among these.
 fn other_keys<'a>(
     alloc: Global,
     keys: &[Field],
@@ -72,7 +72,7 @@ fn other_keys<'a>(
     Ok(others)
 }
 
-/// What a value is that some form of input is.
+/// Returns the form of input that a value is of.
 fn form_of(value: &Value) -> Option<InputForm> {
     if value.get(Field::Definition.name()).is_some() {
         return Some(InputForm::Script);
@@ -86,7 +86,7 @@ fn form_of(value: &Value) -> Option<InputForm> {
     None
 }
 
-/// Which command reads a value, where it is no input of this form.
+/// Returns the sentence that says which command reads a value, if it is not an input of this form.
 fn other_command(form: InputForm, value: &Value) -> Option<&'static str> {
     match form_of(value) {
         Some(other) if other == form => None,

@@ -1,4 +1,4 @@
-//! Names that stand nowhere, or where they may not.
+//! Explanations of names that are unknown, or not allowed at their place.
 use crate::values::items_at;
 use crate::words::{meant, quoted, wanted};
 use mh_base::NoMemory;
@@ -6,7 +6,7 @@ use mh_json::{Field, Named};
 use serde_json::Value;
 use std::alloc::Global;
 
-/// The names of the shared trees of a script.
+/// Returns the names of the shared trees of a script.
 pub(crate) fn shared_names(alloc: Global, script: &Value) -> Result<Vec<&str>, NoMemory> {
     let mut names = Vec::new(alloc);
     let Some(definition) = script.get(Field::Definition.name()) else {
@@ -20,7 +20,7 @@ pub(crate) fn shared_names(alloc: Global, script: &Value) -> Result<Vec<&str>, N
     Ok(names)
 }
 
-/// The names of the points, or of the sites, of a definition.
+/// Returns the names of the points, or of the sites, of a definition.
 pub(crate) fn names_in(
     alloc: Global,
     definition: &Value,
@@ -35,7 +35,7 @@ pub(crate) fn names_in(
     Ok(names)
 }
 
-/// The names of the points, or of the sites, of a script.
+/// Returns the names of the points, or of the sites, of a script.
 pub(crate) fn names_of(alloc: Global, script: &Value, list: Field) -> Result<Vec<&str>, NoMemory> {
     match script.get(Field::Definition.name()) {
         Some(definition) => names_in(alloc, definition, list),
@@ -43,7 +43,7 @@ pub(crate) fn names_of(alloc: Global, script: &Value, list: Field) -> Result<Vec
     }
 }
 
-/// That a name is wanted, and the name of the thing that a number is.
+/// Explains that a name is expected, with the name of the thing whose number was found.
 pub(crate) fn why_no_name(
     alloc: Global,
     named: Named,
@@ -71,7 +71,7 @@ pub(crate) fn why_no_name(
     }
 }
 
-/// Whether a name is among some.
+/// Returns whether a name is among some.
 pub(crate) fn is_among(name: &str, names: &[&str]) -> bool {
     for other in names {
         if name == *other {
@@ -81,7 +81,7 @@ pub(crate) fn is_among(name: &str, names: &[&str]) -> bool {
     false
 }
 
-/// Why a name stands for no shared tree.
+/// Explains why a name is not that of a shared tree.
 pub(crate) fn why_unknown_shared(
     alloc: Global,
     script: &Value,
@@ -97,7 +97,7 @@ pub(crate) fn why_unknown_shared(
     Ok(format!(in alloc; "no shared tree has the name {shown}; {others}")?)
 }
 
-/// Why a name is that of no site that a tree may invoke.
+/// Explains why a name is not that of a site that a tree may invoke.
 pub(crate) fn why_unknown_site(
     alloc: Global,
     script: &Value,
@@ -113,7 +113,7 @@ pub(crate) fn why_unknown_site(
     Ok(format!(in alloc; "no site has the name {shown}; {others}")?)
 }
 
-/// Why a name is none that a shared tree may have.
+/// Explains why a name is not allowed for a shared tree.
 pub(crate) fn why_not_new(
     alloc: Global,
     script: &Value,
@@ -129,7 +129,8 @@ pub(crate) fn why_not_new(
     why_unlawful(alloc, name)
 }
 
-/// Whether a name has 1 to 64 bytes: a letter or `_`, then letters, digits, `_`, `.` and `-`.
+/// Returns whether a name has 1 to 64 bytes: a letter or `_`, then letters, digits, `_`, `.` and
+/// `-`.
 pub(crate) fn is_lawful(name: &str) -> bool {
     let [first, rest @ ..] = name.as_bytes() else {
         return false;
@@ -146,7 +147,7 @@ pub(crate) fn is_lawful(name: &str) -> bool {
     name.len() <= 64
 }
 
-/// Why a name is not lawful.
+/// Explains why a name is not lawful.
 pub(crate) fn why_unlawful(alloc: Global, name: &str) -> Result<String, NoMemory> {
     let length = name.len();
     if length == 0 || length > 64 {

@@ -1,4 +1,4 @@
-//! Parts that are no number, or none in range.
+//! Explanations of values that are not numbers or are out of range.
 use crate::spot::Spot;
 use crate::values::items_at;
 use crate::words::{numbered, wanted};
@@ -7,7 +7,7 @@ use mh_json::{Field, Numbered};
 use serde_json::Value;
 use std::alloc::Global;
 
-/// That a whole number of a range is wanted.
+/// Explains that a whole number in a range is expected.
 pub(crate) fn why_no_number(
     alloc: Global,
     least: u64,
@@ -18,7 +18,7 @@ pub(crate) fn why_no_number(
     wanted(alloc, what.as_str(), value)
 }
 
-/// What is numbered, with its article and without it in the plural.
+/// Returns the noun for what is numbered: with its article, in the singular, and in the plural.
 fn nouns(numbered: Numbered) -> (&'static str, &'static str, &'static str) {
     match numbered {
         Numbered::Worker => ("a worker", "worker", "workers"),
@@ -29,7 +29,7 @@ fn nouns(numbered: Numbered) -> (&'static str, &'static str, &'static str) {
     }
 }
 
-/// How many of these an input has, where it says so itself.
+/// Returns how many of these an input has, if the input itself says so.
 fn count_in(kind: Numbered, spot: &Spot<'_>) -> Option<usize> {
     match kind {
         Numbered::Worker => {
@@ -42,7 +42,7 @@ fn count_in(kind: Numbered, spot: &Spot<'_>) -> Option<usize> {
     }
 }
 
-/// That the number of such a thing is wanted.
+/// Explains that the number of such a thing is expected.
 pub(crate) fn why_not_numbered(
     alloc: Global,
     kind: Numbered,

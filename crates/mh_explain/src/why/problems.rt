@@ -1,4 +1,4 @@
-//! Links and costs that make no problem.
+//! Explanations of links and costs that do not make a problem.
 use crate::spot::Spot;
 use crate::values::known;
 use crate::words::{numbered, why_too_many};
@@ -9,7 +9,7 @@ use mh_network::{GREATEST_SUM, LinkRow, MOST_NEEDS, ProblemFault};
 use mh_site::Version;
 use std::alloc::Global;
 
-/// Why links and costs make no problem.
+/// Explains why links and costs do not make a problem.
 pub(crate) fn why_none(
     alloc: Global,
     cause: ProblemFault,
@@ -47,7 +47,7 @@ pub(crate) fn why_none(
     }
 }
 
-/// The link whose needs stand at the end of a path, with its number.
+/// Returns the link whose needs are at the end of a path, with its number.
 fn link_in<'a>(path: &[Key], links: &'a [LinkRow]) -> Option<(usize, &'a LinkRow)> {
     let [.., Key::Item(link), Key::Member(Field::Needs)] = path else {
         return None;
@@ -85,7 +85,7 @@ fn sum_of_charges(links: &[LinkRow]) -> u128 {
     sum
 }
 
-/// What is wrong with the needs of a link, beside so many points.
+/// Explains what is wrong with the needs of a link, given the number of points.
 fn why_needs(
     alloc: Global,
     cause: ProblemFault,
@@ -109,7 +109,7 @@ fn why_needs(
     }
 }
 
-/// The first need past the last point.
+/// Returns the first need that is not the number of a point.
 fn need_past(needs: &[u32], points: usize) -> u32 {
     for need in needs {
         if *need as usize >= points {
@@ -119,7 +119,7 @@ fn need_past(needs: &[u32], points: usize) -> u32 {
     0
 }
 
-/// The first two needs in a row that do not ascend.
+/// Returns the first two consecutive needs that are not ascending.
 fn descent(needs: &[u32]) -> (u32, u32) {
     let mut last = 0;
     for (i, need) in needs.iter().enumerate() {

@@ -1,4 +1,4 @@
-//! Parts of another form than is read there.
+//! Explanations of parts that are not of the form that is read there.
 use crate::objects::{Object, object_at};
 use crate::spot::Spot;
 use crate::values::items;
@@ -18,7 +18,7 @@ use std::alloc::Global;
 const OPERATION_NAMES: &str =
     "iadd isub imul idiv irem ineg ieq ilt ladd lsub lmul ldiv lrem lneg leq llt i2l l2i not beq concat seq len";
 
-/// Why a part is of another form than is read there.
+/// Explains why a part is not of the form that is read there.
 pub(crate) fn why_other(alloc: Global, spot: &Spot<'_>) -> Result<String, NoMemory> {
     let value = spot.value;
     match spot.wanted {
@@ -49,7 +49,7 @@ pub(crate) fn why_other(alloc: Global, spot: &Spot<'_>) -> Result<String, NoMemo
     }
 }
 
-/// The list that is read at a place.
+/// Describes the list that is read at a place.
 fn list_at(spot: &Spot<'_>) -> &'static str {
     let [parent @ .., Key::Member(field)] = spot.path else {
         return "a list";
@@ -85,7 +85,7 @@ fn list_at(spot: &Spot<'_>) -> &'static str {
     }
 }
 
-/// What is called by a word alone.
+/// Describes a form by a fixed phrase.
 fn plain_form(form: Wanted) -> &'static str {
     match form {
         Wanted::Text => "a string",
@@ -102,7 +102,7 @@ fn plain_form(form: Wanted) -> &'static str {
     }
 }
 
-/// The values of a kind.
+/// Describes the values of a kind.
 fn constant_of(kind: Kind) -> &'static str {
     match kind {
         Kind::Int => "an int, -2147483648 to 2147483647,",
@@ -112,14 +112,14 @@ fn constant_of(kind: Kind) -> &'static str {
     }
 }
 
-/// Why a value is no tree, and the tree that it may be meant for.
+/// Explains why a value is not a tree, with the tree that may have been meant.
 fn why_no_tree(alloc: Global, input: &Value, value: &Value) -> Result<String, NoMemory> {
     let meant = tree_meant(alloc, input, value)?;
     let why = why_no_list(alloc, "a tree", value)?;
     Ok(format!(in alloc; "{why}{meant}")?)
 }
 
-/// The question whether the leaf is meant that a value names.
+/// Returns the question of whether the leaf that a value names is meant.
 fn tree_meant(alloc: Global, input: &Value, value: &Value) -> Result<String, NoMemory> {
     let form = match value {
         Value::Number(number) => match number.as_i64() {
@@ -138,7 +138,7 @@ fn tree_meant(alloc: Global, input: &Value, value: &Value) -> Result<String, NoM
     Ok(format!(in alloc; "; is {form} meant?")?)
 }
 
-/// Why a value is no event, and an event that it may be meant for.
+/// Explains why a value is not an event, with an event that may have been meant.
 fn why_no_event(alloc: Global, value: &Value) -> Result<String, NoMemory> {
     let why = why_no_list(alloc, "an event", value)?;
     match value.as_str() {
@@ -147,7 +147,7 @@ fn why_no_event(alloc: Global, value: &Value) -> Result<String, NoMemory> {
     }
 }
 
-/// Why a value is no list that a word heads.
+/// Explains why a value is not a list that begins with a word.
 fn why_no_list(alloc: Global, noun: &str, value: &Value) -> Result<String, NoMemory> {
     match value {
         Value::Array(_) => Ok(format!(in alloc;
@@ -157,12 +157,12 @@ fn why_no_list(alloc: Global, noun: &str, value: &Value) -> Result<String, NoMem
     }
 }
 
-/// The word that heads a list.
+/// Returns the word with which a list begins.
 fn head_of(value: &Value) -> Option<&str> {
     value.get(0)?.as_str()
 }
 
-/// The operation of a name, or of a sign that other languages have for it.
+/// Returns the operation with a name, or for which other languages have this sign.
 fn operation_meant(word: &str) -> Option<&str> {
     match word {
         "+" => Some("iadd"),
@@ -178,7 +178,7 @@ fn operation_meant(word: &str) -> Option<&str> {
     }
 }
 
-/// Why what heads a list heads no tree.
+/// Explains why the first item of a list is not a word with which trees begin.
 fn why_no_tree_word(alloc: Global, value: &Value) -> Result<String, NoMemory> {
     let Some(word) = head_of(value) else {
         return why_no_head(alloc, "a tree", TREE_WORDS, value);
@@ -200,8 +200,8 @@ fn why_no_tree_word(alloc: Global, value: &Value) -> Result<String, NoMemory> {
     }
 }
 
-/// Why what heads a list heads nothing. It is said of the list where a word heads it, and else of
-/// what stands in the place of a word.
+/// Explains why the first item of a list is not one of these words. The explanation is of the list
+/// if the item is a word, and otherwise of the item in place of a word.
 fn why_no_head(alloc: Global, noun: &str, words: &str, value: &Value) -> Result<String, NoMemory> {
     let known = words_of(alloc, words)?;
     match head_of(value) {
@@ -217,7 +217,7 @@ fn why_no_head(alloc: Global, noun: &str, words: &str, value: &Value) -> Result<
     }
 }
 
-/// Why a word does not head so many parts.
+/// Explains why a word is not followed by this number of parts.
 fn why_other_parts(alloc: Global, word: Word, value: &Value) -> Result<String, NoMemory> {
     let form = form_of(word);
     let (Some(head), Value::Array(items)) = (head_of(value), value) else {
@@ -227,7 +227,7 @@ fn why_other_parts(alloc: Global, word: Word, value: &Value) -> Result<String, N
     Ok(format!(in alloc; "\"{head}\" heads {parts} here, and its form is {form}")?)
 }
 
-/// Why a value is no name of a kind.
+/// Explains why a value is not the name of a kind.
 fn why_not_kind(alloc: Global, value: &Value) -> Result<String, NoMemory> {
     match value.as_str() {
         Some(word) => why_no_kind(alloc, word),
@@ -239,7 +239,7 @@ fn why_not_kind(alloc: Global, value: &Value) -> Result<String, NoMemory> {
     }
 }
 
-/// Why a value is no name of an operation.
+/// Explains why a value is not the name of an operation.
 fn why_no_operation(alloc: Global, value: &Value) -> Result<String, NoMemory> {
     let Some(word) = value.as_str() else {
         return wanted(alloc, "the name of an operation, as \"iadd\",", value);
@@ -252,7 +252,7 @@ fn why_no_operation(alloc: Global, value: &Value) -> Result<String, NoMemory> {
     Ok(format!(in alloc; "{shown} is not an operation; {others}")?)
 }
 
-/// Why a list of so many items has another number of them.
+/// Explains that a list does not have the expected number of items.
 fn why_other_length(
     alloc: Global,
     what: &str,
@@ -266,7 +266,7 @@ fn why_other_length(
     Ok(format!(in alloc; "{what} is {parts}, and this list has {found}")?)
 }
 
-/// Why an object is no limits of a script.
+/// Explains why an object is not the limits of a script.
 fn why_no_limits(alloc: Global, value: &Value) -> Result<String, NoMemory> {
     if !value.is_object() {
         return wanted(alloc, "an object of limits, as {\"history\":100},", value);

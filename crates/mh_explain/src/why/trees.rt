@@ -1,4 +1,4 @@
-//! Trees that their constructors refuse.
+//! Explanations of trees that their constructors reject.
 use crate::said::{Part, parameters_of, say};
 use crate::scope::scope_at;
 use crate::spot::Spot;
@@ -12,7 +12,7 @@ use mh_type::{Kind, MOST_PARAMETERS, MethodType};
 use serde_json::Value;
 use std::alloc::Global;
 
-/// Why the constructor of a tree refuses it.
+/// Explains why the constructor of a tree rejects it.
 pub(crate) fn why_refused(
     alloc: Global,
     cause: TreeFault,
@@ -35,7 +35,7 @@ pub(crate) fn why_refused(
     }
 }
 
-/// The tree of a part, where it is one.
+/// Returns the tree of a part, if it is one.
 fn tree(alloc: Global, scope: &Scope, value: &Value) -> Result<Option<Handle>, NoMemory> {
     known(read_tree(alloc, scope, value))
 }
@@ -64,7 +64,7 @@ fn why_too_large(alloc: Global, scope: &Scope, value: &Value) -> Result<String, 
     }
 }
 
-/// Why the parts of a tree do not fit, by the word that heads it.
+/// Explains why the parts of a tree do not fit, by the word with which it begins.
 fn why_misfit(
     alloc: Global,
     cause: TreeFault,
@@ -80,7 +80,7 @@ fn why_misfit(
     }
 }
 
-/// The word that heads a tree.
+/// Returns the word with which a tree begins.
 fn word_of(items: &[Value]) -> &str {
     match items {
         [head, ..] => head.as_str().unwrap_or(""),
@@ -88,7 +88,7 @@ fn word_of(items: &[Value]) -> &str {
     }
 }
 
-/// Why two trees do not fit.
+/// Explains why two trees do not fit.
 fn why_two(
     alloc: Global,
     scope: &Scope,
@@ -141,7 +141,7 @@ fn why_not_unary<'a>(
     )
 }
 
-/// Why a tree and two more parts do not fit.
+/// Explains why a tree and two more parts do not fit.
 fn why_three(
     alloc: Global,
     cause: TreeFault,
@@ -164,7 +164,7 @@ fn why_three(
     }
 }
 
-/// Why the two trees of a point do not fit.
+/// Explains why the two trees of a point do not fit.
 fn why_branches(
     alloc: Global,
     scope: &Scope,
@@ -221,7 +221,7 @@ fn why_no_guard(
     why_branches(alloc, scope, target, fallback)
 }
 
-/// That a position, with so many parts there, is past the parameters.
+/// Explains that a position, with this number of parts there, is beyond the parameters.
 fn why_past<'a>(
     alloc: Global,
     target: &'a MethodType,
@@ -239,12 +239,12 @@ fn why_past<'a>(
     )
 }
 
-/// The place that a position is.
+/// Returns the position that a value denotes, or the greatest if it denotes none.
 fn place_or_last(value: &Value) -> Result<usize, NoMemory> {
     Ok(known(place(value, Wanted::Nothing))?.unwrap_or(usize::MAX))
 }
 
-/// The kinds of parameters from a position on, at most so many: none where there are fewer.
+/// Returns the kinds of `count` parameters from a position on, or `None` if there are fewer.
 fn kinds_at(target: &MethodType, position: usize, count: usize) -> Option<&[Kind]> {
     let kinds = target.parameters();
     if position > kinds.len() || count > kinds.len() - position {
@@ -353,7 +353,8 @@ fn why_no_filters(
     Ok(String::new(alloc))
 }
 
-/// Why a filter does not fit a parameter of a target, of another kind than it returns.
+/// Explains why a filter does not fit a parameter of a target, which is not of the kind that it
+/// returns.
 fn why_other_result<'a>(
     alloc: Global,
     filter: &'a MethodType,
@@ -369,7 +370,7 @@ fn why_other_result<'a>(
     )
 }
 
-/// Why the first filter that has not one parameter does not fit.
+/// Explains why the first filter that does not have exactly one parameter does not fit.
 fn why_some_not_unary(
     alloc: Global,
     scope: &Scope,

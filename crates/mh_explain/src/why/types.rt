@@ -1,11 +1,11 @@
-//! Texts that are no method type.
+//! Explanations of texts that are not method types.
 use crate::words::why_no_kind;
 use mh_base::NoMemory;
 use mh_type::{Kind, MOST_PARAMETERS};
 use serde_json::Value;
 use std::alloc::Global;
 
-/// Why a text is no method type.
+/// Explains why a text is not a method type.
 pub(crate) fn why_none(alloc: Global, value: &Value) -> Result<String, NoMemory> {
     let text = value.as_str().unwrap_or("");
     let Some((parameters, returned)) = parts_of(text) else {
@@ -17,13 +17,13 @@ pub(crate) fn why_none(alloc: Global, value: &Value) -> Result<String, NoMemory>
     }
 }
 
-/// The texts of the parameters and of the result.
+/// Returns the texts of the parameters and of the result.
 fn parts_of(text: &str) -> Option<(&str, &str)> {
     let inner = text.strip_prefix('(')?;
     inner.split_once(')')
 }
 
-/// The first word of a method type that is no kind.
+/// Returns the first word of a method type that is not a kind.
 fn unknown_kind<'a>(parameters: &'a str, returned: &'a str) -> Option<&'a str> {
     if !parameters.is_empty() {
         for word in parameters.split(',') {
@@ -43,7 +43,7 @@ fn why_too_many(alloc: Global, parameters: &str) -> Result<String, NoMemory> {
     Ok(format!(in alloc; "{count} parameters are more than {MOST_PARAMETERS}")?)
 }
 
-/// How many words stand between commas.
+/// Returns the number of words between commas.
 fn words_of_list(alloc: Global, text: &str) -> Result<usize, NoMemory> {
     let mut words = Vec::new(alloc);
     for word in text.split(',') {

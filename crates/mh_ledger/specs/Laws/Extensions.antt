@@ -1,4 +1,4 @@
--- Numbers of hits where there are more links.
+-- Numbers of hits if there are more links.
 use Rattle.std.proofs.Common.{◌≡◌, ℕ, zero, suc, ◌+◌, List, [], ◌∷◌, length, replicate, refl, arith}
 use Rattle.std.proofs.lemmas.List.{length-append, length-replicate}
 use Rattle.mh_ledger.specs.Ledgers.{at}

@@ -1,4 +1,4 @@
--- A flush keeps what totals and ledgers are.
+-- A flush preserves the invariants of totals and ledgers.
 use Rattle.std.proofs.Common.{◌≡◌, ℕ, ◌+◌, ◌<◌, ◌≤◌, [], length, ◌^◌, ap, sym, ◌∙◌, arith}
 use Rattle.std.proofs.lemmas.List.Elements.{All-set}
 use Rattle.std.proofs.lemmas.List.Sums.{sum_by-set, get_or-le-sum_by}
@@ -13,7 +13,7 @@ held_length t l is held = ap length (sym held.1) ∙ is.lengths l.worker [] held
 pub held_links : (t : TotalsState) (l : LedgerState) → IsTotals t → IsLedger l → Holds t l → length t.total ≡ length l.unflushed
 held_links t l is ledger held = sym (held_length t l is held) ∙ ledger.lengths
 
--- what a held ledger flushed is within the total
+-- the flushed hits of a held ledger are within the total
 pub held_at : (t : TotalsState) (l : LedgerState) (j : ℕ) → IsTotals t → Holds t l → at l.flushed j ≤ at t.total j
 held_at t l j is held =
     let within : at (share_of t l.worker) j ≤ sum_by (λ share. at share j) t.shares = get_or-le-sum_by (λ share. at share j) t.shares l.worker [] held.0 in
@@ -21,7 +21,7 @@ held_at t l j is held =
     let sum = is.sums j in
     omega (arith, within, same, sum)
 
--- all hits of a ledger fit where the totals have room for it
+-- all hits of a ledger fit if the totals have room for it
 pub made_fits : (t : TotalsState) (l : LedgerState) → IsTotals t → IsLedger l → Holds t l → FlushFits t l → (j : ℕ) → j < length l.unflushed → made l j ≤ 2 ^ 62
 made_fits t l is ledger held room j in' =
     let fits : at t.total j + at l.unflushed j ≤ t.limit = room j (omega (arith, in', held_links t l is ledger held)) in
@@ -39,7 +39,7 @@ new_sum t l is ledger held j =
     let sum = is.sums j in
     omega (arith, total, share, moved, sum)
 
--- totals stay totals
+-- totals preserve their invariant
 pub flushed_sound : (t : TotalsState) (l : LedgerState) → IsTotals t → IsLedger l → Holds t l → FlushFits t l → IsTotals (flushed_into t l)
 flushed_sound t l is ledger held room = record {
   lengths =

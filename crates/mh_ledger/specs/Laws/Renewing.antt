@@ -1,4 +1,4 @@
--- What goes on counting keeps what totals and ledgers are.
+-- Keeping a part of the hits preserves the invariants of totals and ledgers.
 use Rattle.std.proofs.Common.{◌≡◌, ℕ, zero, suc, ◌+◌, ◌<◌, ◌≤◌, ◌/◌, List, [], ◌∷◌, length, map, slice_set, slice_index_or, ◌^◌, refl, ap, sym, subst, ◌∙◌, arith, ◌⊎◌, inl, inr}
 use Rattle.std.proofs.Math.Nat.{div-le_self}
 use Rattle.std.proofs.lemmas.Bool.{cases_lt}
@@ -61,7 +61,7 @@ share_bounded t w is inside k d within =
     let limit = is.limit in
     omega (arith, same, part, bound, limit)
 
--- one share is lessened, and the totals with it
+-- one share is reduced, and the totals with it
 abbrev pub lessened : OldHits → TotalsState → ℕ → List ℕ → TotalsState
 lessened h t w total = record { limit = t.limit; total = total; shares = slice_set t.shares w (map (left_of h) (share_of t w)) }
 
@@ -111,7 +111,7 @@ the_ledger l flushed = record { worker = l.worker; limit = l.limit; unflushed = 
 abbrev pub the_totals : ℕ → List ℕ → List (List ℕ) → TotalsState
 the_totals limit total shares = record { limit = limit; total = total; shares = shares }
 
--- once each share is lessened
+-- the totals once each share is reduced
 pub all_lessened : (h : OldHits) (t new : TotalsState) → IsTotals new → new.limit ≡ t.limit → length new.total ≡ length t.total → length new.shares ≡ length t.shares
     → ((w : ℕ) → w < length t.shares → share_of new w ≡ map (left_of h) (share_of t w)) → new ≡ renewed_totals h t
 all_lessened h t new is limit links count each =
@@ -131,7 +131,7 @@ all_kept : (xs : List ℕ) → map (left_of Keep) xs ≡ xs
 all_kept [] = refl
 all_kept (x ∷ xs) = ap (λ (rest : List ℕ). x ∷ rest) (all_kept xs)
 
--- where all hits go on counting, nothing changes
+-- if all hits are kept, nothing changes
 pub kept_totals : (t : TotalsState) → IsTotals t → renewed_totals Keep t ≡ t
 kept_totals t is = sym (all_lessened Keep t t is refl refl refl (λ w inside. sym (all_kept (share_of t w))))
 

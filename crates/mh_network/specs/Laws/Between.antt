@@ -1,4 +1,4 @@
--- Between links that every best set has and links that some best set lies within, only a block is open.
+-- Between links that every best set has and links that contain some best set, only a block is undecided.
 use Rattle.std.proofs.Common.{◌≡◌, ℕ, ◌+◌, Bool, true, false, cond, refl, arith, sym, ◌∙◌, ap, inl, inr, length, subst}
 use Rattle.std.specs.Prelude.{not, ◌==◌, ◌&&◌, ◌||◌}
 use Rattle.std.specs.List.{list_any}
@@ -88,7 +88,7 @@ module _ (P : ProblemData) (low high : ℕ → Bool) (part : Part) (block : IsBl
       let same : net_sum P (less X high) ≡ net_sum P X = ap (net_sum P) alone in
       omega (arith, same, join_sums (length P.links) (net_of P) X high, needing_net P (member part.points) X)
 
-  -- what a set has in the block
+  -- the part of a set that is in the block
   abbrev inner : (ℕ → Bool) → ℕ → Bool
   inner X = less (meet X low) high
 
@@ -97,7 +97,7 @@ module _ (P : ProblemData) (low high : ℕ → Bool) (part : Part) (block : IsBl
       let both = and_parts (meet X low j) (not (high j)) e in
       block.between j ∙ and_from _ _ (and_parts (X j) (low j) both.0).1 both.1
 
-  -- nothing is lost by taking high, and of the others those in the block alone
+  -- nothing is lost by taking high, and of the others only those in the block
   inner_better : (X : ℕ → Bool) → NetNoBetter P X (join (inner X) high)
   inner_better X =
       let same : join high (meet X low) ≡ join (inner X) high = fun_ext (λ j. both_same (high j) (meet X low j)) in

@@ -1,4 +1,4 @@
--- Weak duality: no set of links gains more, over what its points cost, than a flow leaves.
+-- Weak duality: no set of links gains more, beyond what its points cost, than a flow leaves.
 use Rattle.std.proofs.Common.{◌≡◌, ℕ, ◌+◌, ◌≤◌, List, Bool, true, false, cond, refl, arith, sym}
 use Rattle.std.specs.List.{sum_by, All}
 use Rattle.std.specs.Prelude.{not}
@@ -19,7 +19,7 @@ cond-le false c a h = omega arith
 kept-le : (S : ℕ → Bool) (f g : ℕ → ℕ) (k : ℕ) → f k ≤ g k → kept S f k ≤ kept S g k
 kept-le S f g k h = elim (S k) as (λ b. cond b (f k) 0 ≤ cond b (g k) 0) [ true ↦ h | false ↦ omega arith ]
 
--- the value, parted by the links of S
+-- the value, split by the links of S
 pub value-parts : {X : Type 0} (n : Net X) (rows : List X) (S U : ℕ → Bool) → IsFeasible n rows →
     (sum_by (λ r. cond (S (n.link r)) (n.amount r) 0) rows + sum_below n.links (kept (λ k. not (S k)) (out_of n rows)) ≡ value n rows)
     × (sum_by (λ r. cond (U (n.point r)) (n.amount r) 0) rows ≡ sum_below n.points (kept U (into n rows)))

@@ -1,4 +1,4 @@
--- Sums over what two sets have in common, over what one has alone, and over both.
+-- Sums over the intersection of two sets, over their difference, and over their union.
 use Rattle.std.proofs.Common.{◌≡◌, ℕ, ◌+◌, ◌≤◌, Bool, true, false, cond, refl, arith, ◌∙◌, inl, inr, length}
 use Rattle.std.specs.Prelude.{not, ◌&&◌, ◌||◌}
 use Rattle.std.proofs.lemmas.Bool.{cases_Bool, and_parts, and_from, or_cases, or_left, or_right}
@@ -36,7 +36,7 @@ half_sums n f S A =
     let second : sum_below n (kept (λ k. not (A k)) (kept S f)) ≡ sum_below n (kept (less S A) f) = sum_below-same n _ _ (λ k l. kept_meet S (λ i. not (A i)) f k) in
     omega arith
 
--- a sum over both sets is that over A and that over what S has beside
+-- a sum over the union is that over A and that over the rest of S
 joined : (s a : Bool) (c : ℕ) → cond (s || a) c 0 ≡ cond a c 0 + cond (s && not a) c 0
 joined true true c = omega arith
 joined true false c = omega arith
@@ -62,7 +62,7 @@ needs_within P S A h p e =
     let both = and_parts (S found.0) (needs_point P found.0 p) found.2 in
     some_below-from (length P.links) (λ j. A j && needs_point P j p) found.0 found.1 (and_from _ _ (h found.0 both.0) both.1)
 
--- both sets need what one of them needs
+-- the union needs what one of the sets needs
 pub needs_joined : (P : ProblemData) (S A : ℕ → Bool) (p : ℕ) → union_of_needs P (join S A) p ≡ join (union_of_needs P S) (union_of_needs P A) p
 needs_joined P S A p =
     same_answer (union_of_needs P (join S A) p) (join (union_of_needs P S) (union_of_needs P A) p)
@@ -78,14 +78,14 @@ needs_joined P S A p =
       | inr two ↦ needs_within P A (join S A) (λ j a. or_right (S j) (A j) a) p two
     ])
 
--- what the points of both sets cost is what those of A cost and those that S alone needs
+-- the cost of the points of the union is that of the points of A and that of the points that only S needs
 pub join_costs : (P : ProblemData) (m : ℕ) (c : ℕ → ℕ) (S A : ℕ → Bool) →
     sum_below m (kept (union_of_needs P (join S A)) c) ≡ sum_below m (kept (union_of_needs P A) c) + sum_below m (kept (less (union_of_needs P S) (union_of_needs P A)) c)
 join_costs P m c S A =
     sum_below-same m (kept (union_of_needs P (join S A)) c) (kept (join (union_of_needs P S) (union_of_needs P A)) c) (λ p l. rw (needs_joined P S A p) refl)
     ∙ join_sums m c (union_of_needs P S) (union_of_needs P A)
 
--- what the points of the common links cost, and those that S alone needs, is at most what those of S cost
+-- the cost of the points of the common links, and of those that only S needs, is at most the cost of the points of S
 pub meet_costs : (P : ProblemData) (m : ℕ) (c : ℕ → ℕ) (S A : ℕ → Bool) →
     sum_below m (kept (union_of_needs P (meet S A)) c) + sum_below m (kept (less (union_of_needs P S) (union_of_needs P A)) c) ≤ sum_below m (kept (union_of_needs P S) c)
 meet_costs P m c S A =

@@ -1,4 +1,4 @@
--- What the tests of rows and costs say of the problem that is kept.
+-- Consequences of the tests of rows and costs for the problem that is made.
 use Rattle.std.proofs.Common.{◌≡◌, ℕ, zero, suc, ◌+◌, ◌≤◌, ◌<◌, List, [], ◌∷◌, true, false, refl, arith, sym, ◌∙◌, ap, length, map, take}
 use Rattle.std.specs.Prelude.{◌==◌}
 use Rattle.std.specs.List.{sum_by, sum, All, list_any, slice_index_or}
@@ -46,13 +46,13 @@ charges_by_row (r ∷ rs) =
 pub kept_charges : (rows : List LinkRow) (costs : List ℕ) → sum_of_charges (problem_of rows costs) ≡ sum_by (λ (r : LinkRow). r.charge) rows
 kept_charges rows costs = sum_below-list (λ (r : LinkRow). r.charge) no_link (map kept_row rows) ∙ charges_by_row rows
 
--- what each kept row is, and what stands past the last, a link by any number is
+-- a fact of each kept row, and of the row past the last, holds of a link with any number
 each_link : (Q : LinkRow → Type 0) → Q no_link → (rows : List LinkRow) → All (λ r. Q (kept_row r)) rows → (j : ℕ) → Q (slice_index_or (map kept_row rows) j no_link)
 each_link Q none [] h j = none
 each_link Q none (r ∷ rs) h zero = All-head (λ r. Q (kept_row r)) r rs h
 each_link Q none (r ∷ rs) h (suc j) = each_link Q none rs (All-tail (λ r. Q (kept_row r)) r rs h) j
 
--- rows and costs that pass the tests make a problem, whatever the limits, where no more links and points may be than any problem has
+-- rows and costs that pass the tests make a problem, under any limits on links and points that are at most those of every problem
 pub limited_problem : (links points needs : ℕ) (rows : List LinkRow) (costs : List ℕ) → links ≤ greatest_count → points ≤ greatest_count → Passes (limited_tests links points needs rows costs) → IsProblem (problem_of rows costs)
 limited_problem links points needs rows costs few_links few_points h = record {
   links = simp length-map (omega (arith, h.0, few_links));

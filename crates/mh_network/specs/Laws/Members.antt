@@ -13,7 +13,7 @@ use Rattle.mh_network.specs.Selection.{member}
 use Rattle.mh_network.specs.Laws.SumLaws.{sum_below-same, sum_by_keys}
 use Rattle.mh_network.specs.Laws.Optimal.{some_below-from, some_below-gives}
 
--- what each number of a list is, a member is
+-- a fact of each number of a list holds of a member
 pub member_is : (P : ℕ → Type 0) (xs : List ℕ) → All P xs → (j : ℕ) → member xs j ≡ true → P j
 member_is P [] h j e = absurd (true≢false (sym e))
 member_is P (x ∷ xs) h j e =
@@ -45,7 +45,7 @@ same_answer true c f g = sym (f refl)
 same_answer false true f g = g refl
 same_answer false false f g = refl
 
--- whether some member below a bound passes, where none passes from the bound on
+-- whether some member below a bound passes, if none passes from the bound on
 pub some_member : (n : ℕ) (q : ℕ → Bool) (xs : List ℕ) → ((j : ℕ) → q j ≡ true → j < n) → some_below n (λ j. member xs j && q j) ≡ list_any q xs
 some_member n q xs within =
     same_answer (some_below n (λ j. member xs j && q j)) (list_any q xs)
@@ -87,7 +87,7 @@ listed_sum f n xs up within =
     sum_by_keys (λ x. x) f (λ _. true) n xs within
     ∙ sum_below-same n (amount_at (λ x. x) f xs) (kept (member xs) f) (λ k l. each_key f xs (AllPairs-from_increasing xs up) k)
 
--- what each member is, each number of the list is
+-- a fact of each member holds of each number of the list
 pub all_members : (Good : ℕ → Type 0) (xs : List ℕ) → ((j : ℕ) → member xs j ≡ true → Good j) → All Good xs
 all_members Good [] h = λ k d l. absurd (omega (arith, l))
 all_members Good (x ∷ xs) h = All-cons Good x xs (h x (or_left (x == x) (member xs x) (eq-eqb x x refl))) (all_members Good xs (λ j e. h j (or_right (x == j) (member xs j) e)))

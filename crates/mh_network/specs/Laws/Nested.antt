@@ -1,4 +1,4 @@
--- Where less is asked for what links gain, more is chosen; and between two choices only the block between them is open.
+-- If less is asked for the gains of links, more are chosen; and between two choices only the block between them is undecided.
 use Rattle.std.proofs.Common.{◌≡◌, ℕ, ◌+◌, ◌≤◌, Bool, cond, refl, arith, sym, ◌∙◌, ap, length}
 use Rattle.std.specs.Prelude.{◌&&◌}
 use Rattle.std.proofs.Math.Path.{fun_ext}

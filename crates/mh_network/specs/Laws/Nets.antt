@@ -1,4 +1,4 @@
--- Best and least best links by net gains: whether a link is eligible, and its charge, count no more.
+-- Best and least best links by net gains: whether a link is eligible, and its charge, no longer count.
 use Rattle.std.proofs.Common.{◌≡◌, ℕ, ◌+◌, ◌-◌, ◌≤◌, ◌<◌, Bool, true, false, cond, refl, arith, sym, inl, inr, length}
 use Rattle.std.specs.Prelude.{◌&&◌, pos, ◌-ℤ◌, ◌≤ℤ◌, nat_lt}
 use Rattle.std.proofs.lemmas.Int.{ints}
@@ -13,7 +13,7 @@ use Rattle.mh_network.specs.Laws.SumLaws.{sum_below-add, sum_below-le, sum_below
 abbrev pub every : ℕ → Bool
 every _ = true
 
--- net of its points' costs, T gains no more than S
+-- less the costs of points, T gains no more than S
 abbrev pub NetNoBetter : ProblemData → (ℕ → Bool) → (ℕ → Bool) → Type 0
 NetNoBetter P T S = net_sum P T + paid P S ≤ net_sum P S + paid P T
 
@@ -61,7 +61,7 @@ row_within : (e : Bool) (g c : ℕ) → e ≡ true → g ≤ (cond e g 0 - c) + 
 row_within true g c f = omega arith
 row_within false g c f = absurd (true≢false (sym f))
 
--- what eligible links gain is at most their net gains and charges
+-- the gains of eligible links are at most their net gains and charges
 pub gains_net : (P : ProblemData) (S : ℕ → Bool) → AllEligible P S → gain_sum P S ≤ net_sum P S + charge_sum P S
 gains_net P S fits =
     let each : gain_sum P S ≤ sum_below (length P.links) (λ j. kept S (net_of P) j + kept S (charge_of P) j) =
@@ -71,7 +71,7 @@ gains_net P S fits =
     ]) in
     omega (arith, each, sum_below-add (length P.links) (kept S (net_of P)) (kept S (charge_of P)))
 
--- and of links that gain more than their charge it is just that
+-- and the gains of links that gain more than their charge are exactly that
 pub gaining_gains : (P : ProblemData) (S : ℕ → Bool) → gain_sum P (gaining P S) ≡ net_sum P S + charge_sum P (gaining P S)
 gaining_gains P S =
     let G : ℕ → Bool = gaining P S in
@@ -159,7 +159,7 @@ least_net P S least = net_least P every S record {
   least = λ T best. least.least T (best_from P T best);
 }
 
--- and back
+-- and the converse
 pub net_least_gaining : (P : ProblemData) (A S : ℕ → Bool) → IsNetLeast P A S → IsWithin S (gaining P S)
 net_least_gaining P A S least =
     let G : ℕ → Bool = gaining P S in

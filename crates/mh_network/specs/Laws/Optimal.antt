@@ -46,7 +46,7 @@ needs-in_range P j p h =
           absurd (true≢false (sym h ∙ empty))
     ]
 
--- rows over the needs and charges, each link within its gain, each point within its cost, each charge within itself
+-- rows over the needs and charges, with each link within its gain, each point within its cost, each charge within its amount
 pub record IsCarried {X : Type 0} (P : ProblemData) (n : Net X) (rows : List X) (charges : List Charge) : Type 0 where
   pub needed : All (λ r. needs_point P (n.link r) (n.point r) ≡ true) rows
   pub listed : All (λ r. r.0 < length P.links) charges
@@ -70,7 +70,7 @@ covered P link point amount rows charges S flow = record {
       some_below-from (length P.links) _ _ (needs-in_range P _ _ (flow.needed k d l)) (and_from _ _ chosen (flow.needed k d l));
 }
 
--- what charges leave of the gains of a set, and what they take, are the gains
+-- the parts of the gains of a set that charges leave and that they take add up to the gains
 pub gains_parted : (n : ℕ) (S : ℕ → Bool) (gain paid : ℕ → ℕ) → ((k : ℕ) → paid k ≤ gain k) →
     sum_below n (kept S (λ k. gain k - paid k)) + sum_below n (kept S paid) ≡ sum_below n (kept S gain)
 gains_parted n S gain paid within =
@@ -85,7 +85,7 @@ charges_by_link P charges listed = sum_by_keys (λ (r : Charge). r.0) (λ r. r.1
 paid-le : (S : ℕ → Bool) (f g : ℕ → ℕ) (k : ℕ) → f k ≤ g k → kept S f k ≤ kept S g k
 paid-le S f g k h = elim (S k) as (λ b. cond b (f k) 0 ≤ cond b (g k) 0) [ true ↦ h | false ↦ omega arith ]
 
--- what a set of links gains and a flow carries is within all gains and what the set pays
+-- the gains of a set of links and the value of a flow are within all gains and what the set pays
 pub charged_duality : {X : Type 0} (P : ProblemData) (link point amount : X → ℕ) (rows : List X) (charges : List Charge) (S : ℕ → Bool) → IsProblem P →
     IsCarried P (net P charges link point amount) rows charges →
     gain_sum P S + (sum_by amount rows + sum_by (λ (r : Charge). r.1) charges) ≤ sum_of_gains P + price P S
@@ -117,7 +117,7 @@ best_by_flow P link point amount rows charges S problem flow eligible tight = re
 bounded : (g a v c : ℕ) → a + v ≤ g + c → ((pos a -ℤ pos c) +ℤ pos v) ≤ℤ pos g
 bounded g a v c h = omega (arith, ints)
 
--- what a set of links is worth and a flow carries is within all gains
+-- the worth of a set of links and the value of a flow are within all gains
 pub flow_bounds : (P : ProblemData) → IsProblem P → (rows : List Row) → (charges : List Charge) → IsFlow P rows charges → (S : ℕ → Bool) → (worth P S +ℤ pos (value_of rows charges)) ≤ℤ pos (sum_of_gains P)
 flow_bounds P problem rows charges flow S =
     bounded (sum_of_gains P) (gain_sum P S) (value_of rows charges) (price P S)

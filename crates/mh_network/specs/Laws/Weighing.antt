@@ -1,4 +1,4 @@
--- Problems whose net gains and costs are weighed anew.
+-- Problems whose net gains and costs are weighed differently.
 use Rattle.std.proofs.Common.{◌≡◌, ℕ, zero, suc, ◌+◌, ◌-◌, ◌*◌, ◌≤◌, ◌<◌, Bool, true, false, cond, refl, arith, sym, ◌∙◌, ap, inl, inr, length}
 use Rattle.std.specs.Prelude.{◌==◌, ◌&&◌}
 use Rattle.std.specs.List.{list_any}
@@ -54,7 +54,7 @@ weighed_cost P a b p =
           none ∙ sym nothing
     ]
 
--- problems of the same links and points, weighed: cheaper where each gain and cost says so
+-- weighed problems of the same links and points: cheaper if each gain and cost says so
 pub weighed_cheaper : (P Q : ProblemData) (a b c d : ℕ) → length P.links ≡ length Q.links → length P.costs ≡ length Q.costs → ((j p : ℕ) → needs_point P j p ≡ needs_point Q j p) →
     ((j : ℕ) → c * net_of Q j ≤ a * net_of P j) → ((p : ℕ) → b * cost_of P p ≤ d * cost_of Q p) → IsCheaper (weighed P a b) (weighed Q c d)
 weighed_cheaper P Q a b c d links points needs gains costs = record {
@@ -88,7 +88,7 @@ weighed_paid P a b S =
     ∙ (ap (λ (V : ℕ → Bool). sum_below (length P.costs) (kept V (cost_of (weighed P a b)))) same
     ∙ (sum_below-same (length P.costs) _ _ (λ p l. ap (λ (v : ℕ). cond (U p) v 0) (weighed_cost P a b p)) ∙ times_sum (length P.costs) b U (cost_of P)))
 
--- weighed alike, links are best and least as they were
+-- weighed alike, links are best and least as before
 pub alike_better : (P : ProblemData) (a : ℕ) (T S : ℕ → Bool) → NetNoBetter P T S → NetNoBetter (weighed P a a) T S
 alike_better P a T S h =
     let more : a * (net_sum P T + paid P S) ≤ a * (net_sum P S + paid P T) = mul-le-mul_left a h in

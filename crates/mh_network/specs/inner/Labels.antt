@@ -15,8 +15,8 @@ relabelled from to label = cond (label == from) to label
 abbrev pub AreOwnLabels : ℕ → List ℕ → Type 0
 AreOwnLabels n labels = (length labels ≡ n) × ((p : ℕ) → p < n → label_of labels p ≡ p)
 
--- the points of a list have one label now, points of one label still have one, and points that have got one label
--- had one, or had labels of points of the list
+-- the points of a list now have one label, points of one label still have one, and points that now have one label had one, or had labels of
+-- points of the list
 pub record IsRelabelled (needs old new : List ℕ) : Type 0 where
   pub count : length new ≡ length old
   pub one : (p q : ℕ) → member needs p ≡ true → member needs q ≡ true → label_of new p ≡ label_of new q
@@ -26,7 +26,7 @@ pub record IsRelabelled (needs old new : List ℕ) : Type 0 where
       (label_of old p ≡ label_of old q)
       ⊎ ((a : ℕ) × (b : ℕ) × (member needs a ≡ true) × (member needs b ≡ true) × (label_of old p ≡ label_of old a) × (label_of old q ≡ label_of old b))
 
--- a table that leads down to labels: each point leads to one no greater, of the same label, and one that leads to itself is its own label
+-- a table that leads down to labels: each point leads to none greater, of the same label, and one leading to itself is its own label
 pub record LeadsDown (table labels : List ℕ) : Type 0 where
   pub count : length table ≡ length labels
   pub down : (p : ℕ) → label_of table p ≤ p
@@ -34,7 +34,7 @@ pub record LeadsDown (table labels : List ℕ) : Type 0 where
   pub same : (p : ℕ) → p < length table → label_of labels (label_of table p) ≡ label_of labels p
   pub root : (p : ℕ) → p < length table → label_of table p ≡ p → label_of labels p ≡ p
 
--- two points that one of the first n links needs have one label, and points of one label are joined
+-- two points that one of the first n links needs have one label, and points with one label are joined
 pub record AreLabels (P : ProblemData) (n : ℕ) (labels : List ℕ) : Type 0 where
   pub count : length labels ≡ length P.costs
   pub within : (p : ℕ) → p < length P.costs → label_of labels p < length P.costs

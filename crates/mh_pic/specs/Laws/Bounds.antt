@@ -9,7 +9,7 @@ use Rattle.mh_pic.specs.Keys.{key_test, key_in, decided}
 use Rattle.mh_pic.specs.Specialised.{is_among, resolved, resolved_filters, stripped, branch, specialised}
 use Rattle.mh_pic.specs.Chains.{PlainEntry, points, chain, HaveFewNeeds, HaveNeedsBelow}
 
--- a bound on both: at most so deep, and of at most so many nodes
+-- a bound on both the depth and the number of nodes
 point_size : (b valid : Bool) (p : ℕ) (x y : Tree) → size (if b then (if valid then x else y) else point p x y) ≤ 1 + (size x + size y)
 point_size true true p x y = omega arith
 point_size true false p x y = omega arith

@@ -34,7 +34,7 @@ one_more v p rest here valid q h = by_test (p == q) refl h
 none_needed : (v : Environment) → AreValid v []
 none_needed v p h = cc
 
--- where one need is not valid the base runs
+-- if one need is not valid, the base runs
 pub points_mean : (v : Environment) (ps : List ℕ) (x base : Tree) (a : List Value)
     → (AreValid v ps → mean v x a ≡ mean v base a) → mean v (points ps x base) a ≡ mean v base a
 points_mean v [] x base a h = h (none_needed v)
@@ -56,13 +56,13 @@ kind_of_argument [] q h = absurd (omega arith)
 kind_of_argument (x ∷ rest) zero h = refl
 kind_of_argument (x ∷ rest) (suc q) h = kind_of_argument rest q (omega arith)
 
--- a parameter that is there is the kind at its place
+-- an existing parameter is the kind at its position
 pub kind_there : (ks : List Kind) (q : ℕ) (k : Kind) → q < length ks → k ≡ slice_index_or ks q k → k ≡ kind_at ks q
 kind_there [] q k below is = absurd (omega arith)
 kind_there (j ∷ ks) zero k below is = is
 kind_there (j ∷ ks) (suc q) k below is = kind_there ks q k (omega arith) is
 
--- the kinds up to a place
+-- the kinds up to a position
 first_kinds : (ks : List Kind) (q : ℕ) → q < length ks → take q ks ++ (kind_at ks q ∷ []) ≡ take (suc q) ks
 first_kinds [] q h = absurd (omega arith)
 first_kinds (k ∷ ks) zero h = refl

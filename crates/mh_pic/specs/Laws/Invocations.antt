@@ -1,5 +1,5 @@
--- What the trees invoke: a specialised tree, and a chain, invokes as its base does; and with faithful trees in the place of the
--- bases, every tree keeps its meaning.
+-- The invocations of the trees: a specialised tree, and a chain, invokes as its base does; and if faithful trees replace the bases, every
+-- tree keeps its meaning.
 use Rattle.std.proofs.Common.{◌≡◌, ℕ, zero, suc, ◌<◌, ◌≤◌, refl, sym, ◌∙◌, subst, List, [], ◌∷◌, length, arith, Bool, true, false, Option, Some, None, if◌then◌else◌}
 use Rattle.mh_type.specs.declared.kind.Kind.{Kind}
 use Rattle.mh_type.specs.declared.value.Value.{Value}
@@ -83,7 +83,7 @@ pub chain_sites : (kinds : List Kind) (base : Tree) (entries : List PlainEntry) 
 chain_sites kinds base entries n h = below_bounds n (chain kinds base entries) (chain_invokes (IsBelow n) kinds base entries (sites_below n base h))
 
 module _ (valid : List Bool) (levels : List ℕ) (trees bases : List TypedTree) (faithful : AreFaithful trees bases) (typed : (s : ℕ) → s < length bases → IsTyped (target_at bases s).tree (target_at bases s).signature) (lower : (s : ℕ) → s < length bases → InvokesBelow levels bases (level_at levels s) (target_at bases s).tree) where
-  -- a base gives a value of its return kind
+  -- a base returns a value of its return kind
   base_kind : (d l : ℕ) → l ≤ d → (s : ℕ) (n : Signature) → MayInvoke levels bases l s n → (a : List Value) → Fits n a → GivesKind n.ret (calls_below d valid bases s a)
   base_kind zero l few s n may a fits = absurd (omega (arith, few, may.lower))
   base_kind (suc d) l few s n may a fits =
@@ -91,7 +91,7 @@ module _ (valid : List Bool) (levels : List ℕ) (trees bases : List TypedTree) 
       (result_kind (below d valid bases) (MayInvoke levels bases (level_at levels s)) (base_kind d (level_at levels s) (omega (arith, few, may.lower)))
       (target_at bases s).tree (target_at bases s).signature (typed s may.known) (lower s may.known) a (subst (λ (m : Signature). Fits m a) may.same fits))
 
-  -- and the tree in its place gives the same
+  -- and the tree that replaces it returns the same
   tree_alike : (d l : ℕ) → l ≤ d → (s : ℕ) (n : Signature) → MayInvoke levels bases l s n → (a : List Value) → Fits n a → calls_below d valid bases s a ≡ calls_below d valid trees s a
   tree_alike zero l few s n may a fits = absurd (omega (arith, few, may.lower))
   tree_alike (suc d) l few s n may a fits =

@@ -1,4 +1,4 @@
--- Key tests: what they answer, what type they have, and that `key_in` finds just them.
+-- Key tests: their answers, their types, and that `key_in` finds exactly them.
 use Rattle.std.proofs.Common.{◌≡◌, ℕ, zero, suc, ◌+◌, ◌<◌, refl, ap, sym, ◌∙◌, List, [], ◌∷◌, take, drop, length, arith, Bool, true, false, not, ◌&&◌, Option, Some, None, if◌then◌else◌}
 use Rattle.std.specs.Prelude.{ℤ, int_lt, nat_eq, cond}
 use Rattle.std.specs.Ordering.{int_eq}
@@ -59,7 +59,7 @@ left q a h =
     let next : 1 + q ≡ suc q = omega arith in
     rw (same, next) (last_one q a h)
 
--- a key test answers whether the argument at the key place is the key
+-- a key test answers whether the argument at the key position is the key
 pub key_test_mean : (v : Environment) (kinds : List Kind) (key : Value) (a : List Value)
     → length kinds < length a → kind_of (argument a (length kinds)) ≡ kind_of key
     → mean v (key_test kinds key) (take (arity (key_test kinds key)) a) ≡ Value' (Boolean (same_value (argument a (length kinds)) key))
@@ -68,7 +68,7 @@ key_test_mean v [] key (x ∷ rest) inside same = rw (first_arity key) (first_me
 key_test_mean v (k ∷ kinds) key a inside same =
     rw (first_arity key, left (length (k ∷ kinds)) a inside) (first_mean v (argument a (length (k ∷ kinds))) key [] same)
 
--- `key_in` finds key tests alone
+-- `key_in` finds only key tests
 equality_found : (o : Op) (k : Kind) → equality_kind o ≡ Some k → o ≡ equality k
 equality_found Ieq k h = let same : kind.Int ≡ k = cc in ap equality same
 equality_found Leq k h = let same : kind.Long ≡ k = cc in ap equality same

@@ -1,4 +1,4 @@
--- Trees in which points are taken as valid, or as invalid: they do what the tree does where they are so, in at most as many steps.
+-- Trees in which points are taken as valid, or as invalid: they do what the tree does if they are so, in at most as many steps.
 use Rattle.std.proofs.Common.{◌≡◌, ℕ, zero, suc, ◌+◌, ◌<◌, ◌≤◌, ◌∙◌, refl, ap, sym, subst, List, [], ◌∷◌, take, map, length, arith, Bool, true, false, Result, Ok, Err, if◌then◌else◌}
 use Rattle.std.specs.Prelude.{nat_lt, slice_set}
 use Rattle.std.proofs.lemmas.Bool.Decides.{nat_tests}
@@ -23,7 +23,7 @@ use Rattle.mh_tree.specs.Laws.{arity_counts}
 use Rattle.mh_pic.specs.Specialised.{AreValid, Resolves, Retires, is_among, resolved, resolved_filters, retired, retired_tree, stripped}
 use Rattle.mh_pic.specs.Laws.Kept.{resolved_typed}
 
--- Tests and combiners get as many arguments as they did: where points are taken as valid, and in every typed tree.
+-- Tests and combiners are passed as many arguments as before: if points are taken as valid, and in every typed tree.
 abbrev mutual
   pub KeepsArity : Bool → List ℕ → Tree → Type 0
   KeepsArity valid ps (constant x) = Unit {0}
@@ -44,7 +44,7 @@ abbrev mutual
   KeepArity valid ps (absent fs) = KeepArity valid ps fs
   KeepArity valid ps (present f fs) = KeepsArity valid ps f × KeepArity valid ps fs
 
--- a point that goes, and one that stays
+-- a point that is replaced, and one that stays
 arity_point : (b : Bool) (p : ℕ) (x y : Tree) → arity (if b then x else point p x y) ≡ arity x
 arity_point true p x y = refl
 arity_point false p x y = refl
@@ -112,7 +112,7 @@ mutual
   typed_keep valid ps (present f fs) [] new h = absurd h
   typed_keep valid ps (present f fs) (k ∷ old) [] h = absurd h
 
--- a point that is taken so in v, or that w holds as v does
+-- a point that v has as it is taken, or that w has as v does
 pub mean_point : (v w : Environment) (b valid : Bool) (p : ℕ) (x y x' y' : Tree) (a : List Value)
     → (b ≡ true → is_valid v p ≡ valid) → (b ≡ false → is_valid w p ≡ is_valid v p) → mean w x' a ≡ mean v x a → mean w y' a ≡ mean v y a
     → mean w (if b then (if valid then x' else y') else point p x' y') a ≡ mean v (point p x y) a
@@ -147,7 +147,7 @@ mutual
   resolved_filtered valid ps v w kept (present f fs) (k, ks) p a =
       λ i. with_value (resolved_mean valid ps v w kept f k (argument a p ∷ []) i) (λ x. resolved_filtered valid ps v w kept fs ks (p + 1) (slice_set a p x) i)
 
--- steps, by how a tree's steps grow with its parts' steps
+-- steps, given how a tree's steps grow with its parts' steps
 pub after_less : (o o' : Outcome) (go go' : Value → ℕ) → o ≡ o' → ((x : Value) → go x ≤ go' x) → after o go ≤ after o' go'
 after_less o o' go go' same less = rw same (by_outcome o')
   where
@@ -236,13 +236,13 @@ retired_mean ps v w kept t m typed a = resolved_mean false ps v w kept t (typed_
 pub retired_steps : (ps : List ℕ) (v w : Environment) → Resolves false ps v w → (t : Tree) (m : Signature) → IsTyped t m → (a : List Value) → steps w (retired ps t) a ≤ steps v t a
 retired_steps ps v w kept t m typed a = resolved_steps false ps v w kept t (typed_keeps false ps t m typed) a
 
--- the tree of a site, where each site's tree is without the points
+-- the tree of a site, if each site's tree is without the points
 pub retired_at : (ps : List ℕ) (targets : List TypedTree) (s : ℕ) → target_at (map (retired_tree ps) targets) s ≡ retired_tree ps (target_at targets s)
 retired_at ps [] s = refl
 retired_at ps (t ∷ rest) zero = refl
 retired_at ps (t ∷ rest) (suc s) = retired_at ps rest s
 
--- where there is no site
+-- the tree of a site that does not exist
 abbrev no_tree : TypedTree
 no_tree = record { tree = constant (Boolean false); signature = record { ret = kind.Boolean; parameters = [] } }
 
@@ -254,7 +254,7 @@ typed_at targets typed s = by_test (nat_lt s (length targets)) refl
     by_test true e = typed s (grind (arith, nat_tests))
     by_test false e = subst (λ (h : TypedTree). IsTyped h.tree h.signature) (sym (get_or_past targets s no_tree (grind (arith, nat_tests)))) refl
 
--- through sites: where each site's tree is without the points, and they may be valid or not
+-- through sites: if each site's tree is without the points, and they may be valid or not
 module _ (ps : List ℕ) (old new : List Bool) (targets : List TypedTree) (retires : Retires ps old new)
     (typed : (s : ℕ) → s < length targets → IsTyped (target_at targets s).tree (target_at targets s).signature) where
   pub retired_below : (d : ℕ) → Resolves false ps (below d old targets) (below d new (map (retired_tree ps) targets))

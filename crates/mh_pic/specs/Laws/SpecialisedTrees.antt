@@ -1,5 +1,4 @@
--- `specialised` does what its tree does, in at most as many steps, where all needs are valid and the argument at the key place
--- is the key.
+-- `specialised` does what its tree does, in at most as many steps, if all needs are valid and the argument at the key position is the key.
 use Rattle.std.proofs.Common.{◌≡◌, ℕ, ◌<◌, ◌≤◌, refl, ap, sym, ◌∙◌, List, take, length, arith, Bool, true, false, Option, Some, None, if◌then◌else◌}
 use Rattle.mh_type.specs.Laws.{kind_eq_decides}
 use Rattle.mh_type.specs.declared.kind.Kind.{Kind}
@@ -17,7 +16,7 @@ use Rattle.mh_pic.specs.Laws.KeyTests.{key_test_mean, key_found}
 use Rattle.mh_pic.specs.Laws.ResolvedTrees.{stripped_arity, stripped_mean, stripped_steps, mean_point, steps_point, after_less, choose_less}
 use Rattle.mh_tree.specs.Environment.{Environment}
 
--- a known answer is what the test answers
+-- a known answer is that of the test
 known_answer : (v : Environment) (kinds : List Kind) (key : Value) (a : List Value)
     → length kinds < length a → argument a (length kinds) ≡ key → (c : Tree) (b : Bool) → decided key (key_in kinds c) ≡ Some b
     → mean v c (take (arity c) a) ≡ Value' (Boolean b)

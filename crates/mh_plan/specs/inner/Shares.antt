@@ -25,7 +25,7 @@ share_at runs worker = share_of (slice_index_or runs.shares.items worker (Ok [])
 abbrev pub run_at : Runs → ℕ → FlowData
 run_at runs i = slice_index_or (share_at runs (i % runs.workers)) (i / runs.workers) no_run
 
--- each part has its place
+-- each part has its run in the shares
 pub record AreShared (parts : List Part) (runs : Runs) : Type 0 where
   pub workers : 0 < runs.workers
   pub count : length runs.shares.items ≡ runs.workers

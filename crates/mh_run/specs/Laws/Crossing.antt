@@ -1,4 +1,4 @@
--- A stack may go to another thread.
+-- A stack can be sent to another thread.
 use denote.Param.Send.{IsSend}
 use Rattle.mh_run.specs.contracts.stack.Stack as stack
 

@@ -1,4 +1,4 @@
--- The routine of quiet code is quiet, where what its value is for is.
+-- The routine of quiet code is quiet if the use of its value is.
 use Rattle.std.proofs.Common.{◌≡◌, Bool, true, false, ℕ, ◌+◌, ◌≤◌, refl, sym, subst, List, [], ◌∷◌, ◌++◌, length, length-append, arith, if◌then◌else◌}
 use Rattle.std.specs.Prelude.{max}
 use Rattle.mh_code.specs.Routine.{Source, operand, operation, invocation, Routine, give, keep, pick, point, Purpose, answer, local, truth, untruth}
@@ -27,12 +27,12 @@ use Rattle.mh_type.specs.declared.outcome.Outcome.TheVariants as outcome
 use Rattle.mh_type.specs.declared.value.Value.{Value}
 use Rattle.mh_type.specs.declared.value.Value.TheVariants as value
 
--- what holds of a value, from what holds of it and of what follows
+-- a fact of a value, from a fact of it and of what follows
 in_turn : (o : Outcome) (h : Value → Outcome) (E P Q : Value → Type 0) → WithValue o E → WithValue (o >>= h) P → ((x : Value) → E x → WithValue (h x) P → Q x) → WithValue o Q
 in_turn (outcome.Value x) h E P Q e p k = k x e p
 in_turn (outcome.Thrown t) h E P Q e p k = tt
 
--- of a truth's kind alone
+-- a fact that depends only on a truth's kind
 chosen : (b : Value) (x y : Outcome) (E F G H : Type 0) (P : Value → Type 0) → Chosen b E F → WithValue (choose b x y) P → (E → WithValue x P → G) → (F → WithValue y P → H) → Chosen b G H
 chosen (value.Boolean true) x y E F G H P e p j k = j e p
 chosen (value.Boolean false) x y E F G H P e p j k = k e p
@@ -59,7 +59,7 @@ one_map : (b : Bool) (E F G H : Type 0) → (E → G) → (F → H) → OneOf b 
 one_map true E F G H j k h = j h
 one_map false E F G H j k h = k h
 
--- a truth chooses the other way where its `not` does
+-- a truth chooses the other way if its `not` does
 denied : (b : Bool) (E F : Type 0) → WithValue (operate Not (value.Boolean b ∷ [])) (λ c. Chosen c E F) → Chosen (value.Boolean b) F E
 denied true E F h = h
 denied false E F h = h
@@ -67,7 +67,7 @@ denied false E F h = h
 not_concat : Not ≡ Concat → ⊥
 not_concat h = cc
 
--- what is quiet is so below more locals
+-- a quiet part remains quiet below more locals
 module _ (C : ℕ → ℕ → Type 0) (k n d : ℕ) (v : Setting) (a l m : List Value) (deep_enough : d ≤ length l) where
   source_still : (x : Source) → IsSourceIn C n d x → IsSourceQuiet v x a l → IsSourceQuiet v x a (l ++ m)
   source_still (operand o) h q = subst (λ y. kind_of y ≡ kind.Text → ⊥) (sym (value_above C k n d (env v) a l m deep_enough o h)) q
@@ -125,7 +125,7 @@ module _ (C : ℕ → ℕ → Type 0) (k n : ℕ) (v : Setting) (a : List Value)
         p,
   )
 
-  -- a value that is kept and then negated
+  -- a value that is stored and then negated
   kept_quiet : (d s : ℕ) (x : Source) (r r' : Routine) (l : List Value) → IsPurposeIn C k n d (untruth r r') → d ≡ length l → IsSourceQuiet v x a l → WithValue (source_outcome (env v) x a l) (IsPurposeQuiet v (untruth r r') a l) → IsRoutineQuiet v (keep s x d (negated_local d r r')) a l
   kept_quiet d s x r r' l h deep_enough q p = (
     q,
@@ -157,7 +157,7 @@ module _ (C : ℕ → ℕ → Type 0) (k n : ℕ) (v : Setting) (a : List Value)
   used_quiet d s x (truth r r') l h deep_enough q p = tested_quiet d s x r r' l h deep_enough q p
   used_quiet d s x (untruth r r') l h deep_enough q p = negated_quiet d s x r r' l h deep_enough q p
 
-  -- what follows the first of two parts is quiet where it is so as a local
+  -- the part that follows the first of two parts is quiet if it is quiet as a local
   bound_quiet : (c : Code) (d : ℕ) (u : Purpose) (r : Routine) (l : List Value) (x : Value) → d ≡ length l → IsRoutineQuiet v r a (put l d x) → WithValue (run_code (env v) c a (l ++ x ∷ [])) (IsPurposeQuiet v u a l) → IsPurposeQuiet v (bound d c u r) a l x
   bound_quiet c d u r l x deep_enough h w =
       bound_by (λ e u' z. WithValue (run_code (env v) e a (l ++ x ∷ [])) (IsPurposeQuiet v u' a l) → IsPurposeQuiet v z a l x) d c u r (λ w'. h)
@@ -180,7 +180,7 @@ module _ (C : ℕ → ℕ → Type 0) (k n : ℕ) (v : Setting) (a : List Value)
       one (is_valid (env v) j) (run_code (env v) x a l) (run_code (env v) y a l) _ _ _ _ _ q p (quiet x d 0 u l h.1 g e) (quiet y d 0 u l h.2 g e)
   quiet (invoke m site os) d s u l h g e q p = used_quiet d (s + m) (invocation site os) u l g e q p
 
--- it takes one place more than the code has locals at once
+-- it takes one slot more than the code has locals at once
 tested_slots : (d s : ℕ) (x : Source) (r q : Routine) → slots (tested d s x r q) ≤ max (d + 1) (max (slots r) (slots q))
 tested_slots d s (operand o) r q = omega arith
 tested_slots d s (operation op x y) r q = omega arith

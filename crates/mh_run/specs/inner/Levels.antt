@@ -1,10 +1,10 @@
--- What runs of trees keep: locals, and the arguments of what they invoke.
+-- The memory of running trees: locals, and the arguments of the sites that they invoke.
 use Rattle.std.specs.Prelude.{◌≡◌, ◌≤◌, [], vec_capacity}
 use Rattle.mh_run.specs.inner.Limits.{lower_room}
 use Rattle.mh_run.specs.declared.levels.Bottom.{Bottom}
 use Rattle.mh_run.specs.declared.levels.Level.{Level}
 
--- there is room for locals and arguments, no arguments are passed, and what is invoked is ready
+-- there is room for locals and arguments, no arguments are passed, and the level below is ready
 pub record IsOpen {B : Type 0} (ready : B → Type 0) (s : Level B) : Type 0 where
   pub room : lower_room ≤ vec_capacity s.locals
   pub passed : s.passed.items ≡ []

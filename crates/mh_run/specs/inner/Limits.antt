@@ -1,6 +1,6 @@
--- The room of what a run keeps.
+-- The memory reserved for a run.
 use Rattle.std.specs.Prelude.{ℕ}
 
--- the locals that a level holds with no growth
+-- the number of locals that a level holds without growing
 abbrev pub lower_room : ℕ
 lower_room = 6144

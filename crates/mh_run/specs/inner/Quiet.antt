@@ -1,4 +1,4 @@
--- Routines that run with no further memory: what runs gives no text, and joins none.
+-- Routines that run without further memory: the parts that run return no text, and join none.
 use Rattle.std.specs.Prelude.{◌≡◌, ℕ, ◌+◌, max, List, [], ◌∷◌, map}
 use Rattle.mh_code.specs.Routine.{Source, operand, operation, invocation, Routine, give, keep, pick, point, Purpose, answer, local, truth, untruth}
 use Rattle.mh_code.specs.inner.Runs.{source_outcome, put}
@@ -24,7 +24,7 @@ IsTestQuiet v (operand o) a l = Unit {0}
 IsTestQuiet v (operation op x y) a l = IsSourceQuiet v (operation op x y) a l
 IsTestQuiet v (invocation s os) a l = IsSourceQuiet v (invocation s os) a l
 
--- as far as it runs
+-- the parts of the routine that run are quiet
 abbrev pub IsRoutineQuiet : Setting → Routine → List Value → List Value → Type 0
 IsRoutineQuiet v (give s x) a l = IsSourceQuiet v x a l
 IsRoutineQuiet v (keep s x i r) a l =
@@ -33,14 +33,14 @@ IsRoutineQuiet v (pick s x r q) a l =
     IsTestQuiet v x a l × WithValue (source_outcome (env v) x a l) (λ b. Chosen b (IsRoutineQuiet v r a l) (IsRoutineQuiet v q a l))
 IsRoutineQuiet v (point s p r q) a l = OneOf (is_valid (env v) p) (IsRoutineQuiet v r a l) (IsRoutineQuiet v q a l)
 
--- what is done with a value
+-- the use of a value is quiet
 abbrev pub IsPurposeQuiet : Setting → Purpose → List Value → List Value → Value → Type 0
 IsPurposeQuiet v answer a l x = Unit {0}
 IsPurposeQuiet v (local i r) a l x = IsRoutineQuiet v r a (put l i x)
 IsPurposeQuiet v (truth r q) a l x = Chosen x (IsRoutineQuiet v r a l) (IsRoutineQuiet v q a l)
 IsPurposeQuiet v (untruth r q) a l x = WithValue (operate Not (x ∷ [])) (λ b. Chosen b (IsRoutineQuiet v r a l) (IsRoutineQuiet v q a l))
 
--- the places that its locals take
+-- the number of slots that its locals take
 abbrev pub slots : Routine → ℕ
 slots (give s x) = 0
 slots (keep s x i r) = max (i + 1) (slots r)

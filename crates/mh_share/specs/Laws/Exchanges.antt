@@ -1,4 +1,4 @@
--- Ledgers that are exchanged, and exchanged back, of whatever has one each.
+-- Ledgers that are exchanged, and exchanged back, by any owners that have one each.
 use Rattle.std.proofs.Common.{◌≡◌, ◌<◌, ◌≤◌, ◌+◌, ◌∙◌, ◌⊎◌, inl, inr, ℕ, zero, suc, List, [], ◌∷◌, ap, arith, length, map, refl, slice_index_or, subst, sym}
 use Rattle.std.proofs.Common.{Result, Ok, Err}
 use Rattle.std.specs.List.{All}
@@ -11,7 +11,7 @@ use Rattle.mh_ledger.specs.declared.old_hits.OldHits.{OldHits}
 use Rattle.mh_core.specs.declared.refusal.Refusal.{Refusal}
 use Rattle.mh_share.specs.Renewals.{with_each}
 
--- what holds of all before a number and of that number holds of all before the next
+-- a fact of all numbers before one and of that one holds of all before the next
 pub one_more : (P : ℕ → Type 0) (n : ℕ) → ((w : ℕ) → w < n → P w) → P n → (w : ℕ) → w < n + 1 → P w
 one_more P n before there w lt =
     elim (cases_lt w n) [
@@ -23,7 +23,7 @@ module _ {C : Type 0} (get : C → LedgerState) (put : C → LedgerState → C) 
   abbrev at_place : C → List C → ℕ → C
   at_place none cs w = slice_index_or cs w none
 
-  -- the ledger at a place is that of the owner there
+  -- the ledger at an index is that of the owner there
   pub ledger_there : (cs : List C) (w : ℕ) (d : C) → w < length cs → ledger_at (map get cs) w ≡ get (slice_index_or cs w d)
   ledger_there cs w d lt = get_or-map get cs w d no_ledger lt
 
@@ -38,14 +38,14 @@ module _ {C : Type 0} (get : C → LedgerState) (put : C → LedgerState → C) 
   at-with none (c ∷ cs) (l ∷ ls) zero lt inside = refl
   at-with none (c ∷ cs) (l ∷ ls) (suc w) lt inside = at-with none cs ls w (omega (arith, lt)) (omega (arith, inside))
 
-  -- once each has another ledger
+  -- after each has another ledger
   pub all_with : (none : C) (cs new : List C) (ls : List LedgerState) → length ls ≡ length cs → length new ≡ length cs
       → ((w : ℕ) → w < length cs → at_place none new w ≡ put (at_place none cs w) (ledger_at ls w)) → new ≡ with_each put cs ls
   all_with none cs new ls count same each =
       ext_get_or none _ _ (same ∙ sym (length-with cs ls))
       (λ w inside. each w (omega (arith, inside, same)) ∙ sym (at-with none cs ls w (omega (arith, inside, same)) (omega (arith, inside, same, count))))
 
-  -- once each ledger is that of the owner at its place
+  -- after each ledger is that of the owner at its index
   pub all_taken : (none : C) (cs : List C) (new : List LedgerState) → length new ≡ length cs
       → ((w : ℕ) → w < length cs → ledger_at new w ≡ get (at_place none cs w)) → new ≡ map get cs
   all_taken none cs new same each =
@@ -76,9 +76,9 @@ module _ {C : Type 0} (get : C → LedgerState) (put : C → LedgerState → C) 
       ap (λ (x : C). x ∷ with_each put (with_each put cs ls) (map get cs)) (over c l (get c) ∙ own c)
       ∙ ap (λ (rest : List C). c ∷ rest) (back over own cs ls (omega (arith, count)))
 
--- ledgers that are taken of their owners, who have spare ones then, and given back after a renewal
+-- ledgers that are taken from their owners, who then have spare ones, and given back after a renewal
 module _ {C : Type 0} (get : C → LedgerState) (put : C → LedgerState → C) (has : (c : C) (l : LedgerState) → get (put c l) ≡ l) (h : OldHits) (cs between : List C) (spare before now : List LedgerState) (count : length spare ≡ length cs) (gone : between ≡ with_each put cs spare) (taken : before ≡ map get cs) where
-  -- it renews them, or leaves them as they are
+  -- the renewal renews them, or leaves them unchanged
   abbrev Renewed : Result (Unit {0}) Refusal → Type 0
   Renewed r = OnOk r (now ≡ map (renewed_ledger h) before) × OnErr r (now ≡ before)
 

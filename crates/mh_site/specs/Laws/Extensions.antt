@@ -1,4 +1,4 @@
--- In a definition with more points and sites those of before keep their numbers, and so do their links.
+-- In a definition with more points and sites, the earlier ones keep their numbers, and so do their links.
 use Rattle.std.proofs.Common.{◌≡◌, ℕ, zero, suc, ◌+◌, ◌<◌, ◌≤◌, ◌-◌, List, [], ◌++◌, length, map, take, refl, ap, sym, ◌∙◌, arith, slice_index_or}
 use Rattle.std.proofs.Math.Seq.{take-append_seam}
 use Rattle.std.proofs.lemmas.List.{append-nil, append_assoc, get_or_append_left, length-append}
@@ -13,7 +13,7 @@ use Rattle.mh_site.specs.Links.{links, links_at, links_before}
 use Rattle.mh_site.specs.Targets.{target_at, with_target, with_targets}
 use Rattle.mh_site.specs.Laws.Targets.{links_kept, site_kept, sites_kept}
 
--- the links of the first sites do not hang on later sites
+-- the links of the first sites do not depend on later sites
 before_stays : (sites more : List Site) (n : ℕ) → n ≤ length sites → links_before (sites ++ more) n ≡ links_before sites n
 before_stays sites more zero h = refl
 before_stays sites more (suc n) h =
@@ -52,7 +52,7 @@ module _ (d : DefinitionData) (targets : List TypedTree) (points : List Point) (
   abbrev new : List Site
   new = map site_in_order sites
 
-  -- the links of before come first
+  -- the earlier links come first
   pub links_stay : take (length (links d)) (links (extended d targets points sites)) ≡ links d
   links_stay =
       let n = length own in
@@ -60,7 +60,7 @@ module _ (d : DefinitionData) (targets : List TypedTree) (points : List Point) (
       let first = links_first (own ++ new) n (length (own ++ new)) (omega (arith, length-append own new)) in
       ap (λ (l : List (ℕ × Link)). take (length l) (links (extended d targets points sites))) (sym same) ∙ (first ∙ same)
 
-  -- a site of before has its target, and is else as it was
+  -- an earlier site has its new target, and is otherwise unchanged
   pub site_stays : (s : ℕ) → s < length d.sites → site_at (extended d targets points sites) s ≡ with_target (site_at d s) (target_at targets s)
   site_stays s h = get_or_append_left own new no_site s (omega (arith, h, sites_kept d targets)) ∙ site_kept d targets s h
 

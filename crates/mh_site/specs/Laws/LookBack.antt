@@ -1,4 +1,4 @@
--- The tables of a world are what looking back finds.
+-- The tables of a world agree with looking back through the controls.
 use Rattle.std.proofs.Common.{◌≡◌, ◌≢◌, ℕ, zero, suc, ◌+◌, ◌<◌, ◌==◌, Bool, true, false, not, ◌&&◌, ◌||◌, cond, List, [], ◌∷◌, length, map, fold, slice_set, slice_index_or, refl, ap, sym, ◌∙◌, arith, replicate}
 use Rattle.std.specs.Prelude.{reverse}
 use Rattle.std.specs.List.{range_with_len}
@@ -14,7 +14,7 @@ use Rattle.mh_site.specs.Worlds.{WorldState, SiteState, opened, opening, replay,
 use Rattle.mh_site.specs.LookBack.{base, linked, kept, version, member, is_valid, valid_points, last_of, site_after}
 use Rattle.mh_site.specs.Laws.Tables.{replay_push}
 
--- the world after controls that are given newest first
+-- the world after controls that are listed newest first
 abbrev pub world : DefinitionData → List Control → WorldState
 world d newest = replay (opened d) (reverse newest)
 

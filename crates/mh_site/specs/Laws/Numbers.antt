@@ -31,14 +31,14 @@ firsts_more sites n =
     map-range_with_len_more (λ i. length (links_before sites i)) 0 n n (omega arith)
     ∙ ap (λ k. first_links sites n ++ k ∷ []) (sym (length-map (links_before sites n) home_of))
 
--- what the table of first links has at a site
+-- the entry of the table of first links at a site
 pub first_at : (sites : List Site) (s d : ℕ) → s < length sites → slice_index_or (first_links sites (length sites)) s d ≡ length (links_before sites s)
 first_at sites s d h = get_or-map-range_with_len (λ i. length (links_before sites i)) 0 (length sites) s s d h (omega arith)
 
 length_more : (sites : List Site) (n : ℕ) → length (links_before sites (suc n)) ≡ length (links_before sites n) + length (links_in sites n)
 length_more sites n = length-append (links_before sites n) (links_at sites n) ∙ ap (λ k. length (links_before sites n) + k) (length-map (links_in sites n) (λ l. (n, l)))
 
--- the links of a site stand before those of a later one
+-- the links of a site come before those of a later one
 pub before_within : (sites : List Site) (n s : ℕ) → s < n → length (links_before sites s) + length (links_in sites s) ≤ length (links_before sites n)
 before_within sites zero s h = absurd (omega arith)
 before_within sites (suc n) s h = elim (cases_lt s n) [
@@ -49,7 +49,7 @@ before_within sites (suc n) s h = elim (cases_lt s n) [
       subst (λ k. length (links_before sites k) + length (links_in sites k) ≤ length (links_before sites (suc n))) e here
 ]
 
--- which link has a number
+-- the link with a number
 pub numbered : (sites : List Site) (n s k : ℕ) (d : ℕ × Link) → s < n → k < length (links_in sites s) → slice_index_or (links_before sites n) (length (links_before sites s) + k) d ≡ (s, slice_index_or (links_in sites s) k no_link)
 numbered sites zero s k d h m = absurd (omega arith)
 numbered sites (suc n) s k d h m = elim (cases_lt s n) [
@@ -68,7 +68,7 @@ numbered sites (suc n) s k d h m = elim (cases_lt s n) [
 abbrev pub Owns : List Site → ℕ → ℕ → ℕ → Type 0
 Owns sites n j s = (s < n) × (length (links_before sites s) ≤ j) × (j < length (links_before sites s) + length (links_in sites s))
 
--- which site has a number
+-- the site with a number
 pub home : (sites : List Site) (n j : ℕ) (d : ℕ × Link) → j < length (links_before sites n) → Owns sites n j (slice_index_or (links_before sites n) j d).0
 home sites zero j d h = absurd (omega arith)
 home sites (suc n) j d h = elim (cases_lt j (length (links_before sites n))) [
@@ -85,6 +85,6 @@ home sites (suc n) j d h = elim (cases_lt j (length (links_before sites n))) [
       subst (λ (e : ℕ × Link). Owns sites (suc n) j e.0) (sym found) (omega arith, last, omega (arith, h, length_more sites n))
 ]
 
--- what the table of sites has at a link
+-- the entry of the table of sites at a link
 pub home_at : (sites : List Site) (n j d : ℕ) (e : ℕ × Link) → j < length (links_before sites n) → slice_index_or (homes_before sites n) j d ≡ (slice_index_or (links_before sites n) j e).0
 home_at sites n j d e h = get_or-map home_of (links_before sites n) j e d h

@@ -23,7 +23,7 @@ below zero (suc n) = inl (omega arith)
 below (suc m) zero = inr (omega arith)
 below (suc m) (suc n) = elim (below m n) [ inl h ↦ inl (omega arith) | inr h ↦ inr (omega arith) ]
 
--- what holds of all and of the default holds at each place
+-- what holds of all elements and of the default holds at each index
 All-at : {X : Type 0} (P : X → Type 0) (xs : List X) (i : ℕ) (d : X) → P d → All P xs → P (slice_index_or xs i d)
 All-at P xs i d at_default all = elim (below i (length xs)) [
   | inl h ↦ all i d h
@@ -37,7 +37,7 @@ module _ (front : ℕ) where
 later : (front : ℕ) (xs : List SiteState) → All (Early front) xs → All (Early (front + 1)) xs
 later front xs all k d h = let e : (slice_index_or xs k d).version ≤ front = all k d h in omega arith
 
--- what an installation or a retargeting brings is typed
+-- the trees of an installation or a retargeting are typed
 abbrev pub IsTypedTree : TypedTree → Type 0
 IsTypedTree t = IsTyped t.tree t.signature
 
@@ -110,7 +110,7 @@ module _ (xs : List SiteWorld) (ts : List TypedTree) (many : length ts ≡ lengt
       ap (map site_state) (zip_set xs ts i new t)
       ∙ (map-set site_state (zip xs ts) i (new, t) ∙ ap (slice_set (site_states xs ts) i) (e ∙ ap f (sym (states_read i d u no_state h))))
 
-  -- what is written past the last changes nothing
+  -- a write past the last changes nothing
   pub unwritten : (i : ℕ) (s : SiteState) → length xs ≤ i → site_states xs ts ≡ slice_set (site_states xs ts) i s
   unwritten i s h = sym (set_past (site_states xs ts) i s (omega (arith, states_long)))
 
@@ -121,7 +121,7 @@ module _ (xs : List SiteWorld) (ts : List TypedTree) (many : length ts ≡ lengt
       let same : (slice_index_or (site_states xs ts) k no_state).version ≡ (slice_index_or xs k d).version = ap (λ x. x.version) (states_read k d no_tree no_state in') in
       omega arith
 
-  -- the linked trees as they stand
+  -- the linked trees, in order
   pub linkeds_are : map (λ x. x.linked) (site_states xs ts) ≡ ts
   linkeds_are = map-map _ _ (zip xs ts) ∙ seconds-zip xs ts many
 
@@ -153,7 +153,7 @@ states_push xs ts x t many = ap (map site_state) (zip_push xs ts many) ∙ map-a
     zip_push (y ∷ xs) [] many = absurd (omega arith)
     zip_push (y ∷ xs) (u ∷ ts) many = ap (λ r. (y, u) ∷ r) (zip_push xs ts (omega arith))
 
--- what sites have beside their linked trees decides their states
+-- the parts of sites other than their linked trees decide their states
 states_alike : (xs ys : List SiteWorld) (ts : List TypedTree) → map plain_site xs ≡ map plain_site ys → site_states xs ts ≡ site_states ys ts
 states_alike [] [] ts same = refl
 states_alike [] (y ∷ ys) ts same = absurd (omega (arith, ap length same))

@@ -1,4 +1,4 @@
--- What tests that pass say.
+-- Consequences of tests that pass.
 use Rattle.std.proofs.Common.{◌≡◌, ◌&&◌, ◌||◌, not, Bool, true, false, refl}
 
 pub left_true : (a b : Bool) → (a && b) ≡ true → a ≡ true

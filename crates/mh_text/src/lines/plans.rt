@@ -8,15 +8,16 @@ use mh_cert::Plan;
 use mh_network::Problem;
 use std::alloc::{AllocError, Global};
 
-/// The line of a plan, without its end: its links and points by number, its value, and the sum of
-/// the amounts of its flow, as `links 0,1 points 0,1,2 value 1 flow 15`. An empty list is `-`.
+/// Returns the line of a plan, without its end: its links and points by number, its value, and the
+/// sum of the amounts of its flow, as `links 0,1 points 0,1,2 value 1 flow 15`. An empty list is
+/// `-`.
 pub fn plan_line(alloc: Global, plan: &Plan) -> Result<String, AllocError>
     ensures value { IfOk result (λ s. string_bytes s ≡ plan_text plan.now) }
 {
     format!(in alloc; "{plan}")
 }
 
-/// The sum of counts.
+/// Returns the sum of counts.
 fn sum_of(counts: &[u64]) -> u128
     ensures value { result ≡ sum_by (λ n. n) counts.now }
 {
@@ -27,14 +28,14 @@ fn sum_of(counts: &[u64]) -> u128
     sum
 }
 
-/// The links and points of each part, and 2, added up.
+/// Returns the sum, over all parts, of the number of links and points, plus 2 for each part.
 fn phases_bound(problem: &Problem, phases: &[u64]) -> u128
     ensures value { result ≡ bound_of problem.now phases.now }
 {
     problem.links() as u128 + problem.points() as u128 + 2 * phases.len() as u128
 }
 
-/// The line of the phases of a problem's parts, without its end.
+/// Returns the line of the phases of a problem's parts, without its end.
 pub(crate) fn phases_line(
     alloc: Global,
     problem: &Problem,

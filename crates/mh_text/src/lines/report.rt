@@ -1,4 +1,4 @@
-//! Reports: what stands at each point, site and link, a line each.
+//! Reports: the state of each point, site and link, with a line for each.
 ghost use Rattle.std.specs.Prelude.{◌≡◌, ◌++◌, ◌<◌, ◌≤◌, string_bytes, length, map, slice_index_or, IfOk, OnOk};
 ghost use Rattle.std.specs.List.{All, flat_map};
 ghost use Rattle.mh_network.specs.Selection.{member};
@@ -31,7 +31,7 @@ fn yes(yes: bool) -> &'static str
     if yes { "yes" } else { "no" }
 }
 
-/// The charge of a link, where it has one.
+/// Returns the text of the charge of a link, which is empty if the charge is 0.
 fn charge_text(alloc: Global, charge: u64) -> Result<String, AllocError>
     ensures value { IfOk result (λ s. string_bytes s ≡ charge_of charge) }
 {
@@ -41,7 +41,7 @@ fn charge_text(alloc: Global, charge: u64) -> Result<String, AllocError>
     format!(in alloc; " charge {charge}")
 }
 
-/// Whether a link needs a point.
+/// Returns whether a link needs a point.
 fn needs(book: &Book, link: usize, point: usize) -> bool
     requires inside { link < length (links_of book.now.definition) }
     ensures value { result ≡ member (link_at book.now.definition link).1.needs point }
@@ -50,7 +50,7 @@ fn needs(book: &Book, link: usize, point: usize) -> bool
     needs.iter().any(|need| *need as usize == point)
 }
 
-/// The links that need a point.
+/// Returns the links that need a point.
 fn links_needing(alloc: Global, book: &Book, point: usize) -> Result<Vec<u32>, AllocError>
     ensures value { IfOk result (λ v. v.items ≡ needing book.now.definition point) }
 {
@@ -63,7 +63,7 @@ fn links_needing(alloc: Global, book: &Book, point: usize) -> Result<Vec<u32>, A
     Ok(links)
 }
 
-/// The line of a point, without its end.
+/// Returns the line of a point, without its end.
 fn point_text(alloc: Global, book: &Book, point: usize) -> Result<String, AllocError>
     requires inside { point < length book.now.definition.points }
     ensures value { IfOk result (λ s. string_bytes s
@@ -80,7 +80,7 @@ fn point_text(alloc: Global, book: &Book, point: usize) -> Result<String, AllocE
     format!(in alloc; "point {name} cost {cost} {validity} links {links}")
 }
 
-/// The line of a site, without its end.
+/// Returns the line of a site, without its end.
 fn site_text(alloc: Global, book: &Book, site: usize) -> Result<String, AllocError>
     requires inside { site < length book.now.definition.sites }
     ensures value { IfOk result (λ s. string_bytes s
@@ -96,7 +96,7 @@ fn site_text(alloc: Global, book: &Book, site: usize) -> Result<String, AllocErr
     )
 }
 
-/// Whether a link's site holds it.
+/// Returns whether a link's site holds it.
 fn is_installed(book: &Book, link: usize) -> bool
     requires inside { link < length (links_of book.now.definition) }
     ensures value { result ≡ member (kept book.now.definition book.now.records
@@ -106,7 +106,7 @@ fn is_installed(book: &Book, link: usize) -> bool
     book.installed(site).iter().any(|held| *held == link)
 }
 
-/// What is declared of a link, by which its line begins.
+/// Returns the declared parts of a link, with which its line begins.
 fn declared_text(alloc: Global, book: &Book, link: usize) -> Result<String, AllocError>
     requires inside { link < length (links_of book.now.definition) }
     ensures value { IfOk result (λ s. string_bytes s
@@ -119,7 +119,7 @@ fn declared_text(alloc: Global, book: &Book, link: usize) -> Result<String, Allo
     format!(in alloc; "link {link} site {site} when {when} weight {weight}")
 }
 
-/// The line of a link, without its end.
+/// Returns the line of a link, without its end.
 fn link_text(alloc: Global, book: &Book, link: usize, unflushed: u128) -> Result<String, AllocError>
     requires inside { link < length (links_of book.now.definition) }
     requires few { unflushed ≤ most_unflushed }
@@ -180,11 +180,10 @@ fn push_links(
     Ok(())
 }
 
-/// Appends a line for each point, site and link of a book, in their order, where the workers have
-/// not flushed so many hits of each link: `point a cost 5 valid links 0,1`, then `site f type
-/// (int)int retargeted 0 installed 1`, then `link 0 site f when int 1 weight 3 hits 3 flushed 2
-/// unflushed 1 gain 6 installed yes`, and ` charge 4` behind it where the link has a charge.
-/// O(points * links).
+/// Appends a line for each point, site and link of a book, in their order, given the number of
+/// unflushed hits of each link: `point a cost 5 valid links 0,1`, then `site f type (int)int
+/// retargeted 0 installed 1`, then `link 0 site f when int 1 weight 3 hits 3 flushed 2 unflushed 1
+/// gain 6 installed yes`, followed by ` charge 4` if the link has a charge. O(points * links).
 pub fn push_tables(
     out: &mut String,
     alloc: Global,
@@ -201,7 +200,7 @@ pub fn push_tables(
     push_links(out, alloc, book, unflushed)
 }
 
-/// The hits of each link that the workers of a machine have not flushed.
+/// Returns for each link the hits that the workers of a machine have not flushed.
 fn unflushed_hits(alloc: Global, machine: &Machine) -> Result<Vec<u128>, AllocError>
     ensures value { IfOk result (λ v. v.items ≡ unflushed_in machine.now) }
     ensures few { IfOk result (λ v. All (λ n. n ≤ most_unflushed) v.items) }
@@ -213,7 +212,7 @@ fn unflushed_hits(alloc: Global, machine: &Machine) -> Result<Vec<u128>, AllocEr
     Ok(unflushed)
 }
 
-/// The first line, without its end.
+/// Returns the first line, without its end.
 fn head_text(alloc: Global, machine: &Machine) -> Result<String, AllocError>
     ensures value { IfOk result (λ s. string_bytes s ≡ head_of machine.now) }
 {
@@ -224,8 +223,8 @@ fn head_text(alloc: Global, machine: &Machine) -> Result<String, AllocError>
     format!(in alloc; "report calls {calls} events {events} snapshots {snapshots} plans {plans}")
 }
 
-/// The report of a machine: `report calls 4 events 9 snapshots 1 plans 1`, and the lines of its
-/// book (see `push_tables`). Fails only if an allocation is refused.
+/// Returns the report of a machine: `report calls 4 events 9 snapshots 1 plans 1`, and the lines of
+/// its book (see `push_tables`). Fails only if an allocation is refused.
 pub fn report_lines(alloc: Global, machine: &Machine) -> Result<String, AllocError>
     ensures value { IfOk result (λ s. string_bytes s ≡ report_text machine.now) }
 {

@@ -1,4 +1,4 @@
-//! What a check finds of a plan.
+//! Verdicts of a check of a plan.
 ghost use Rattle.std.specs.Prelude.{◌≡◌, string_bytes, IfOk, IfErr};
 ghost use Rattle.mh_json.specs.Gives.{no_memory};
 ghost use Rattle.mh_text.specs.Checks.{IsFound, verdict_line};
@@ -8,16 +8,16 @@ use mh_json::{Fault, InputFault};
 use mh_network::Problem;
 use std::alloc::{AllocError, Global};
 
-/// Whether a plan is accepted.
+/// The result of checking a plan.
 #[derive(Clone, Copy, Debug, PartialEq, Eq)]
 pub enum Verdict {
-    /// It matches its problem, and is best.
+    /// The plan matches its problem, and is best.
     Accepted,
-    /// Its first part that is wrong.
+    /// The plan is refused; this is its first part that is wrong.
     Refused(CheckFault),
 }
 
-/// What is found of a plan of a problem.
+/// Checks a plan of a problem, and returns the verdict.
 ///
 /// Fails only if memory runs out, which is reported at 0.
 pub fn judge(alloc: Global, problem: &Problem, plan: &Plan) -> Result<Verdict, Fault>
@@ -31,7 +31,7 @@ pub fn judge(alloc: Global, problem: &Problem, plan: &Plan) -> Result<Verdict, F
     }
 }
 
-/// The line of a verdict.
+/// Returns the line of a verdict.
 pub(crate) fn line(alloc: Global, verdict: Verdict) -> Result<String, AllocError>
     ensures value { IfOk result (λ s. string_bytes s ≡ verdict_line verdict) }
 {

@@ -17,11 +17,11 @@ use serde_json::Value;
 use std::alloc::Global;
 use std::io::{Read, Write};
 
-/// Writes the line of a verdict, `accepted`, or `refused`, the number and the name of the first part
-/// that is wrong, with its end.
+/// Writes the line of a verdict, with its end: `accepted`, or `refused` with the number and the
+/// name of the first part that is wrong.
 ///
-/// Fails if a write fails, which leaves a beginning of the line, or if memory runs out, which writes
-/// nothing; both are reported at 0.
+/// Fails if a write fails, after a prefix of the line was written, or if memory runs out, and then
+/// nothing is written; both are reported at 0.
 pub fn write_verdict<W: Write>(
     alloc: Global,
     verdict: Verdict,
@@ -43,13 +43,15 @@ pub fn write_verdict<W: Write>(
     Ok(())
 }
 
-/// Checks the plan that the reader gives beside its problem, writes a line of what is found, and
-/// answers it: `accepted`, or `refused`, the number and the name of the first part that is wrong.
+/// Checks the plan that the reader contains together with its problem, writes a line with the
+/// verdict, and returns it: `accepted`, or `refused` with the number and the name of the first part
+/// that is wrong.
 ///
 /// The input is a JSON object with a problem at the key `problem` (see `read_problem`) and a plan
-/// at the key `plan` (see `read_plan`). It is read to its end, or to the first byte past 1,048,576.
-/// The problem is read and made before the plan is looked at. A fault in the input, or of memory,
-/// writes nothing. A failing write leaves a beginning of the line, and is reported at 0.
+/// at the key `plan` (see `read_plan`). It is read to its end, or to the first byte beyond
+/// 1,048,576. The problem is read and made before the plan is read. If the input has a fault, or
+/// memory runs out, nothing is written. If a write fails, a prefix of the line was written, and the
+/// failure is reported at 0.
 pub fn check_bytes<R: Read, W: Write>(
     alloc: Global,
     reader: &mut Watched<R>,
@@ -77,8 +79,8 @@ pub fn check_bytes<R: Read, W: Write>(
     Ok(verdict)
 }
 
-/// Checks the plan beside its problem that a JSON value has, and writes a line of what is found, as
-/// `check_bytes` does.
+/// Checks the plan in a JSON value that also contains its problem, and writes a line with the
+/// verdict, as `check_bytes` does.
 pub fn check_value<W: Write>(
     alloc: Global,
     value: &Value,

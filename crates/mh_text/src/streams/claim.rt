@@ -1,4 +1,4 @@
-//! A problem and a plan, which is claimed to be best.
+//! Claims: a problem and a plan that is claimed to be best.
 ghost use Rattle.std.specs.Prelude.{◌≡◌, ◌≢◌, ◌+◌, ◌⊎◌, Ok, IfOk, IfErr, IfSome, OnOk};
 ghost use Rattle.serde_json.specs.View.{view};
 ghost use Rattle.std.specs.Io.KnownBytes.{IsAtEnd};
@@ -18,7 +18,7 @@ use serde_json::Value;
 use std::alloc::Global;
 use std::io::Read;
 
-/// The problem and then the plan of a value, each at its key.
+/// Reads the problem and then the plan of a value, each at its key.
 pub(crate) fn read_value(alloc: Global, value: &Value) -> Result<Claim, Fault>
     ensures ok { IfOk result (λ claim. IsClaimBy Ok (view value.now) claim.problem claim.plan) }
     ensures kind { IfErr result (λ e. IsOfInput e.kind) }
@@ -30,7 +30,7 @@ pub(crate) fn read_value(alloc: Global, value: &Value) -> Result<Claim, Fault>
     Ok(Claim { problem, plan })
 }
 
-/// The problem and the plan of an input, which is parsed once.
+/// Reads the problem and the plan of an input, which is parsed once.
 fn read_claim(alloc: Global, input: &[u8]) -> Result<Claim, Fault>
     ensures ok { IfOk result (λ claim. IsClaim input.now claim.problem claim.plan) }
     ensures kind { IfErr result (λ e. IsOfInput e.kind) }
@@ -39,7 +39,7 @@ fn read_claim(alloc: Global, input: &[u8]) -> Result<Claim, Fault>
     read_value(alloc, &read_json(alloc, input)?)
 }
 
-/// The problem and the plan that the reader gives.
+/// Reads the problem and the plan that the reader contains.
 pub(crate) fn read_whole<R: Read>(alloc: Global, reader: &mut Watched<R>) -> Result<Claim, Fault>
     ensures ok { IfOk result (λ claim. IfSome (R.remaining reader.old.inner)
         (λ input. IsClaim input claim.problem claim.plan)) }

@@ -1,18 +1,18 @@
-//! Readers and writers of which a clause can say that they failed.
+//! Readers and writers whose failures clauses can state.
 ghost use Rattle.std.specs.Prelude.{◌≡◌, ◌≤◌, length, IfOk, OnErr};
 ghost use Rattle.std.specs.Io.KnownBytes.{ReadConsumes, WriteAppends, Keeps};
 
 use std::io;
 use std::io::{Read, Write};
 
-/// A reader, and what it means that its last call failed. Each reader is one.
+/// A reader, with the meaning of a failure of its last call. Each reader is a source.
 ///
-/// A function over all sources can report a failure only where a read did: nothing else says that
-/// a source has failed, since each type gives `has_failed` a meaning of its own.
+/// A function over all sources can report a failure only if a read failed: nothing else states that
+/// a source has failed, since each type has a meaning of `has_failed` of its own.
 pub trait Source: Read {
     ghost has_failed: { Self → Type 0 };
 
-    /// One read, as by `Read::read`.
+    /// Reads once, as `Read::read` does.
     fn try_read(&mut self, buffer: &mut [u8]) -> io::Result<usize>
         ensures bound { IfOk result (λ n. n ≤ length buffer.new) }
         ensures bytes { ReadConsumes (Self.remaining self.old)
@@ -20,11 +20,12 @@ pub trait Source: Read {
         ensures failed { OnErr result (has_failed self.new) };
 }
 
-/// A writer, and what it means that its last call failed, as of a `Source`. Each writer is one.
+/// A writer, with the meaning of a failure of its last call, as for a `Source`. Each writer is a
+/// sink.
 pub trait Sink: Write {
     ghost has_failed: { Self → Type 0 };
 
-    /// One write, as by `Write::write`. One that takes no byte has failed too.
+    /// Writes once, as `Write::write` does. A write that accepts no byte has failed, too.
     fn try_write(&mut self, bytes: &[u8]) -> io::Result<usize>
         ensures bound { IfOk result (λ n. n ≤ length bytes.now) }
         ensures bytes { WriteAppends (Self.contents self.old)
@@ -32,7 +33,7 @@ pub trait Sink: Write {
         ensures failed { OnErr result (has_failed self.new) }
         ensures none { IfOk result (λ n. n ≡ 0 → has_failed self.new) };
 
-    /// A flush, as by `Write::flush`.
+    /// Flushes, as `Write::flush` does.
     fn try_flush(&mut self) -> io::Result<()>
         ensures bytes { Keeps (Self.contents self.old) (Self.contents self.new) }
         ensures failed { OnErr result (has_failed self.new) };

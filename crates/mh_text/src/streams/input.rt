@@ -1,4 +1,4 @@
-//! The whole input.
+//! Reading the whole input.
 ghost use Rattle.std.specs.Prelude.{◌≡◌, ◌≢◌, ◌<◌, ◌≤◌, ◌⊎◌, ◌+◌, ◌^◌, length, IfOk, IfErr, OnOk, OnErr, IfSome, IsErrOf};
 ghost use Rattle.mh_text.specs.Bytes.{HasFailed, LosesAtMost};
 ghost use Rattle.mh_json.specs.Inputs.{most_bytes};
@@ -10,7 +10,7 @@ use mh_json::{InputFault, LONGEST_INPUT, TextFault};
 use std::alloc::Global;
 use std::io::Read;
 
-/// The input to its end, or up to the first byte past a limit.
+/// Reads the input to its end, or up to the first byte beyond a limit.
 ///
 /// Fails if it has more bytes than that, if a read fails, or if memory runs out.
 pub fn read_up_to<R: Read>(
@@ -49,7 +49,7 @@ pub fn read_up_to<R: Read>(
     Err(TextFault::Input(InputFault::TooLong))
 }
 
-/// The input to its end, or up to the first byte past 1,048,576.
+/// Reads the input to its end, or up to the first byte beyond 1,048,576.
 ///
 /// Fails if it has more bytes than that, if a read fails, or if memory runs out.
 pub fn read_input<R: Read>(alloc: Global, reader: &mut Watched<R>) -> Result<Vec<u8>, TextFault>

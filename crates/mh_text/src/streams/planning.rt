@@ -1,4 +1,4 @@
-//! Planning: a problem in, its plan out.
+//! Planning: reads a problem and writes its plan.
 ghost use Rattle.std.specs.Prelude.{◌≡◌, ◌≢◌, ◌+◌, ◌<◌, ◌≤◌, ◌++◌, ◌⊎◌, ℕ, List, true, string_bytes, Ok, Some, IfOk, IfErr, OnOk, IfSome, MatchResult};
 ghost use Rattle.serde_json.specs.View.{view};
 ghost use Rattle.std.specs.Io.KnownBytes.{Appends, IsAtEnd};
@@ -24,18 +24,18 @@ use std::alloc::{AllocError, Global};
 use std::io::{Read, Write};
 use std::thread::Threads;
 
-/// How a plan is made, and what is written of it.
+/// Options of making a plan, and of what is written of it.
 #[derive(Clone, Copy, Debug, PartialEq, Eq)]
 pub struct PlanOptions {
-    /// How many workers plan, from 1 to 64. The plan does not depend on them.
+    /// The number of workers that plan, 1 to 64. The plan does not depend on it.
     pub workers: usize,
-    /// Whether the plan is also written as JSON, with the flow that shows it to be best.
+    /// If true, the plan is also written as JSON, with the flow that proves it best.
     pub certificate: bool,
-    /// Whether the phases of its flow are written too.
+    /// If true, the number of phases of its flow is written, too.
     pub phases: bool,
 }
 
-/// The problem that an input is.
+/// Reads the problem in an input.
 fn read_bytes(alloc: Global, input: &[u8]) -> Result<Problem, Fault>
     ensures ok { IfOk result (λ problem. IsProblemInput input.now problem) }
     ensures kind { IfErr result (λ e. IsOfInput e.kind) }
@@ -44,7 +44,7 @@ fn read_bytes(alloc: Global, input: &[u8]) -> Result<Problem, Fault>
     read_problem(alloc, input, None)
 }
 
-/// The problem that a JSON value is.
+/// Reads the problem in a JSON value.
 fn read_value(alloc: Global, value: &Value) -> Result<Problem, Fault>
     ensures ok { IfOk result (λ problem. IsProblemBy Ok (view value.now) problem) }
     ensures kind { IfErr result (λ e. IsOfInput e.kind) }
@@ -54,7 +54,7 @@ fn read_value(alloc: Global, value: &Value) -> Result<Problem, Fault>
     read_problem_at(alloc, value, None)
 }
 
-/// The problem that the reader gives.
+/// Reads the problem that the reader contains.
 fn read_whole<R: Read>(alloc: Global, reader: &mut Watched<R>) -> Result<Problem, Fault>
     ensures ok { IfOk result (λ problem. IfSome (R.remaining reader.old.inner)
         (λ input. IsProblemInput input problem)) }
@@ -71,7 +71,7 @@ fn read_whole<R: Read>(alloc: Global, reader: &mut Watched<R>) -> Result<Problem
     read_bytes(alloc, &input)
 }
 
-/// The line of a text, where it is asked for.
+/// Appends a line and its end.
 fn push_line(out: &mut String, line: &str) -> Result<(), AllocError>
     ensures value { OnOk result (string_bytes out.new
         ≡ string_bytes out.old ++ line_where true line.now) }
@@ -81,7 +81,7 @@ fn push_line(out: &mut String, line: &str) -> Result<(), AllocError>
     Ok(())
 }
 
-/// The lines of a plan.
+/// Returns the lines of a plan.
 fn render(
     alloc: Global,
     options: PlanOptions,
@@ -103,7 +103,7 @@ fn render(
     Ok(lines)
 }
 
-/// The lines of the plan of a problem.
+/// Plans a problem, and returns the lines of its plan.
 fn plan_problem<T: Threads + Sync>(
     rt: &T,
     alloc: Global,
@@ -119,7 +119,8 @@ fn plan_problem<T: Threads + Sync>(
     Ok(render(alloc, options, problem, &plan, &phases)?)
 }
 
-/// Writes the lines, or a beginning of them where a write fails, which is reported at 0.
+/// Writes the lines. If a write fails, a prefix of them was written, and the failure is reported at
+/// 0.
 pub fn write_lines<W: Write>(lines: String, writer: &mut Watched<W>) -> Result<(), Fault>
     ensures lines { MatchResult result
         (λ _. Appends (W.contents writer.old.inner) (W.contents writer.new.inner)
@@ -132,14 +133,14 @@ pub fn write_lines<W: Write>(lines: String, writer: &mut Watched<W>) -> Result<(
     Ok(())
 }
 
-/// Plans the problem that the reader gives, and writes the line of its plan: the best links, the
-/// fewest where several sets are best, by `plan_line`; then the certificate, by `plan_json`, and
-/// `phases`, the number of phases of all parts' flows, `bound` and the sum of their bounds, where
-/// they are asked for.
+/// Plans the problem that the reader contains, and writes the line of its plan, by `plan_line`: the
+/// best links, and the fewest if several sets are best. If the options ask for them, it then writes
+/// the certificate, by `plan_json`, and `phases` with the number of phases of all parts' flows, and
+/// `bound` with the sum of their bounds.
 ///
-/// The input is a problem (see `read_problem`). It is read to its end, or to the first byte past
-/// 1,048,576. A fault in the input, or of memory, writes nothing. A failing write leaves a
-/// beginning of the lines, and is reported at 0.
+/// The input is a problem (see `read_problem`). It is read to its end, or to the first byte beyond
+/// 1,048,576. If the input has a fault, or memory runs out, nothing is written. If a write fails, a
+/// prefix of the lines was written, and the failure is reported at 0.
 pub fn plan_bytes<T: Threads + Sync, R: Read, W: Write>(
     rt: &T,
     alloc: Global,
@@ -170,7 +171,7 @@ pub fn plan_bytes<T: Threads + Sync, R: Read, W: Write>(
     Ok(())
 }
 
-/// Plans the problem that a JSON value is, and writes its lines, as `plan_bytes` does.
+/// Plans the problem in a JSON value, and writes its lines, as `plan_bytes` does.
 pub fn plan_value<T: Threads + Sync, W: Write>(
     rt: &T,
     alloc: Global,

@@ -7,7 +7,7 @@ use mh_core::{Refusal, Reply};
 use mh_json::RefusedEvent;
 use std::alloc::Global;
 
-/// The refused events of a run so far, or none of them, once memory ran out for one.
+/// The refused events of a run so far, or none of them, if memory ran out for one.
 #[derive(Drop)]
 pub(crate) struct RefusedEvents {
     events: Vec<RefusedEvent>,
@@ -15,7 +15,7 @@ pub(crate) struct RefusedEvents {
 }
 
 impl RefusedEvents {
-    /// None so far.
+    /// Returns an empty list of refused events.
     pub(crate) fn new(alloc: Global) -> RefusedEvents
         ensures all { result.has_all ≡ true }
         ensures none { result.events.items ≡ [] }
@@ -26,7 +26,7 @@ impl RefusedEvents {
         }
     }
 
-    /// Adds the event of this number, where it was refused.
+    /// Adds the event with this number, if it was refused.
     pub(crate) fn add(&mut self, event: u64, refusal: Option<Refusal>)
         ensures all { (before : List Refused) → (self.old.has_all ≡ true → self.old.events.items ≡ before)
             → self.new.has_all ≡ true
@@ -46,7 +46,7 @@ impl RefusedEvents {
         }
     }
 
-    /// The refused events, in order.
+    /// Returns the refused events, in order.
     pub(crate) fn into_events(self) -> Vec<RefusedEvent>
         ensures value { result.items ≡ self.events.items }
     {
@@ -54,7 +54,7 @@ impl RefusedEvents {
     }
 }
 
-/// Why an event was refused, where it was.
+/// Returns the reason why an event was refused, if it was.
 pub(crate) fn refusal_of(reply: &Reply) -> Option<Refusal>
     ensures value { result ≡ refusal_in reply.now }
 {

@@ -1,4 +1,4 @@
-//! Bytes in, lines out.
+//! Running scripts: reads bytes and writes lines.
 ghost use Rattle.std.specs.Prelude.{◌≡◌, ◌≢◌, ◌+◌, ◌↔◌, ℕ, true, Ok, IfOk, IfErr, IsTrue, OnOk, IfSome, MatchResult, List, Some};
 ghost use Rattle.serde_json.specs.View.{view};
 ghost use Rattle.std.specs.Io.KnownBytes.{Appends, IsAtEnd, Keeps};
@@ -28,14 +28,14 @@ use std::alloc::Global;
 use std::io::{Read, Write};
 use std::thread::Threads;
 
-/// What is written of a run beside the lines of its replies.
+/// Options of a run, besides the lines of its replies.
 #[derive(Clone, Copy, Debug, PartialEq, Eq)]
 pub struct RunOptions {
-    /// Whether a report of the machine stands behind them (see `report_lines`).
+    /// If true, a report of the machine follows them (see `report_lines`).
     pub report: bool,
 }
 
-/// Writes a line of the step of this number.
+/// Writes the line of the step with this number.
 fn write_text<W: Write>(line: &str, at: u64, writer: &mut Watched<W>) -> Result<(), Fault>
     ensures line { MatchResult result
         (λ _. Appends (W.contents writer.old.inner) (W.contents writer.new.inner) line.now)
@@ -51,15 +51,15 @@ fn write_text<W: Write>(line: &str, at: u64, writer: &mut Watched<W>) -> Result<
     }
 }
 
-/// Whether an event was refused since it found no memory.
+/// Returns whether an event was refused for lack of memory.
 fn is_out_of_memory(reply: &Reply) -> bool
     ensures decides { IsTrue result ↔ reply.now ≡ Reply.Refused Refusal.NoMemory }
 {
     matches!(reply, Reply::Refused(Refusal::NoMemory))
 }
 
-/// The line of a reply to the step of this number, which names this number. That of an event that
-/// found no memory takes none to make, so that the run goes on.
+/// Writes the line of a reply to the step with number `at`, which names the number `named`. The
+/// line of an event that found no memory is made without allocating, so that the run continues.
 fn write_line<W: Write>(
     alloc: Global,
     definition: &Definition,
@@ -92,7 +92,7 @@ fn write_line<W: Write>(
     write_text(text.as_str(), at, writer)
 }
 
-/// One step, and its line; and why it was refused, where it was.
+/// Runs one step, writes its line, and returns the reason why it was refused, if it was.
 fn write_step<T: Threads + Sync, W: Write>(
     rt: &T,
     alloc: Global,
@@ -123,14 +123,14 @@ fn write_step<T: Threads + Sync, W: Write>(
     Ok(refusal_of(&reply))
 }
 
-/// The machine behind a run, and the events of the run that were refused.
+/// The machine after a run, and the refused events of the run.
 #[derive(Drop)]
 struct Ran {
     machine: Machine,
     refused: Vec<RefusedEvent>,
 }
 
-/// Runs the steps, writes the line of each, and gives the machine behind them, and the events that
+/// Runs the steps, writes the line of each, and returns the machine after them, and the events that
 /// were refused.
 fn run_steps<T: Threads + Sync, W: Write>(
     rt: &T,
@@ -163,7 +163,7 @@ fn run_steps<T: Threads + Sync, W: Write>(
     })
 }
 
-/// Writes the report of a machine, where it is asked for.
+/// Writes the report of a machine, if the options ask for it.
 fn write_report<W: Write>(
     alloc: Global,
     options: RunOptions,
@@ -184,10 +184,10 @@ fn write_report<W: Write>(
     Ok(())
 }
 
-/// The script that the reader gives, or its first fault in the order of reading (see
+/// Returns the script that the reader contains, or its first fault in the order of reading (see
 /// `read_script`).
 ///
-/// The input is read to its end, or to the first byte past 1,048,576.
+/// The input is read to its end, or to the first byte beyond 1,048,576.
 pub fn read_script_from<R: Read>(alloc: Global, reader: &mut Watched<R>) -> Result<Script, Fault>
     ensures ok { IfOk result (λ script. IfSome (R.remaining reader.old.inner)
         (λ input. script_of_input input ≡ Ok script)) }
@@ -204,8 +204,8 @@ pub fn read_script_from<R: Read>(alloc: Global, reader: &mut Watched<R>) -> Resu
     read_script(alloc, &input)
 }
 
-/// Runs a script, writes the line of each reply, and what the options ask for, and gives the events
-/// that were refused.
+/// Runs a script, writes the line of each reply and the report that the options ask for, and
+/// returns the events that were refused.
 fn run_script<T: Threads + Sync, W: Write>(
     rt: &T,
     alloc: Global,
@@ -233,15 +233,16 @@ fn run_script<T: Threads + Sync, W: Write>(
     Ok(ran.refused)
 }
 
-/// Runs the script that the reader gives, and writes the line of each reply; then the report of the
-/// machine, where it is asked for (see `report_lines`).
+/// Runs the script that the reader contains, and writes the line of each reply, followed by the
+/// report of the machine if the options ask for it (see `report_lines`).
 ///
-/// The input is read to its end, or to the first byte past 1,048,576, before the first event. A
-/// fault in it writes nothing. An event that finds no memory has its line, and the run goes on. A
-/// run that ends, since the line of another event finds no memory or a write fails, leaves the
-/// lines of the events before that one whole, and a beginning of its own. A plan that is asked for
-/// is made with as many workers as the script has. Where memory or a failing write ends the report,
-/// that is reported at 0; the lines of all events stand, and a beginning of the report.
+/// The input is read to its end, or to the first byte beyond 1,048,576, before the first event. If
+/// it has a fault, nothing is written. An event that finds no memory has its line, and the run
+/// continues. If a run ends because the line of another event finds no memory or a write fails, the
+/// lines of the events before that one, and a prefix of its own line, were written. A plan that is
+/// asked for is made with as many workers as the script has. If lack of memory or a failing write
+/// ends the report, this is reported at 0; then the lines of all events, and a prefix of the
+/// report, were written.
 pub fn run_bytes<T: Threads + Sync, R: Read, W: Write>(
     rt: &T,
     alloc: Global,
@@ -270,8 +271,8 @@ pub fn run_bytes<T: Threads + Sync, R: Read, W: Write>(
     Ok(())
 }
 
-/// Runs the script that a JSON value is, as `run_bytes` does, and gives the events that
-/// were refused, in order; or none of them, where memory ran out for one.
+/// Runs the script in a JSON value, as `run_bytes` does, and returns the events that were refused,
+/// in order; or none of them, if memory ran out for one.
 pub fn run_value<T: Threads + Sync, W: Write>(
     rt: &T,
     alloc: Global,

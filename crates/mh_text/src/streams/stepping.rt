@@ -1,4 +1,4 @@
-//! How a step of a script is answered.
+//! Answering the steps of a script.
 ghost use Rattle.std.specs.Prelude.{◌≡◌, ◌<◌, ◌≤◌, IfOk, IfErr, OnOk};
 ghost use Rattle.mh_network.specs.Selection.{IsLeast, member};
 ghost use Rattle.mh_cert.specs.Plans.{Matches};
@@ -66,7 +66,7 @@ fn offer(machine: &mut Machine, snapshot: usize, plan: SharedPlan) -> Reply
     }
 }
 
-/// The best plan for the problem of a snapshot, with the fewest links.
+/// Returns the best plan for the problem of a snapshot, with the fewest links.
 fn make_plan<T: Threads + Sync>(
     rt: &T,
     alloc: Global,
@@ -86,9 +86,9 @@ fn make_plan<T: Threads + Sync>(
     Ok(plan)
 }
 
-/// The best plan of a problem, with the fewest links, made by so many workers, from 1 to 64.
+/// Returns the best plan of a problem, with the fewest links, made by `workers` workers, 1 to 64.
 ///
-/// Refused only with `NoMemory`, if an allocation is refused.
+/// Fails only with `NoMemory`, if an allocation is refused.
 pub fn best_plan<T: Threads + Sync>(
     rt: &T,
     alloc: Global,

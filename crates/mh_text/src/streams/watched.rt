@@ -8,12 +8,12 @@ use mh_json::TextFault;
 use std::io;
 use std::io::ErrorKind;
 
-/// A reader or a writer, and how often it has failed since it was put in here.
+/// A reader or a writer, and the number of its failures since it was wrapped.
 ///
-/// A read, a write or a flush that gives an error is a failure, and so is a write that takes none
-/// of its bytes. One that a signal interrupted (`ErrorKind::Interrupted`) is tried again, as by
-/// `std::io::Write::write_all`, and is none. The count is private, so that it is of calls that
-/// were made; it begins again at 0 after 2^64 - 1.
+/// A read, a write or a flush that returns an error is a failure, and so is a write that accepts
+/// none of its bytes. A call that a signal interrupted (`ErrorKind::Interrupted`) is repeated, as
+/// in `std::io::Write::write_all`, and is not a failure. The count is private, so that it only
+/// counts calls that were made; it wraps to 0 after 2^64 - 1.
 #[derive(Debug, Drop)]
 pub struct Watched<T> {
     pub inner: T,
@@ -28,7 +28,7 @@ impl<T> Watched<T> {
         Watched { inner, failures: 0 }
     }
 
-    /// How often it has failed.
+    /// Returns the number of failures.
     pub fn failures(&self) -> u64
         ensures value { result ≡ self.now.failures }
     {
@@ -36,14 +36,14 @@ impl<T> Watched<T> {
     }
 }
 
-/// One failure more.
+/// Returns the number of failures after one more.
 fn count_failure(failures: u64) -> u64
     ensures value { result ≡ one_more failures }
 {
     failures.wrapping_add(1)
 }
 
-/// Whether a signal interrupted a call.
+/// Returns whether a signal interrupted a call.
 fn was_interrupted(answer: &io::Result<usize>) -> bool
     ensures failed { result ≡ true → IsErr answer.now }
 {
@@ -53,7 +53,7 @@ fn was_interrupted(answer: &io::Result<usize>) -> bool
     }
 }
 
-/// One read, which is tried again where a signal interrupts it.
+/// Reads once, and repeats the read if a signal interrupts it.
 fn read_once<R: Source>(reader: &mut R, buffer: &mut [u8]) -> Result<usize, TextFault>
     ensures bound { IfOk result (λ n. n ≤ length buffer.new) }
     ensures bytes { ReadConsumes (R.remaining reader.old)
@@ -71,7 +71,8 @@ fn read_once<R: Source>(reader: &mut R, buffer: &mut [u8]) -> Result<usize, Text
     answer.map_err(|_| TextFault::ReadFailed)
 }
 
-/// One write, which is tried again where a signal interrupts it, and fails where it takes no byte.
+/// Writes once, and repeats the write if a signal interrupts it. Fails if the write accepts no
+/// byte.
 fn write_once<W: Sink>(writer: &mut W, bytes: &[u8]) -> Result<usize, TextFault>
     ensures some { IfOk result (λ n. 0 < n) }
     ensures bound { IfOk result (λ n. n ≤ length bytes.now) }
@@ -93,7 +94,7 @@ fn write_once<W: Sink>(writer: &mut W, bytes: &[u8]) -> Result<usize, TextFault>
 }
 
 impl<R: Source> Watched<R> {
-    /// One read. It fails only where the reader's failed in this call.
+    /// Reads once. Fails only if the reader's read failed in this call.
     pub fn read(&mut self, buffer: &mut [u8]) -> Result<usize, TextFault>
         ensures bound { IfOk result (λ n. n ≤ length buffer.new) }
         ensures bytes { ReadConsumes (R.remaining self.old.inner)
@@ -114,8 +115,8 @@ impl<R: Source> Watched<R> {
 }
 
 impl<W: Sink> Watched<W> {
-    /// Writes the bytes, up to the first write that fails or takes none. It fails only where the
-    /// writer's failed in this call.
+    /// Writes the bytes, up to the first write that fails or accepts none. Fails only if the
+    /// writer's write failed in this call.
     pub fn write_all(&mut self, bytes: &[u8]) -> Result<(), TextFault>
         ensures ok { OnOk result (Appends (W.contents self.old.inner)
             (W.contents self.new.inner) bytes.now) }
@@ -139,7 +140,7 @@ impl<W: Sink> Watched<W> {
         Ok(())
     }
 
-    /// Flushes what was written. It fails only where the writer's flush failed in this call.
+    /// Flushes the bytes that were written. Fails only if the writer's flush failed in this call.
     pub fn flush(&mut self) -> Result<(), TextFault>
         ensures bytes { Keeps (W.contents self.old.inner) (W.contents self.new.inner) }
         ensures kept { OnOk result (self.new.failures ≡ self.old.failures) }

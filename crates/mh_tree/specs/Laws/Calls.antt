@@ -1,4 +1,4 @@
--- What a handle's code does in a call.
+-- The behaviour of a handle's code in a call.
 use Rattle.std.proofs.Common.{◌≡◌, ℕ, ◌≤◌, ap, sym, ◌∙◌, List, [], length, map, arith, zero-add, subst}
 use Rattle.std.specs.List.{range_with_len}
 use Rattle.std.proofs.lemmas.List.{length-map}
@@ -44,7 +44,7 @@ module _ (v : Environment) (h : TypedTree) (a : List Value) (code : Code) (kept 
       ∙ weighs c h.tree (map (λ i. Argument i) (range_with_len 0 (length h.signature.parameters))) 0 0
       ∙ zero-add _
 
-  -- what the tree invokes, as P says, the code may invoke, as C says
+  -- if P allows the tree's invocations, C allows those of the code
   pub call_scoped : (C : ℕ → ℕ → Type 0) (P : ℕ → Signature → Type 0) → ((s : ℕ) (m : Signature) → P s m → C s (length m.parameters)) → (k : ℕ) → point_bound h.tree ≤ k → EachInvoke P h.tree → IsScoped C k (length a) 0 code
   call_scoped C P allows k known invokes =
       let S : Code → Type 0 = λ x. IsScoped C k (length a) 0 x in

@@ -92,7 +92,7 @@ mutual
   costs_filters v (present f fs) [] new p env d s a l b go goes w typed wide deep h k = absurd typed
   costs_filters v (present f fs) (z ∷ old) [] p env d s a l b go goes w typed wide deep h k = absurd typed
 
--- the steps of a tree's code are at most its own, where an invocation takes at most c beside its own
+-- the steps of a tree's code are at most its own, if an invocation takes at most c besides its own
 mutual
   pub weighs : (c : ℕ) (t : Tree) (env : List Operand) (d s : ℕ) → weight c (prepared t env d s) ≡ s + most_steps c t
   weighs c (constant x) env d s = refl

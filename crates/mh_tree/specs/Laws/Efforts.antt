@@ -1,4 +1,4 @@
--- The work of preparing a typed tree is linear in its size: a filter has at most 16 places.
+-- The work of preparing a typed tree is linear in its size: a filter has at most 16 elements.
 use Rattle.std.proofs.Common.{◌+◌, ◌*◌, ◌≤◌, List, [], ◌∷◌, arith, length-drop}
 use Rattle.mh_type.specs.declared.kind.Kind.{Kind}
 use Rattle.mh_type.specs.Signature.{Signature}

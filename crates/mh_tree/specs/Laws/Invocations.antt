@@ -1,5 +1,5 @@
--- What holds of each invocation of a tree: it is decided by the test of each, where the test of one decides; it holds together where it
--- holds alone; and the bound of a tree's sites is a bound of each.
+-- Facts of each invocation of a tree: the test of the tree decides them, if the test of one invocation does; two facts hold together if
+-- each holds alone; and the bound of a tree's sites is a bound of each.
 use Rattle.std.proofs.Common.{◌≡◌, ℕ, ◌<◌, ◌≤◌, arith, refl, Bool, true, false, ◌&&◌}
 use Rattle.std.specs.Bool.{Decides}
 use Rattle.mh_type.specs.Signature.{Signature}
@@ -16,7 +16,7 @@ pub hold_both : (x y : Bool) → x ≡ true → y ≡ true → x && y ≡ true
 hold_both true y h g = g
 hold_both false y h g = cc
 
--- where the test of an invocation decides, that of a tree does
+-- if the test of an invocation decides, that of a tree does
 mutual
   each_holds : (f : ℕ → Signature → Bool) (P : ℕ → Signature → Type 0) → ((s : ℕ) (n : Signature) → f s n ≡ true → P s n) → (t : Tree) → each_invoke f t ≡ true → EachInvoke P t
   each_holds f P d (constant x) h = tt
@@ -60,7 +60,7 @@ mutual
 pub each_decides : (f : ℕ → Signature → Bool) (P : ℕ → Signature → Type 0) → ((s : ℕ) (n : Signature) → Decides (f s n) (P s n)) → (t : Tree) → Decides (each_invoke f t) (EachInvoke P t)
 each_decides f P d t = (each_holds f P (λ s n. (d s n).0) t, each_told f P (λ s n. (d s n).1) t)
 
--- what holds of each invocation alone holds of each together
+-- facts that each hold of each invocation hold together
 mutual
   pub each_both : (P Q : ℕ → Signature → Type 0) (t : Tree) → EachInvoke P t → EachInvoke Q t → EachInvoke (λ s n. P s n × Q s n) t
   each_both P Q (constant x) e f = tt

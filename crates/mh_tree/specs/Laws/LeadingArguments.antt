@@ -1,4 +1,4 @@
--- A typed tree reads its leading arguments alone, as many as it has parameters.
+-- A typed tree reads only its leading arguments, as many as it has parameters.
 use Rattle.std.proofs.Common.{◌≡◌, ℕ, suc, ◌+◌, ◌≤◌, ◌<◌, refl, ap, sym, ◌∙◌, List, [], ◌∷◌, ◌++◌, append_assoc, take, drop, map, length, arith, Result, Ok, Err, length-append, length-take, length-drop, if◌then◌else◌}
 use Rattle.std.specs.Prelude.{slice_set}
 use Rattle.std.specs.List.{All}
@@ -38,7 +38,7 @@ as_many (present f fs) (k ∷ old) (j ∷ new) h = omega (arith, as_many fs old 
 as_many (present f fs) [] new h = absurd h
 as_many (present f fs) (k ∷ old) [] h = absurd h
 
--- filters change kinds, and not how many parameters there are
+-- filters change kinds, but not the number of parameters
 pub same_count : (p : ℕ) (fs : Filters) (old new : List Kind) → p ≤ length old → take p new ≡ take p old → AreTyped fs (drop p old) (drop p new) → length new ≡ length old
 same_count p fs old new inside firsts typed =
     let many = as_many fs (drop p old) (drop p new) typed in
@@ -124,7 +124,7 @@ reordered_more a e n (i ∷ r) h all =
     let rest = reordered_more a e n r h (λ k d below. all (suc k) d (omega arith)) in
     λ j. here j ∷ rest j
 
--- further arguments, which a list of filters hands on
+-- further arguments, which a list of filters passes on
 abbrev pub with_more : List Value → Result (List Value) Throw → Result (List Value) Throw
 with_more e (Ok a) = Ok (a ++ e)
 with_more e (Err t) = Err t
@@ -170,7 +170,7 @@ filter_steps_more v (present f fs) p a e h =
     rw (argument_more a e p inside)
     (ap (λ n. steps v f (argument a p ∷ []) + n) (carry_steps (mean v f (argument a p ∷ [])) _ _ tail))
 
--- filters keep the number of arguments, where none throws
+-- filters preserve the number of arguments, if none throws
 after_value : (o : Outcome) (go : Value → Result (List Value) Throw) (b : List Value) (n : ℕ) → ((x : Value) → go x ≡ Ok b → length b ≡ n) → with_value o go ≡ Ok b → length b ≡ n
 after_value (Value' x) go b n k h = k x h
 after_value (Thrown x) go b n k h = cc
@@ -182,7 +182,7 @@ filtered_length v (present f fs) p a b h =
     after_value (mean v f (argument a p ∷ [])) _ b (length a)
     (λ x k. filtered_length v fs (p + 1) (slice_set a p x) b k ∙ length-set a p x) h
 
--- a target that reads its leading arguments alone does so after filters
+-- a target that reads only its leading arguments does so after filters
 with_arguments_more : (r : Result (List Value) Throw) (e : List Value) (go : List Value → Outcome) → ((b : List Value) → r ≡ Ok b → go (b ++ e) ≡ go b) → with_arguments (with_more e r) go ≡ with_arguments r go
 with_arguments_more (Ok b) e go h = h b refl
 with_arguments_more (Err t) e go h = refl
@@ -278,7 +278,7 @@ steps_more v (invoke s n) m a e (few, made) wide =
     let many = ap (λ (k : Signature). length k.parameters) made in
     ap (λ b. 1 + v.call_steps s b) (take-append-le (length n.parameters) a e (omega arith))
 
--- A typed tree does on as many leading arguments as it has parameters what it does on all.
+-- A typed tree does on as many leading arguments as it has parameters the same as on all.
 module _ (v : Environment) (t : Tree) (m : Signature) (a : List Value) (typed : IsTyped t m) (wide : length m.parameters ≤ length a) where
   pub enough : length m.parameters ≤ length (take (arity t) a)
   enough = let many = arity_counts t m typed in omega (arith, length-take (arity t) a)

@@ -1,4 +1,4 @@
--- Operands that read the arguments of a part, and how wide a part is.
+-- Operands that read the arguments of a part, and the width of a part.
 use Rattle.std.proofs.Common.{◌≡◌, ℕ, ◌+◌, ◌≤◌, refl, ap, sym, ◌∙◌, List, [], ◌∷◌, ◌++◌, append_assoc, take, drop, map, length, arith, false, Result, length-append, length-take, length-drop}
 use Rattle.std.specs.Prelude.{slice_set}
 use Rattle.std.proofs.lemmas.List.{map-append, take-map, drop-map, map-set, append-nil, length-map}
@@ -23,7 +23,7 @@ use Rattle.mh_tree.specs.Prepared.{operand_at}
 use Rattle.mh_tree.specs.declared.operand.Operand.{Operand}
 use Rattle.mh_tree.specs.declared.operand.Operand.TheVariants.{Local, Constant}
 
--- the operands read these values, and go on to do so whatever more locals there are
+-- the operands read these values, whatever further locals there are
 abbrev pub Reads : List Value → List Value → List Operand → List Value → Type 0
 Reads a l env b = (e : List Value) → map (value_of a (l ++ e)) env ≡ b
 
@@ -121,7 +121,7 @@ shorter ks kinds begins =
 pub one_more : (l : List Value) (x : Value) (d : ℕ) → d ≡ length l → d + 1 ≡ length (l ++ x ∷ [])
 one_more l x d h = omega (arith, length-append l (x ∷ []))
 
--- what filters pass on
+-- the arguments that filters pass on
 pub passed : (o : Outcome) (g : Value → Result (List Value) Throw) (goes : List Value → Outcome) → (o >>= (λ x. with_arguments (g x) goes)) ≡ with_arguments (with_value o g) goes
 passed (Value' x) g goes = refl
 passed (Thrown t) g goes = refl

@@ -1,5 +1,5 @@
--- A typed tree gives a value of its return kind on arguments that fit, where the sites that it invokes do; and two environments that
--- agree on the points, and on what its sites give on arguments that fit, agree on it.
+-- A typed tree returns a value of its return kind for arguments that fit, if the sites that it invokes do; and two environments that agree
+-- on the points, and on the results of its sites for arguments that fit, agree on it.
 use Rattle.std.proofs.Common.{◌≡◌, ℕ, zero, suc, ◌+◌, ◌≤◌, ◌<◌, refl, ap, sym, ◌∙◌, subst, List, [], ◌∷◌, ◌++◌, append_assoc, take, drop, map, length, arith, Bool, true, false, Result, Ok, Err, length-take, length-drop, ℤ, if◌then◌else◌}
 use Rattle.std.specs.Prelude.{slice_set, slice_index_or, nat_le}
 use Rattle.std.specs.List.{All}
@@ -147,7 +147,7 @@ first_kind : (a : List Value) (k : Kind) → map kind_of a ≡ k ∷ [] → kind
 first_kind [] k h = cc
 first_kind (x ∷ a) k h = cc
 
--- kinds put in and taken out again
+-- kinds that are removed and inserted again
 kinds_back : (ks : List Kind) (p n : ℕ) → p + n ≤ length ks → take p (take p ks ++ drop (p + n) ks) ++ (take n (drop p ks) ++ drop p (take p ks ++ drop (p + n) ks)) ≡ ks
 kinds_back ks p n inside =
     let front : length (take p ks) ≡ p = omega (arith, length-take p ks) in
@@ -202,7 +202,7 @@ fits_leading c ret ks m a typed begins fits =
 set_kinds : (a : List Value) (p : ℕ) (x : Value) → map kind_of (slice_set a p x) ≡ slice_set (map kind_of a) p (kind_of x)
 set_kinds a p x = map-set kind_of a p x
 
--- goes on with a value of the kind
+-- continues with a value of the kind
 then_kind : (k j : Kind) (o : Outcome) (go : Value → Outcome) → GivesKind k o → ((x : Value) → kind_of x ≡ k → GivesKind j (go x)) → GivesKind j (o >>= go)
 then_kind k j (Value' x) go h g = g x h
 then_kind k j (Thrown t) go h g = tt
@@ -214,7 +214,7 @@ choose_kind k (Int n) x y h g = g
 choose_kind k (Long n) x y h g = g
 choose_kind k (Text t) x y h g = g
 
--- arguments after filters that fit, where none threw
+-- arguments after filters that fit, if none threw
 abbrev FitAfter : List Kind → Result (List Value) Throw → Type 0
 FitAfter ks (Ok a) = map kind_of a ≡ ks
 FitAfter ks (Err t) = Unit {0}
@@ -227,14 +227,14 @@ after_fits : (k : Kind) (ks : List Kind) (r : Result (List Value) Throw) (go : L
 after_fits k ks (Ok a) go h g = g a h
 after_fits k ks (Err t) go h g = tt
 
--- the kind at the first place of what is left
+-- the kind at the first of the remaining positions
 found : (ks old : List Kind) (p : ℕ) (j : Kind) → drop p ks ≡ j ∷ old → kind_at ks p ≡ j
 found [] old zero j h = cc
 found [] old (suc p) j h = cc
 found (k ∷ ks) old zero j h = cc
 found (k ∷ ks) old (suc p) j h = found ks old p j h
 
--- the kinds from a place on, when the first of them is another
+-- the kinds from a position on, if the first of them is replaced
 next_kinds : (ks old : List Kind) (p : ℕ) (j k : Kind) → drop p ks ≡ j ∷ old → (take (p + 1) (slice_set ks p k) ≡ take p ks ++ (k ∷ [])) × (drop (p + 1) (slice_set ks p k) ≡ old) × (p < length ks)
 next_kinds ks old p j k h =
     let some = ap (λ (js : List Kind). length js) h in
@@ -283,7 +283,7 @@ module _ (v : Environment) (P : ℕ → Signature → Type 0) (gives : (s : ℕ)
         let all : take (length n.parameters) a ≡ a = take_all (length n.parameters) a (omega (arith, counts, length-map a kind_of)) in
         subst (λ k. GivesKind k (v.calls s (take (length n.parameters) a))) (ap (λ (q : Signature). q.ret) (sym made)) (gives s n e (take (length n.parameters) a) (ap (map kind_of) all ∙ same))
 
-    -- filters leave the kinds before them, and those that they return
+    -- filters preserve the kinds before them, and those that they return
     pub filtered_fits : (fs : Filters) (old new : List Kind) → AreTyped fs old new → EachInvokes P fs → (p : ℕ) (a : List Value) → drop p (map kind_of a) ≡ new → FitAfter (take p (map kind_of a) ++ old) (filtered v fs p a)
     filtered_fits no_more old new h e p a is = sym (ap (λ (ks : List Kind). take p (map kind_of a) ++ ks) (sym h ∙ sym is) ∙ take-append-drop p (map kind_of a))
     filtered_fits (absent fs) (k ∷ old) (j ∷ new) h e p a is =
@@ -309,7 +309,7 @@ module _ (v : Environment) (P : ℕ → Signature → Type 0) (gives : (s : ℕ)
     filtered_fits (present f fs) [] new h e p a is = absurd h
     filtered_fits (present f fs) (k ∷ old) [] h e p a is = absurd h
 
--- goes on alike with a value of the kind
+-- continues in the same way with a value of the kind
 bind_alike : (k : Kind) (o u : Outcome) (go to : Value → Outcome) → o ≡ u → GivesKind k o → ((x : Value) → kind_of x ≡ k → go x ≡ to x) → (o >>= go) ≡ (u >>= to)
 bind_alike k o u go to same h g = by_outcome o h ∙ ap (λ q. q >>= to) same
   where

@@ -1,4 +1,4 @@
--- The prepared code of a tree names only what is there.
+-- The prepared code of a tree names only existing operands, points and sites.
 use Rattle.std.proofs.Common.{◌≡◌, ℕ, zero, suc, ◌+◌, ◌≤◌, refl, ap, sym, ◌∙◌, List, [], ◌∷◌, ◌++◌, take, drop, map, length, arith, false, subst, length-append, length-take, length-drop}
 use Rattle.std.specs.Prelude.{slice_set}
 use Rattle.std.specs.List.{range_with_len}
@@ -66,7 +66,7 @@ in_more : (n d : ℕ) (xs : List Operand) → AllIn n d xs → AllIn n (d + 1) x
 in_more n d [] h = tt
 in_more n d (x ∷ xs) (p, ps) = (one_in n d x p, in_more n d xs ps)
 
--- what a tree invokes, as P says, its code may invoke, as C says
+-- if P allows a tree's invocations, C allows those of its code
 mutual
   pub scoped : (C : ℕ → ℕ → Type 0) (P : ℕ → Signature → Type 0) → ((s : ℕ) (m : Signature) → P s m → C s (length m.parameters)) → (k n : ℕ) (t : Tree) (m : Signature) (env : List Operand) (d s : ℕ) → IsTyped t m → length m.parameters ≤ length env → AllIn n d env → point_bound t ≤ k → EachInvoke P t → IsScoped C k n d (prepared t env d s)
   scoped C P allows k n (constant x) m env d s typed wide h b e = tt
@@ -130,7 +130,7 @@ mutual
   scoped_filters C P allows k n (present f fs) [] new p env d s go w typed wide h b e g = absurd typed
   scoped_filters C P allows k n (present f fs) (z ∷ old) [] p env d s go w typed wide h b e g = absurd typed
 
--- where so many arguments from a place on are there, there are as many
+-- if n consecutive arguments from a position on exist, there are as many
 pub leading_few : (n d a k : ℕ) → a ≤ n → AllIn n d (map (λ x. Argument x) (range_with_len a k)) → a + k ≤ n
 leading_few n d a zero h all = omega (arith, h)
 leading_few n d a (suc k) h (p, ps) = omega (arith, leading_few n d (a + 1) k (omega (arith, p)) ps)

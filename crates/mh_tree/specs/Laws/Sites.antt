@@ -1,5 +1,5 @@
--- Laws of trees that invoke sites: what a tree needs of an environment, that an invocation means the site's tree, and how many steps
--- there may be.
+-- Laws of trees that invoke sites: what a tree requires of an environment, that an invocation means the site's tree, and the greatest
+-- number of steps.
 use Rattle.std.proofs.Common.{◌≡◌, ℕ, zero, suc, ◌+◌, ◌*◌, ◌≤◌, ◌<◌, refl, sym, ◌∙◌, List, [], ◌∷◌, take, map, length, arith, Bool, false, if◌then◌else◌}
 use Rattle.std.proofs.Math.Nat.{mul-le-mul_right, add-mul, one-mul}
 use Rattle.std.specs.Prelude.{slice_set, slice_index_or}
@@ -15,7 +15,7 @@ use Rattle.mh_tree.specs.Sites.{EachInvoke, EachInvokes, InvokesBelow, MayInvoke
 use Rattle.mh_tree.specs.Typing.{IsTyped}
 use Rattle.mh_tree.specs.Tree.{Tree, Filters, constant, identity, operation, insert, discard, permute, filter, filter_return, fold, guard, point, invoke, no_more, absent, present}
 
--- invocations as P says are as Q says
+-- if P implies Q, invocations that P allows are allowed by Q
 mutual
   pub each_map : (P Q : ℕ → Signature → Type 0) → ((s : ℕ) (n : Signature) → P s n → Q s n) → (t : Tree) → EachInvoke P t → EachInvoke Q t
   each_map P Q f (constant x) e = tt
@@ -63,7 +63,7 @@ mutual
   filtered_by v w P same agree (present f fs) e p a =
       λ i. with_value (mean_by v w P same agree f e.0 (argument a p ∷ []) i) (λ x. filtered_by v w P same agree fs e.1 (p + 1) (slice_set a p x) i)
 
--- where they agree on the steps of those sites too, the tree takes the same number of steps
+-- if they also agree on the steps of those sites, the tree takes the same number of steps
 mutual
   pub steps_by : (v w : Environment) (P : ℕ → Signature → Type 0) → v.valid ≡ w.valid → ((s : ℕ) (n : Signature) → P s n → (a : List Value) → v.calls s a ≡ w.calls s a) → ((s : ℕ) (n : Signature) → P s n → (a : List Value) → v.call_steps s a ≡ w.call_steps s a) → (t : Tree) → EachInvoke P t → (a : List Value) → steps v t a ≡ steps w t a
   steps_by v w P same agree like (constant x) e a = refl
@@ -93,7 +93,7 @@ mutual
       + after (mean_by v w P same agree f e.0 (argument a p ∷ []) i) (λ x. filter_steps_by v w P same agree like fs e.1 (p + 1) (slice_set a p x) i)
 
 module _ (levels : List ℕ) (valid : List Bool) (targets : List TypedTree) (lower : (s : ℕ) → s < length targets → InvokesBelow levels targets (level_at levels s) (target_at targets s).tree) where
-  -- one more tree below changes nothing of a site that is not deeper
+  -- one more tree below changes nothing for a site that is not deeper
   calls_climb : (d l : ℕ) → l ≤ d → (s : ℕ) (m : Signature) → MayInvoke levels targets l s m → (a : List Value) → calls_below d valid targets s a ≡ calls_below (suc d) valid targets s a
   calls_climb zero l few s m may a = absurd (omega (arith, few, may.lower))
   calls_climb (suc d) l few s m may a =
@@ -113,7 +113,7 @@ module _ (levels : List ℕ) (valid : List Bool) (targets : List TypedTree) (low
   pub site_costs : (s : ℕ) (m : Signature) → MayInvoke levels targets (suc greatest_level) s m → (a : List Value) → (with_sites valid targets).call_steps s a ≡ steps (with_sites valid targets) (target_at targets s).tree a
   site_costs s m may a = steps_climb (suc greatest_level) (suc greatest_level) (omega arith) s m may a
 
--- trees that invoke lower sites alone are no deeper than their levels
+-- trees that invoke only lower sites are no deeper than their levels
 pub may_reach : (levels : List ℕ) (targets : List TypedTree) (points : ℕ) → ((s : ℕ) → s < length targets → IsTyped (target_at targets s).tree (target_at targets s).signature) → ((s : ℕ) → s < length targets → InvokesBelow levels targets (level_at levels s) (target_at targets s).tree) → ((s : ℕ) → s < length targets → point_bound (target_at targets s).tree ≤ points) → (k l : ℕ) → l ≤ k → (s : ℕ) (n : Signature) → MayInvoke levels targets l s n → MayReach k targets points s n
 may_reach levels targets points typed lower bounds zero l few s n may = absurd (omega (arith, few, may.lower))
 may_reach levels targets points typed lower bounds (suc k) l few s n may = (
@@ -128,7 +128,7 @@ pub lawful_reaches : (levels : List ℕ) (targets : List TypedTree) (points : �
 lawful_reaches levels targets points t lawful bounds =
     each_map (MayInvoke levels targets (suc greatest_level)) (MayReach (suc greatest_level) targets points) (may_reach levels targets points lawful.typed lawful.lower bounds (suc greatest_level) (suc greatest_level) (omega arith)) t lawful.here
 
--- trees in the place of others of the same types, which invoke as these may, are lawful where these are
+-- trees that replace others of the same types, and whose invocations are allowed, are lawful if the others are
 pub lawful_in_place : (levels : List ℕ) (trees bases : List TypedTree) (t : Tree) → length trees ≡ length bases → ((s : ℕ) → (target_at trees s).signature ≡ (target_at bases s).signature) → ((s : ℕ) → s < length trees → IsTyped (target_at trees s).tree (target_at trees s).signature) → ((s : ℕ) → s < length trees → InvokesBelow levels bases (level_at levels s) (target_at trees s).tree) → IsLawful levels bases t → IsLawful levels trees t
 lawful_in_place levels trees bases t many same typed lower lawful =
     let may : (l s : ℕ) (n : Signature) → MayInvoke levels bases l s n → MayInvoke levels trees l s n =
@@ -140,7 +140,7 @@ lawful_in_place levels trees bases t many same typed lower lawful =
       here = each_map (MayInvoke levels bases (suc greatest_level)) (MayInvoke levels trees (suc greatest_level)) (may (suc greatest_level)) t lawful.here;
     }
 
--- a tree that invokes no site is lawful where there are none
+-- a tree that invokes no site is lawful if there are none
 pub alone_lawful : (t : Tree) → site_bound t ≡ 0 → IsLawful [] [] t
 alone_lawful t alone = record {
   few = λ i l below. absurd (omega arith);
@@ -149,7 +149,7 @@ alone_lawful t alone = record {
   here = each_map (IsBelow 0) (MayInvoke [] [] (suc greatest_level)) (λ s n below. absurd (omega arith)) t (sites_below 0 t (omega arith));
 }
 
--- the most steps, by the size
+-- the greatest number of steps, by the size
 times : (a b c x y : ℕ) → x ≤ a * c → y ≤ b * c → x + y ≤ (a + b) * c
 times a b c x y h k = omega (arith, add-mul a b c, h, k)
 

@@ -1,4 +1,4 @@
--- What a constructor answers, by the test that decides it.
+-- The result of a constructor, by the test that decides it.
 use Rattle.std.proofs.Common.{◌≡◌, ℕ, ◌+◌, ◌≤◌, ◌<◌, [], ◌∷◌, true, false, Bool, cond, ap, sym, ◌∙◌, Option, Some, List, length, take, drop, map, Result, Ok, Err}
 use Rattle.std.specs.Prelude.{nat_eq, nat_lt, nat_le, IfOk, MatchResult}
 use Rattle.std.specs.List.{list_all}
@@ -72,7 +72,7 @@ too_deep h few deep = at_most _ _ _ _ _ few ∙ above _ _ _ _ _ deep
 pub too_large : (h : TypedTree) → length h.signature.parameters ≤ 16 → depth h.tree ≤ 96 → 262144 < size h.tree → within_limits h ≡ Err TooLarge
 too_large h few shallow large = at_most _ _ _ _ _ few ∙ at_most _ _ _ _ _ shallow ∙ above _ _ _ _ _ large
 
--- each constructor, where its own tests pass
+-- each constructor, if its own tests pass
 pub insert_passes : (h : TypedTree) (p : ℕ) (xs : List Value)
     → p + length xs ≤ length h.signature.parameters → map kind_of xs ≡ take (length xs) (drop p h.signature.parameters)
     → insert_made h p xs ≡ within_limits (inserted h p xs)
@@ -127,7 +127,7 @@ guard_passes c x y boolean same begins = same_kind _ _ _ _ _ boolean ∙ same_ty
 pub point_passes : (p : ℕ) (x y : TypedTree) → x.signature ≡ y.signature → point_made p x y ≡ within_limits (pointed p x y)
 point_passes p x y same = same_type _ _ _ _ _ same
 
--- the answer of the limits is the constructor's
+-- the result of the limits is the constructor's
 pub limits_decide : (made : Result TypedTree TreeFault) (t : Tree) (m n : Signature) (r : Result Signature TreeFault)
     → made ≡ within_limits (record { tree = t; signature = m })
     → n ≡ m
@@ -136,7 +136,7 @@ pub limits_decide : (made : Result TypedTree TreeFault) (t : Tree) (m n : Signat
 limits_decide made t m n (Ok k) passes same h = passes ∙ (λ i. within_limits (record { tree = t; signature = sym same i })) ∙ h
 limits_decide made t m n (Err e) passes same h = passes ∙ (λ i. within_limits (record { tree = t; signature = sym same i })) ∙ h
 
--- a handle of the tree that may be made is what is made
+-- a handle of the tree that may be made is the result
 pub made_by : (made r : Result TypedTree TreeFault) (t u : Tree) (m : Signature)
     → u ≡ t → made ≡ Ok (record { tree = t; signature = m })
     → IfOk r (λ h. h ≡ record { tree = u; signature = m }) → IfOk r (λ h. made ≡ Ok h)

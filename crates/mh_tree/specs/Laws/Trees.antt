@@ -1,4 +1,4 @@
--- The plain tree of a node that is made of its parts.
+-- The plain tree of a node, by its parts.
 use Rattle.std.proofs.Common.{◌≡◌, ℕ, suc, ◌+◌, ◌<◌, length, drop, drop-cons, get_or, arith, refl, ap, sym, ◌∙◌, Option, Some, None, Vec, List, [], ◌∷◌, map}
 use Rattle.std.specs.declared.alloc.Global.{Global}
 use Rattle.mh_type.specs.declared.kind.Kind.{Kind}
@@ -62,7 +62,7 @@ pub tree_of_point : (place : ℕ) (target fallback : Arc Node Global)
 tree_of_point place target fallback =
     ap tree_of (sym (rolls-Point place target fallback)) ∙ fold-roll-Node Tree tree_step (open_node.Point place target fallback)
 
--- a list from a place on, by the element there
+-- a list from an index on, by the element there
 found_at : (xs : List (Option (Arc Node Global))) (i : ℕ) (x : Option (Arc Node Global)) → i < length xs → x ≡ get_or xs i x → drop i xs ≡ x ∷ drop (i + 1) xs
 found_at xs i x below found =
     let next : suc i ≡ i + 1 = omega arith in

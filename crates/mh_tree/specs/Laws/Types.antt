@@ -13,7 +13,7 @@ use Rattle.mh_tree.specs.TypeOf.{type_of, filtered_kinds}
 use Rattle.mh_tree.specs.Typing.{IsTyped, AreTyped, kind_at}
 use Rattle.mh_tree.specs.Laws.LeadingArguments.{same_count}
 
--- a list with an element at a place: what is before it and with it, and what is behind it
+-- a list with an element at an index: the part up to and with it, and the part after it
 pub split_at : (p : ℕ) (ks rest : List Kind) (k : Kind) → drop p ks ≡ k ∷ rest
     → (take (suc p) ks ≡ take p ks ++ (k ∷ [])) × (drop (suc p) ks ≡ rest)
 split_at zero [] rest k h = cc
@@ -22,7 +22,7 @@ split_at (suc p) [] rest k h = cc
 split_at (suc p) (x ∷ xs) rest k h =
     let more = split_at p xs rest k h in (ap (λ (ys : List Kind). x ∷ ys) more.0, more.1)
 
--- a list with the element at a place replaced: what is before it and with it, and what is behind it
+-- a list with the element at an index replaced: the part up to and with it, and the part after it
 pub set_at : (p : ℕ) (ks rest : List Kind) (k j : Kind) → drop p ks ≡ k ∷ rest
     → (take (suc p) (slice_set ks p j) ≡ take p ks ++ (j ∷ [])) × (drop (suc p) (slice_set ks p j) ≡ rest)
 set_at zero [] rest k j h = cc
@@ -57,7 +57,7 @@ mutual
   type_computed (point p x y) m (first, second) = type_computed x m first
   type_computed (invoke s n) m (few, made) = sym made
 
-  -- filters give the parameters that stand in the places of the target's
+  -- filters return the parameters that replace the target's
   kinds_by : (fs : Filters) (p : ℕ) (ks old new : List Kind) → drop p ks ≡ old → AreTyped fs old new → filtered_kinds fs p ks ≡ take p ks ++ new
   kinds_by no_more p ks old new e h =
       sym (take-append-drop p ks) ∙ ap (λ (js : List Kind). take p ks ++ js) (e ∙ sym h)
@@ -132,7 +132,7 @@ few_parameters (guard c x y) m (ks, test, begins, first, second) = few_parameter
 few_parameters (point p x y) m (first, second) = few_parameters x m first
 few_parameters (invoke s n) m (few, made) = let many = ap (λ (k : Signature). length k.parameters) made in omega (arith, few)
 
--- a parameter that is taken out and put in again as another is replaced
+-- a parameter that is removed and inserted again with another kind is replaced
 pub replaced : (ks : List Kind) (p : ℕ) (k : Kind) → p < length ks → with_parameters (without_parameters ks p 1) p (k ∷ []) ≡ slice_set ks p k
 replaced ks p k inside =
     let front : length (take p ks) ≡ p = omega (arith, length-take p ks) in
@@ -144,7 +144,7 @@ replaced ks p k inside =
     ∙ (λ i. sym (take-set ks p k) i ++ sym (drop-set ks p k inside) i)
     ∙ take-append-drop p (slice_set ks p k)
 
--- a filter at a place: the place is inside, the filter has one parameter, and the rest is typed behind it
+-- a filter at a position: the position is inside, the filter has one parameter, and the rest is typed after it
 pub record FilterAt (f : Tree) (rest : Filters) (p : ℕ) (ks : List Kind) : Type 0 where
   pub inside : p < length ks
   pub typed : (m : Signature) × IsTyped f m
@@ -179,12 +179,12 @@ none_by rest p q ks (k ∷ old) [] next e h = absurd h
 pub none_at : (rest : Filters) (p q : ℕ) (ks new : List Kind) → q ≡ p + 1 → AreTyped (absent rest) (drop p ks) new → (js : List Kind) × AreTyped rest (drop q ks) js
 none_at rest p q ks new next h = none_by rest p q ks (drop p ks) new next refl h
 
--- the first kind of a list of one
+-- the first kind of a list with one
 pub first_kind : (ks : List Kind) (k : Kind) → length ks ≡ 1 → k ≡ slice_index_or ks 0 k → k ≡ kind_at ks 0
 first_kind [] k one h = absurd (omega arith)
 first_kind (x ∷ xs) k one h = h
 
--- what the parts of a typed tree need of their target's type
+-- the facts of their target's type that the parts of a typed tree need
 pub insert_inside : (t : Tree) (p : ℕ) (xs : List Value) (m : Signature) → IsTyped (insert t p xs) m → p + length xs ≤ length (type_of t).parameters
 insert_inside t p xs m (n, typed, inserts) =
     let same = ap (λ (s : Signature). length s.parameters) (type_computed t n typed) in omega (arith, inserts.inside)

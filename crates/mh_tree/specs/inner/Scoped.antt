@@ -1,4 +1,4 @@
--- Code that names only what is there.
+-- Code that names only existing operands, points and sites.
 use Rattle.std.specs.Prelude.{ℕ, ◌+◌, ◌<◌, List, [], ◌∷◌, length}
 use Rattle.mh_tree.specs.Code.{Code, leaf, apply, bind, branch, point, invoke}
 use Rattle.mh_tree.specs.declared.operand.Operand.{Operand}
@@ -15,7 +15,7 @@ abbrev pub AllIn : ℕ → ℕ → List Operand → Type 0
 AllIn n d [] = Unit {0}
 AllIn n d (o ∷ rest) = IsIn n d o × AllIn n d rest
 
--- Code that names some of n arguments, d locals and k points. It invokes sites as C allows, a site with a number of arguments.
+-- Code that names some of n arguments, d locals and k points. It invokes sites as C allows, each with a number of arguments.
 abbrev pub IsScoped : (ℕ → ℕ → Type 0) → ℕ → ℕ → ℕ → Code → Type 0
 IsScoped C k n d (leaf s o) = IsIn n d o
 IsScoped C k n d (apply s op x y) = IsIn n d x × IsIn n d y

@@ -1,4 +1,4 @@
--- A tree that has enough arguments.
+-- Trees that have enough arguments.
 use Rattle.std.specs.Prelude.{ℕ, ◌+◌, ◌<◌, ◌≤◌, length}
 use Rattle.mh_type.specs.Signature.{Signature}
 use Rattle.mh_tree.specs.Tree.{Tree, Filters, no_more, absent, present}
@@ -15,7 +15,7 @@ pub record CanRun (t : Tree) (width : ℕ) (x : Setting) : Type 0 where
   pub small : most_steps (most_at x.level) t ≤ greatest_steps
   pub invokes : EachInvoke (MayReach x.level x.targets (length x.valid)) t
 
--- filters from place p on: each place is that of an argument, and each filter that is there can run on one
+-- filters from position p on: each position is that of an argument, and each filter that is present can run on one
 abbrev pub CanFilter : Filters → ℕ → ℕ → Setting → Type 0
 CanFilter no_more p width x = Unit {0}
 CanFilter (absent fs) p width x = (p < width) × CanFilter fs (p + 1) width x

@@ -1,11 +1,11 @@
--- What of values crosses threads.
+-- The types of values that cross threads.
 use denote.Param.Send.{IsSend, IsSync}
 use Rattle.mh_type.specs.contracts.kind.Kind as kinds
 use Rattle.mh_type.specs.contracts.method_type.MethodType as method_types
 use Rattle.mh_type.specs.contracts.operation.Op as operations
 use Rattle.mh_type.specs.contracts.value.Value as values
 
--- kinds, method types, operations and values may go to another thread, and threads may share them, alone and as parts of others
+-- kinds, method types, operations and values can be sent to another thread and shared between threads, alone and as parts of others
 pub record ValuesCross : Type 0 where
   pub kind_send : IsSend kinds.the_row
   pub kind_sync : IsSync kinds.the_row

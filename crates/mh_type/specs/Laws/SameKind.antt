@@ -58,7 +58,7 @@ same-kinds_eq (k ∷ ks) (j ∷ js) h =
 pub kinds_eq_decides : (ks js : List Kind) → Decides (kinds_eq ks js) (ks ≡ js)
 kinds_eq_decides ks js = (same-kinds_eq ks js, λ e. ap (kinds_eq ks) (sym e) ∙ kinds_eq-same ks)
 
--- two signatures with the same parts are one
+-- two signatures with the same parts are equal
 pub signature_same : (a b : Signature) → a.ret ≡ b.ret → a.parameters ≡ b.parameters → a ≡ b
 signature_same a b p q = λ i. record { ret = p i; parameters = q i }
 
@@ -72,7 +72,7 @@ signature_eq_decides a b = (
   λ e. ap (signature_eq a) (sym e) ∙ signature_eq-same a,
 )
 
--- a list that is longer than another is not its beginning
+-- a list that is longer than another is not a prefix of it
 pub kinds_eq-longer : (first ks : List Kind) → length ks < length first → kinds_eq first (take (length first) ks) ≡ false
 kinds_eq-longer first ks longer = answers_false _ (λ h. let e = ap (λ (js : List Kind). length js) (same-kinds_eq first (take (length first) ks) h) in omega (arith, e, length-take (length first) ks))
   where

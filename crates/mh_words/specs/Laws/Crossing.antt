@@ -1,4 +1,4 @@
--- Code over words may go to another thread, and threads may share it.
+-- Code over words can be sent to another thread and shared between threads.
 use denote.Param.Send.{IsSend, IsSync}
 use Rattle.mh_words.specs.contracts.lowered.Lowered as lowered
 use Rattle.mh_words.specs.contracts.word_code.WordCode as word_code

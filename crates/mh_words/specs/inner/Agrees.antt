@@ -1,4 +1,4 @@
--- What is known of the arguments and the locals of a routine, and frames in which it is so.
+-- Facts known about the arguments and locals of a routine, and frames that agree with them.
 use Rattle.std.specs.Prelude.{◌≡◌, ℕ, ◌<◌, ◌≤◌, ℤ, List, [], ◌∷◌, length, IfSome}
 use Rattle.mh_type.specs.declared.kind.Kind.{Kind}
 use Rattle.mh_type.specs.declared.outcome.Outcome.{Outcome}
@@ -19,7 +19,7 @@ abbrev pub input_word : List ℤ → Input → ℤ
 input_word f (Read s) = word_at f s.place
 input_word f (Constant n) = n
 
--- a word that is that of a value of a kind
+-- a word that represents a value of a kind
 abbrev pub HasWord : Kind → Value → ℤ → Type 0
 HasWord k x w = (kind_of x ≡ k) × IsWord x w
 
@@ -32,7 +32,7 @@ AreKnown f (k ∷ ks) (x ∷ xs) = IsKnown f k x × AreKnown f ks xs
 AreKnown f [] (x ∷ xs) = ⊥
 AreKnown f (k ∷ ks) [] = ⊥
 
--- arguments that fit a type, and locals of which this is known, with a frame that has their words
+-- arguments that fit a type, locals of which this is known, and a frame that has their words
 pub record Agrees (m : Signature) (ks : List Known) (a l : List Value) (f : List ℤ) : Type 0 where
   pub fits : Fits m a
   pub few : length m.parameters ≤ argument_slots
@@ -48,7 +48,7 @@ abbrev pub AllBelow : ℕ → List Known → Type 0
 AllBelow n [] = Unit {0}
 AllBelow n (k ∷ ks) = IsBelow n k.input × AllBelow n ks
 
--- a source of a kind that has an outcome, whose word is that of its value
+-- a source of a kind that has an outcome, and whose word represents its value
 pub record Gives (y : Made) (f : List ℤ) (o : Outcome) : Type 0 where
   pub outcome : o ≡ outcome_of y.kind (source_word f y.source)
   pub proper : IfSome (source_word f y.source) (λ w. IsWord (value_of_word y.kind w) w)

@@ -1,4 +1,4 @@
--- The operation on words that an operation on two numbers is.
+-- The operation on words that computes an operation on two numbers.
 use Rattle.std.specs.Prelude.{Option, Some, None}
 use Rattle.mh_type.specs.declared.kind.Kind.{Kind}
 use Rattle.mh_type.specs.declared.kind.Kind.TheVariants as kind

@@ -26,7 +26,7 @@ use Rattle.mh_words.specs.declared.word_source.WordSource.{WordSource}
 use Rattle.mh_words.specs.declared.word_test.WordTest.{WordTest}
 use Rattle.mh_words.specs.declared.word_test.WordTest.TheVariants.{Is}
 
--- what is known of an operand
+-- the facts known about an operand
 abbrev pub Reads : Signature → List Known → Operand → Known → Type 0
 Reads m ks o k = (a l : List Value) (f : List ℤ) → Agrees m ks a l f → IsKnown f k (value_of a l o)
 

@@ -24,7 +24,7 @@ abbrev pub entry_of : ℤ → ℤ → List WordRoutine → WordRoutine → WordR
 entry_of w n [] o = o
 entry_of w n (p ∷ ps) o = if int_eq w n then p else entry_of w (n +ℤ pos 1) ps o
 
--- each key is one of so many from n on
+-- each key is one of the c keys from n on
 abbrev pub AllWithin : ℤ → ℕ → List Keyed → Type 0
 AllWithin n c [] = Unit {0}
 AllWithin n c (k ∷ ks) = ((i : ℕ) × (i < c) × (k.key ≡ n +ℤ pos i)) × AllWithin n c ks
