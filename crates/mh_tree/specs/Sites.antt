@@ -100,6 +100,6 @@ greatest_steps = 1237944761669877611773558784
 abbrev pub sites : List Bool → List TypedTree → Setting
 sites valid targets = setting (suc greatest_level) valid targets
 
--- each site's tree names some of k points
+-- each site's tree names only the first k points
 abbrev pub HavePoints : ℕ → List TypedTree → Type 0
 HavePoints k targets = All (λ (h : TypedTree). point_bound h.tree ≤ k) targets
