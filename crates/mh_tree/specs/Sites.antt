@@ -87,7 +87,7 @@ setting level valid targets = record { level = level; valid = valid; targets = t
 abbrev pub env : Setting → Environment
 env x = below x.level x.valid x.targets
 
--- the greatest number of steps of trees that are invoked less than n trees deep
+-- the greatest number of steps of trees that are invoked less than d trees deep
 abbrev pub most_at : ℕ → ℕ
 most_at zero = 0
 most_at (suc d) = most_nodes * (1 + most_at d)
