@@ -12,8 +12,8 @@ use std::fmt;
 /// The number of handles that a cache keeps.
 const MOST_KEPT: usize = 32;
 
-/// The handles prepared last: equal handles that are prepared by one cache share their code. It
-/// keeps the last 32, and finds one in time linear in the size of its tree.
+/// A cache of the handles prepared last: equal handles that are prepared by one cache share their
+/// code. It keeps the last 32, and finds one in time linear in the size of its tree.
 #[derive(Drop)]
 pub struct CodeCache {
     alloc: Global,

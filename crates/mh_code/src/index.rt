@@ -33,7 +33,7 @@ const GUESSES: usize = 128;
 const GOLDEN: u32 = 2_654_435_769;
 
 /// The tests of a chain, at most 64, in its order, and a way to find the first that an int passes:
-/// by a guess, which is right for all consecutive numbers and for most others, and otherwise in as
+/// by a guess, which is right for all consecutive numbers and for most others, and otherwise by as
 /// many comparisons as the number of tests has binary digits.
 #[derive(Drop)]
 pub struct Index {

@@ -225,11 +225,15 @@ impl Book {
 
     /// Gives a site another tree (`MutableCallSite.setTarget`).
     ///
-    /// Fails with `NoSite` if the site, or a site that the tree invokes, does not exist; with
-    /// `WrongType` if the tree is not of the site's type, or invokes a site with a type other than
-    /// that site's; with `NoPoint` if it names a point that does not exist; with `WrongLevel` if it
-    /// invokes a site whose level is not below the site's; with `HistoryFull`; and otherwise only
-    /// with `NoMemory`. Then nothing changes.
+    /// Fails with
+    /// - `NoSite` if the site, or a site that the tree invokes, does not exist;
+    /// - `WrongType` if the tree is not of the site's type, or invokes a site with a type other
+    ///   than that site's;
+    /// - `NoPoint` if the tree names a point that does not exist;
+    /// - `WrongLevel` if the tree invokes a site whose level is not below the site's;
+    /// - `HistoryFull`, and otherwise only with `NoMemory`.
+    ///
+    /// On failure, nothing changes.
     pub fn target(&mut self, site: usize, tree: Declared) -> Result<(), Refusal>
         ensures taken { OnOk result (Takes self.old 0 (Targeted site tree) self.new) }
         ensures totals { self.new.totals ≡ self.old.totals }

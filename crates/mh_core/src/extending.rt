@@ -217,11 +217,16 @@ impl Book {
 
 impl Runtime {
     /// Begins a new history over the current definition with these points and sites added after its
-    /// own, and with each site's base tree as its target. Sites, points and links keep their
-    /// numbers, each site's calls mean what they meant before, and the same points are valid; the
-    /// new ones are valid. All hits are kept, and those that were not flushed stay unflushed. No
-    /// site holds a link, and snapshots and plans are numbered from 1 again. O(points + sites +
-    /// links * workers), plus the tests of the definition and the preparation of each tree.
+    /// own.
+    ///
+    /// - Each site's base tree becomes its target. Sites, points and links keep their numbers, and
+    ///   each site's calls mean what they meant before.
+    /// - The same points are valid; the new ones are valid.
+    /// - All hits are kept, and those that were not flushed stay unflushed.
+    /// - No site holds a link. Snapshots and plans are numbered from 1 again.
+    ///
+    /// O(points + sites + links * workers), plus the tests of the definition and the preparation of
+    /// each tree.
     ///
     /// Fails with `HistoryFull` if the limit of events does not exceed the number of workers, and
     /// otherwise as `Definition::extended` does; then nothing changes.

@@ -27,7 +27,7 @@ ghost use Rattle.mh_core.specs.Standing.{AreStanding};
 use crate::book::Book;
 use crate::machine::Machine;
 
-/// Proves the headline. Over every interleaving of calls, flushes, retargetings, invalidations,
+/// Proves the headline: over every interleaving of calls, flushes, retargetings, invalidations,
 /// snapshots, publications and installations, each accepted call returns what its site's
 /// unspecialised tree means at that step, whatever caches are installed; and each published plan
 /// has the greatest gain less cost among all sets of eligible links with their points, for the

@@ -354,16 +354,21 @@ impl Runtime {
         self.book.install(plan)
     }
 
-    /// Begins a new history, so that records, snapshots and plans are available again. Its
-    /// definition is the current one, with each site's base tree as its target. Its first records,
-    /// one more than there are workers, invalidate the points that stay invalid, and flush the part
-    /// of each worker's flushed hits that is kept. Each site's calls mean what they meant before,
-    /// the same points are valid, and also those that are to be valid again, and sites, points and
-    /// links keep their numbers. In the base trees, each invalid point that is to be valid again is
-    /// replaced by its fallback. Hits that were not flushed stay unflushed. No site holds a link,
-    /// and snapshots and plans are numbered from 1 again. O(points + sites + links * workers), plus
-    /// the preparation of each base tree; for points that are to be valid again, also their number
-    /// for each point, and for each node that tests a point.
+    /// Begins a new history, so that records, snapshots and plans are available again.
+    ///
+    /// - The definition is the current one, with each site's base tree as its target. Sites, points
+    ///   and links keep their numbers, and each site's calls mean what they meant before.
+    /// - The same points are valid, and also those that are to be valid again. In the base trees,
+    ///   each invalid point that is to be valid again is replaced by its fallback.
+    /// - The part of each worker's flushed hits that the renewal keeps is flushed again. Hits that
+    ///   were not flushed stay unflushed.
+    /// - No site holds a link. Snapshots and plans are numbered from 1 again.
+    /// - The first records, one more than there are workers, invalidate the points that stay
+    ///   invalid, and flush the hits that are kept.
+    ///
+    /// O(points + sites + links * workers), plus the preparation of each base tree; for points that
+    /// are to be valid again, also their number for each point, and for each node that tests a
+    /// point.
     ///
     /// Fails with `HistoryFull` if the limit of events does not exceed the number of workers, with
     /// `NoPoint` if a point that is to be valid again does not exist, and otherwise only with

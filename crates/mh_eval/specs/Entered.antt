@@ -79,7 +79,7 @@ abbrev mutual
   PlainFilters q v (present f fs) p a =
       PlainBy q v f (argument a p ∷ []) × WithValue (mean v f (argument a p ∷ [])) (λ x. PlainFilters q v fs (p + 1) (slice_set a p x))
 
--- the nodes of a site's tree, and of those that it invokes, less than n trees deep
+-- the nodes of a site's tree, and of those that it invokes, less than d trees deep
 abbrev pub plain_below : ℕ → List Bool → List TypedTree → ℕ → List Value → Type 0
 plain_below zero valid targets s a = Unit {0}
 plain_below (suc d) valid targets s a = PlainBy (plain_below d valid targets) (below d valid targets) (target_at targets s).tree a

@@ -10,8 +10,8 @@ use strsim::levenshtein;
 const MOST_EDITS: usize = 2;
 
 /// Returns the nearest of the words within two edits, the first if several are equally near. For a
-/// word of two letters, only words within one edit count, and for a word of one letter none does,
-/// since most short words are near to such words.
+/// word of two letters, only words within one edit count, and for a word of one letter no other
+/// word does, since most short words are near to such words.
 ///
 /// Fails only if memory runs out.
 pub fn nearest<'a>(

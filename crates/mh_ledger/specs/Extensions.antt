@@ -2,7 +2,7 @@
 use Rattle.std.specs.Prelude.{ℕ, ◌++◌, List, map, replicate}
 use Rattle.mh_ledger.specs.Ledgers.{LedgerState, TotalsState}
 
--- the numbers followed by no hits of as many more links
+-- the numbers, followed by zeros for more links
 abbrev pub longer : ℕ → List ℕ → List ℕ
 longer more counts = counts ++ replicate more 0
 

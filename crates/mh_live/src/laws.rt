@@ -26,8 +26,8 @@ pub fn every_answer_is_right<N: ListName>(office: &Office<N>, pass: &Pass<N>)
     published_plans_are_best(office.book());
 }
 
-/// States the same after all passes are returned: for the book that they leave, and for the list
-/// that a pass had seen (`Pass::front`).
+/// States the headline for running threads after all passes are returned: for the book that they
+/// leave, and for the list that a pass had seen (`Pass::front`).
 pub fn every_settled_answer_is_right<N: ListName>(settled: &Settled<N>, seen: &Front<N>)
     ensures headline { IsLiveHeadline N.definition settled.now.book.records settled.now.front
         seen.now }

@@ -63,12 +63,16 @@ impl<N: ListName> Live<N> {
     /// Gives a site another tree (`MutableCallSite.setTarget`). The receipt's list ends with this
     /// control: a pass that learns the receipt sees it.
     ///
-    /// Fails with `NoSite` if the site, or a site that the tree invokes, does not exist; with
-    /// `WrongType` if the tree is not of the site's type, or invokes a site with a type other than
-    /// that site's; with `NoPoint` if it names a point that does not exist; with `WrongLevel` if it
-    /// invokes a site whose level is not below the site's; with `HistoryFull`; and otherwise only
-    /// with `NoMemory`. Then nothing is recorded, and passes read what they read before. If memory
-    /// ran out during the publication, each later control fails with `NoMemory`, too.
+    /// Fails with
+    /// - `NoSite` if the site, or a site that the tree invokes, does not exist;
+    /// - `WrongType` if the tree is not of the site's type, or invokes a site with a type other
+    ///   than that site's;
+    /// - `NoPoint` if the tree names a point that does not exist;
+    /// - `WrongLevel` if the tree invokes a site whose level is not below the site's;
+    /// - `HistoryFull`, and otherwise only with `NoMemory`.
+    ///
+    /// On failure, nothing is recorded, and passes read what they read before. If memory ran out
+    /// during the publication, each later control fails with `NoMemory`, too.
     pub fn set_target<R: Wait>(
         &self,
         rt: &R,

@@ -209,11 +209,16 @@ impl<N: ListName> Pass<N> {
     /// linked tree over the linked trees. If the argument at the site's key position is the key of
     /// one of its links, the ledger counts a hit of that link.
     ///
-    /// Fails with `NoSite`, with `WrongType` if the arguments do not fit the site's type, with
-    /// `LedgerFull`, with `NotEntered` if the office has ended or the published world is behind
-    /// what this pass has seen, and otherwise only with `NoMemory`, which is not returned if no
-    /// node that is evaluated has String in its type. Then no hit is counted. With `NoMemory`, the
-    /// pass may have seen more controls than before.
+    /// Fails with
+    /// - `NoSite` if the site does not exist;
+    /// - `WrongType` if the arguments do not fit the site's type;
+    /// - `LedgerFull` if the ledger has no room for the hit;
+    /// - `NotEntered` if the office has ended or the published world is behind what this pass has
+    ///   seen;
+    /// - `NoMemory` otherwise, and never if no node that is evaluated has String in its type. Then
+    ///   the pass may have seen more controls than before.
+    ///
+    /// On failure, no hit is counted.
     pub fn call(&mut self, site: usize, arguments: &[Value]) -> Result<PassAnswer, CallFault>
         ensures passes { OnOk result (MayCall N.definition self.old.ledger site arguments.now) }
         ensures answer { IfOk result (λ answer. AnswersBy N.definition self.new.seen site

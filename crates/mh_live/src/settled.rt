@@ -122,11 +122,15 @@ impl<N: ListName> Settled<N> {
     }
 
     /// Returns the parts of the next office and its passes, for `workers` workers, 1 to 64, within
-    /// the same limits, and the points that this office is to invalidate first, ascending. From
-    /// then on each site's calls mean what they meant here, and the same points are valid, as well
-    /// as those in `again`. In the base trees, each invalid point in `again` is replaced by its
-    /// fallback. Points, sites and links keep their numbers. Hits count from 0 again; the earlier
-    /// ones remain here. Takes the time of `Book::renewed` plus that of `Opening::new`.
+    /// the same limits, and the points that this office is to invalidate first, ascending. Once it
+    /// has:
+    ///
+    /// - Each site's calls mean what they meant here. Points, sites and links keep their numbers.
+    /// - The same points are valid, as well as those in `again`. In the base trees, each invalid
+    ///   point in `again` is replaced by its fallback.
+    /// - Hits count from 0; the earlier ones remain here.
+    ///
+    /// Takes the time of `Book::renewed` plus that of `Opening::new`.
     ///
     /// Fails with `NoPoint` if a point that is to be valid again does not exist, and otherwise only
     /// with `NoMemory`.

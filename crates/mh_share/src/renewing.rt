@@ -16,11 +16,14 @@ use mh_ledger::{Ledger, Totals};
 
 impl Desk {
     /// Begins a new history, as `Runtime::renew` does, with the callers of all workers, in their
-    /// order; none of them can be in a call. Each site's calls mean what they meant before, the
-    /// same points are valid, and also those that are to be valid again, and sites, points and
-    /// links keep their numbers. Callers continue with the worlds of their last looks, and get the
-    /// new one with their first look after the next `show`. Hits that they have not flushed stay
-    /// with them, and count in the new history from their next flush on.
+    /// order; none of them can be in a call.
+    ///
+    /// - Each site's calls mean what they meant before. Sites, points and links keep their numbers.
+    /// - The same points are valid, and also those that are to be valid again.
+    /// - Callers continue with the worlds of their last looks, and get the new one with their first
+    ///   look after the next `show`.
+    /// - Hits that callers have not flushed stay with them, and count in the new history from their
+    ///   next flush on.
     ///
     /// Fails with `NoWorker` if these are not the callers of this desk, one of each worker in
     /// order, and otherwise as `Runtime::renew` does, except that `NoMemory` may come first; then

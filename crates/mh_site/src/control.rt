@@ -175,14 +175,14 @@ impl Installation {
 #[derive(Debug, Drop)]
 pub enum Control {
     /// Gives a site another tree (`MutableCallSite.setTarget`, Java SE 17), which becomes its
-    /// linked tree, too. The number of a site that does not exist is ignored.
+    /// linked tree, too. A site that does not exist is ignored.
     Target(Retargeting),
     /// Invalidates these points together and for good (`SwitchPoint.invalidateAll`, Java SE 17). A
-    /// point may be listed twice, and may be invalid already. The number of a point that does not
-    /// exist is ignored.
+    /// point may be listed twice, and may be invalid already. A point that does not exist is
+    /// ignored.
     Invalidate(Listing<u32>),
-    /// Links sites to other trees over their base trees, in order. The number of a site that does
-    /// not exist is ignored.
+    /// Links sites to other trees over their base trees, in order. A site that does not exist is
+    /// ignored.
     Install(Installation),
 }
 

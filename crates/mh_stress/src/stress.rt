@@ -164,9 +164,9 @@ fn stress_script<T: Threads + Wait + Sync, S: ShowRounds + Sync>(
 /// While the first worker makes its rounds, the stage shows how many are done.
 ///
 /// The input is read to its end, or to the first byte beyond 1,048,576. If it has a fault, if
-/// memory runs out, or if no more readers of the published world can be made (`NoReader`, which can
-/// only follow from a script), nothing is written. If a write fails, a prefix of the line was
-/// written, and the failure is reported at 0.
+/// memory runs out, or if no more readers of the published world can be made (`NoReader`, which is
+/// reported only if the input is a script), nothing is written. If a write fails, a prefix of the
+/// line was written, and the failure is reported at 0.
 pub fn stress_bytes<T: Threads + Wait + Sync, S: ShowRounds + Sync, R: Read, W: Write>(
     stage: &Stage<'_, T, S>,
     alloc: Global,

@@ -87,7 +87,7 @@ setting level valid targets = record { level = level; valid = valid; targets = t
 abbrev pub env : Setting → Environment
 env x = below x.level x.valid x.targets
 
--- the greatest number of steps of trees that are invoked less than n trees deep
+-- the greatest number of steps of trees that are invoked less than d trees deep
 abbrev pub most_at : ℕ → ℕ
 most_at zero = 0
 most_at (suc d) = most_nodes * (1 + most_at d)
@@ -100,6 +100,6 @@ greatest_steps = 1237944761669877611773558784
 abbrev pub sites : List Bool → List TypedTree → Setting
 sites valid targets = setting (suc greatest_level) valid targets
 
--- each site's tree names some of k points
+-- each site's tree names only the first k points
 abbrev pub HavePoints : ℕ → List TypedTree → Type 0
 HavePoints k targets = All (λ (h : TypedTree). point_bound h.tree ≤ k) targets

@@ -119,8 +119,8 @@ fn plan_problem<T: Threads + Sync>(
     Ok(render(alloc, options, problem, &plan, &phases)?)
 }
 
-/// Writes the lines. If a write fails, a prefix of them was written, and the failure is reported at
-/// 0.
+/// Writes lines to a writer. If a write fails, a prefix of them was written, and the failure is
+/// reported at 0.
 pub fn write_lines<W: Write>(lines: String, writer: &mut Watched<W>) -> Result<(), Fault>
     ensures lines { MatchResult result
         (λ _. Appends (W.contents writer.old.inner) (W.contents writer.new.inner)

@@ -130,7 +130,7 @@ mutual
   scoped_filters C P allows k n (present f fs) [] new p env d s go w typed wide h b e g = absurd typed
   scoped_filters C P allows k n (present f fs) (z ∷ old) [] p env d s go w typed wide h b e g = absurd typed
 
--- if n consecutive arguments from a position on exist, there are as many
+-- if the k arguments from a on are among the first n, then a + k is at most n
 pub leading_few : (n d a k : ℕ) → a ≤ n → AllIn n d (map (λ x. Argument x) (range_with_len a k)) → a + k ≤ n
 leading_few n d a zero h all = omega (arith, h)
 leading_few n d a (suc k) h (p, ps) = omega (arith, leading_few n d (a + 1) k (omega (arith, p)) ps)
