@@ -31,8 +31,7 @@
    MHLINK_OK, or closes the machine. Each flush, retargeting and snapshot keeps some memory until
    mhlink_renew or mhlink_close.
 
-   docs/EMBEDDING.md, "From C", has the figures, and explains how a site dispatches to methods of
-   the host. */
+   docs/EMBEDDING-C.md has the figures, and explains how a site dispatches to methods of the host. */
 #ifndef MHLINK_H
 #define MHLINK_H
 

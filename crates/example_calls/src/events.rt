@@ -1,4 +1,4 @@
-//! What the runtime is asked, each by a call of its own.
+//! The events of the example, each made by a call of its own.
 
 ghost use Rattle.std.specs.Prelude.{◌≡◌, ◌∷◌, [], IfSome};
 ghost use Rattle.mh_core.specs.Outcome.TheVariants as outcome;
@@ -10,8 +10,8 @@ use crate::definition::{F, one_less};
 use mh_core::{Declared, Listing, Outcome, Runtime, Value};
 use std::alloc::Global;
 
-/// The int that worker 0 gets for a call of a site, which is what the site's tree means at that
-/// step, or None where the runtime answers otherwise.
+/// Calls a site as worker 0, and returns the int that the site's tree means at that step, or `None`
+/// if the runtime answers otherwise.
 pub(crate) fn call(runtime: &mut Runtime, site: usize, argument: i32) -> Option<i32>
     ensures value { let d = runtime.old.book.definition in
         let r = runtime.old.book.records in
@@ -24,21 +24,21 @@ pub(crate) fn call(runtime: &mut Runtime, site: usize, argument: i32) -> Option<
     }
 }
 
-/// The hits of worker 0 are added to the totals.
+/// Adds the hits of worker 0 to the totals.
 pub(crate) fn flush(rt: &impl Print, runtime: &mut Runtime) -> anyhow::Result<()> {
     runtime.flush(0)?;
     println!(rt; "flush: ok")?;
     Ok(())
 }
 
-/// The totals are kept under the next number, with the points that are valid.
+/// Stores the totals under the next number, with the validity of the points.
 pub(crate) fn take_snapshot(rt: &impl Print, runtime: &mut Runtime) -> anyhow::Result<()> {
     let snapshot = runtime.snapshot()?;
     println!(rt; "snapshot: {snapshot}")?;
     Ok(())
 }
 
-/// The point `a` becomes invalid, for good.
+/// Invalidates the point `a`, for good.
 pub(crate) fn invalidate(
     rt: &impl Print,
     alloc: Global,
@@ -50,7 +50,7 @@ pub(crate) fn invalidate(
     Ok(())
 }
 
-/// `f` gets its second tree.
+/// Gives `f` its second tree.
 pub(crate) fn retarget(
     rt: &impl Print,
     alloc: Global,

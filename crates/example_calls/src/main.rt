@@ -24,7 +24,7 @@ fn main(rt: HostRuntime) -> anyhow::Result<()> {
     change_site(&rt, alloc, &mut runtime)
 }
 
-/// Calls, of which two hit the link, and the hits in a snapshot.
+/// Makes calls, of which two hit the link, and takes a snapshot of the hits.
 fn count_hits(rt: &impl Print, runtime: &mut Runtime) -> anyhow::Result<()> {
     tell_call(rt, runtime, F, 1)?;
     tell_call(rt, runtime, F, 1)?;
@@ -33,7 +33,8 @@ fn count_hits(rt: &impl Print, runtime: &mut Runtime) -> anyhow::Result<()> {
     take_snapshot(rt, runtime)
 }
 
-/// A plan for the snapshot, its installation, and calls through the inline cache and past it.
+/// Publishes a plan for the snapshot, installs it, and makes calls through the inline cache and
+/// past it.
 fn link_site<R: Print + Threads + Sync>(
     rt: &R,
     alloc: Global,
@@ -45,7 +46,7 @@ fn link_site<R: Print + Threads + Sync>(
     tell_call(rt, runtime, F, 2)
 }
 
-/// Calls after an invalidation, and after a retargeting, which `g` sees too.
+/// Makes calls after an invalidation, and after a retargeting, which `g` sees, too.
 fn change_site(rt: &impl Print, alloc: Global, runtime: &mut Runtime) -> anyhow::Result<()> {
     invalidate(rt, alloc, runtime)?;
     tell_call(rt, runtime, F, 1)?;

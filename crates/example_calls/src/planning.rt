@@ -1,4 +1,4 @@
-//! A plan for the hits of a snapshot: made, published and installed.
+//! A plan for the hits of a snapshot: it is made, published and installed.
 
 ghost use Rattle.std.specs.Prelude.{IfOk};
 ghost use Rattle.mh_core.specs.Problems.{problem_at};
@@ -9,8 +9,8 @@ use mh_plan::{OpenGate, plan};
 use std::alloc::Global;
 use std::thread::Threads;
 
-/// The links that are worth most for the hits of a snapshot, less what their points cost, and of
-/// such the fewest; made on one thread.
+/// Returns the links that are worth most for the hits of a snapshot, less the costs of their
+/// points, and the fewest of such links; planned on one thread.
 fn best_plan<R: Threads + Sync>(
     rt: &R,
     alloc: Global,
@@ -26,7 +26,7 @@ fn best_plan<R: Threads + Sync>(
     Ok(shared)
 }
 
-/// The best plan for snapshot 1 is offered, and published where the checker accepts it.
+/// Offers the best plan for snapshot 1, which is published if the checker accepts it.
 pub(crate) fn publish<R: Print + Threads + Sync>(
     rt: &R,
     alloc: Global,
@@ -38,7 +38,7 @@ pub(crate) fn publish<R: Print + Threads + Sync>(
     Ok(())
 }
 
-/// The links of plan 1 become inline caches of their sites.
+/// Installs plan 1: its links become inline caches of their sites.
 pub(crate) fn install(rt: &impl Print, runtime: &mut Runtime) -> anyhow::Result<()> {
     let report = runtime.install(1)?;
     println!(rt; "install: {report}")?;

@@ -1,10 +1,10 @@
-//! What a call gives, in words.
+//! Printing the results of calls.
 
 use crate::definition::F;
 use crate::events::call;
 use mh_core::Runtime;
 
-/// Calls a site, and prints the int that it gives.
+/// Calls a site, and prints the int that it returns.
 pub(crate) fn tell_call(
     rt: &impl Print,
     runtime: &mut Runtime,
