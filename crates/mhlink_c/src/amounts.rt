@@ -1,4 +1,4 @@
-//! What a flow gives and leaves, by link, by need and by point.
+//! The amounts of a flow, by link, by need and by point.
 
 ghost use Rattle.std.specs.Prelude.{◌≡◌, ◌≤◌, ◌<◌, All, IfOk, length, map, slice_index, true};
 ghost use Rattle.std.specs.List.{sum_by};
@@ -12,7 +12,7 @@ ghost use Rattle.mhlink_c.specs.Problems.{HasNeeds, needs_of};
 use crate::planning::MhlinkLink;
 use std::alloc::{AllocError, Global};
 
-/// What each of so many links pays of its charge.
+/// Returns the amount that each of this many links pays of its charge.
 pub(crate) fn paid_by(
     alloc: Global,
     count: usize,
@@ -30,7 +30,7 @@ pub(crate) fn paid_by(
     Ok(paid)
 }
 
-/// What each of so many points gets.
+/// Returns the amount that each of this many points gets.
 pub(crate) fn got_by(
     alloc: Global,
     count: usize,
@@ -47,7 +47,7 @@ pub(crate) fn got_by(
     Ok(gets)
 }
 
-/// What is given for each need, by the links whose need it is.
+/// Returns the amount that is sent for each need, by the links that have the need.
 pub(crate) fn given_for(
     alloc: Global,
     links: &[MhlinkLink],
@@ -68,7 +68,7 @@ pub(crate) fn given_for(
     Ok(given)
 }
 
-// The place of a link's need among all. O(log needs of the link).
+// Returns the index of a link's need among all needs. O(log needs of the link).
 fn place_of(link: &MhlinkLink, needs: &[u32], point: u32) -> usize
     requires there { HasNeeds needs.now link.now }
     requires ascending { IsStrictlyIncreasing (needs_of needs.now link.now) }

@@ -1,4 +1,4 @@
-//! What a machine and a desk read of their books, and of what C passes for a record.
+//! The queries of machines and desks over their books, and the records made of arguments from C.
 
 ghost use Rattle.std.specs.Prelude.{◌≡◌, ◌⊎◌, ◌<◌, Some, None, length, Ok, IfErr, IfOk, OnOk};
 ghost use Rattle.mh_core.specs.Installations.{kept};
@@ -23,7 +23,7 @@ use mh_json::readers::Scope;
 use mh_plan::plan_alone;
 use std::alloc::Global;
 
-/// The answer to a question.
+/// Answers a query.
 pub(crate) fn answer(alloc: Global, book: &Book, question: Question<'_>) -> Result<u64, Failure>
     ensures tells { IfOk result (λ n. Tells book.now question.entry n) }
     ensures unknown { IfErr result (IsUnknown book.now question.entry) }
@@ -83,7 +83,7 @@ fn linked(book: &Book, site: usize) -> Result<u64, Failure>
     Ok(book.installed(site).len() as u64)
 }
 
-/// The tree that a text of JSON gives a site, over what is declared.
+/// Reads the tree in JSON for a site, over the names of a definition.
 pub(crate) fn read_tree(
     alloc: Global,
     book: &Book,
@@ -104,7 +104,7 @@ pub(crate) fn read_tree(
     read_target(alloc, scope, tree)
 }
 
-/// Points as a record lists them.
+/// Returns points in the form of a record.
 pub(crate) fn listed(alloc: Global, points: &[u32]) -> Result<Listing<u32>, Failure>
     ensures value { IfOk result (λ listed. listed ≡ points.now) }
     ensures refused { IfErr result (λ e. e ≡ no_memory) }
@@ -112,7 +112,7 @@ pub(crate) fn listed(alloc: Global, points: &[u32]) -> Result<Listing<u32>, Fail
     Ok(Listing::from_vec(Vec::from_slice(alloc, points)?))
 }
 
-/// The best plan for a snapshot, of such the least.
+/// Computes the optimal plan for a snapshot with the fewest links.
 pub(crate) fn best_plan_for(alloc: Global, book: &Book, snapshot: usize) -> Result<Plan, Failure>
     ensures best { IfOk result (IsBest book.now snapshot) }
     ensures refused { IfErr result (HasNoBest book.now snapshot) }

@@ -1,4 +1,4 @@
-//! Bytes and numbers into buffers of the caller's.
+//! Copies of bytes and numbers into the caller's buffers.
 
 ghost use Rattle.std.specs.Prelude.{◌≡◌, ◌≤◌, drop, length, take, IfErr, OnErr, OnOk};
 ghost use Rattle.mhlink_c.specs.Buffers.{IsCopied, IsTooShort};
@@ -6,10 +6,10 @@ ghost use Rattle.mhlink_c.specs.declared.failure.Failure.TheVariants.{Short};
 
 use crate::failure::Failure;
 
-/// Copies items to the beginning of a buffer, where they fit, and counts them. What
-/// stands behind them stays.
+/// Copies items to the beginning of a buffer, if they fit, and counts them. The rest of the buffer
+/// is left unmodified.
 ///
-/// Refused with `Short` where the buffer is shorter, which then is left alone.
+/// Fails with `Short` if the buffer is shorter; then it is left unmodified.
 pub(crate) fn copy<T: Copy>(from: &[T], buffer: &mut [T], count: &mut usize) -> Result<(), Failure>
     ensures copied { OnOk result (IsCopied from.now count.new buffer.new) }
     ensures rest { OnOk result (drop count.new buffer.new ≡ drop count.new buffer.old) }

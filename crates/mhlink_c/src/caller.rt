@@ -1,4 +1,4 @@
-//! What a handle of a caller leads to: the caller, and the text that its last call gave.
+//! The value behind a caller's handle: the caller, and the text that its last call returned.
 
 ghost use Rattle.std.specs.Prelude.{◌≡◌, ◌≤◌, ◌<◌, Some, None, length, vec_capacity, IfErr, IfOk, OnErr, OnOk};
 ghost use Rattle.mh_ledger.specs.Ledgers.{at};
@@ -46,7 +46,7 @@ impl Model for HeldCaller {
 }
 
 impl HeldCaller {
-    /// A caller that has made no call.
+    /// Returns a caller that has made no call.
     pub(crate) fn over(alloc: Global, caller: Caller) -> Result<HeldCaller, Failure>
         ensures value { IfOk result (λ held. held ≡ opened_held_caller caller) }
         ensures refused { IfErr result (λ e. e ≡ no_memory) }
@@ -59,7 +59,7 @@ impl HeldCaller {
         })
     }
 
-    /// What a call of a site gives. A text is kept until the next call.
+    /// Calls a site. A text is kept until the next call.
     pub(crate) fn call(
         &mut self,
         alloc: Global,
@@ -84,7 +84,7 @@ impl HeldCaller {
         Ok(reply)
     }
 
-    /// Another owner of the text that the last call gave.
+    /// Returns another owner of the text that the last call returned.
     pub(crate) fn text(&self) -> Result<Text, Failure>
         ensures value { IfOk result (λ text. self.now.given ≡ Some text) }
         ensures refused { IfErr result (HasNoText self.now.given) }
@@ -92,7 +92,7 @@ impl HeldCaller {
         share_text(&self.given)
     }
 
-    /// The unflushed hits of a link.
+    /// Returns the unflushed hits of a link.
     pub(crate) fn hits(&self, link: usize) -> Result<u64, Failure>
         ensures value { IfOk result (λ n. n ≡ at self.now.caller.ledger.unflushed link) }
         ensures inside { OnOk result (link < length self.now.caller.ledger.unflushed) }
@@ -102,7 +102,7 @@ impl HeldCaller {
         hits_in(self.caller.ledger(), link)
     }
 
-    /// Looks at what a desk shows.
+    /// Has the caller use the published state of a desk from now on.
     pub(crate) fn look(&mut self, desk: &HeldDesk) -> Result<(), Failure>
         ensures held { OnOk result (Holds desk.now self.old.caller.ledger) }
         ensures looks { OnOk result (self.new ≡ looks desk.now self.old) }

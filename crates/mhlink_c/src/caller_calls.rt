@@ -1,4 +1,4 @@
-//! What C asks of a caller, in the thread that has it.
+//! The functions of a caller, for the thread that has it.
 
 ghost use Rattle.std.specs.Prelude.{◌≡◌, ◌≢◌, ◌⊎◌, ◌<◌, ℕ, List, Some, drop, length, true, IfErr, IfOk, OnErr, OnOk};
 ghost use Rattle.mh_ledger.specs.Ledgers.{at};
@@ -21,7 +21,7 @@ use core::mem::{replace, replace_with};
 use mh_core::Text;
 use std::alloc::Global;
 
-// A call as C makes it.
+// The arguments of a call from C.
 #[derive(Drop)]
 struct CallerCall<'a> {
     alloc: Global,
@@ -50,8 +50,8 @@ fn call_held(
     (MhlinkCaller::of(held), reply)
 }
 
-/// A caller calls a site, by the world of its last look, and else as `mhlink_call`: it takes no
-/// lock, and its hit is counted in the caller until it is flushed.
+/// Calls a site, as `mhlink_call` does, in the state of the caller's last look. It takes no lock.
+/// The hit is counted in the caller until it is flushed.
 #[unsafe(no_mangle)]
 pub extern "C" fn mhlink_caller_call(
     alloc: Global,
@@ -88,7 +88,7 @@ pub extern "C" fn mhlink_caller_call(
     }
 }
 
-// Another owner of the text that the last call gave.
+// Returns another owner of the text that the last call returned.
 fn text_held(caller: MhlinkCaller, _: ()) -> (MhlinkCaller, Result<Text, Failure>)
     requires full { caller.full ≡ true }
     ensures full { result.0.full ≡ true }
@@ -101,7 +101,7 @@ fn text_held(caller: MhlinkCaller, _: ()) -> (MhlinkCaller, Result<Text, Failure
     (MhlinkCaller::of(held), text)
 }
 
-/// Copies the text that the caller's last call gave, as `mhlink_text` does.
+/// Copies the text that the caller's last call returned, as `mhlink_text` does.
 #[unsafe(no_mangle)]
 pub extern "C" fn mhlink_caller_text(
     caller: &mut MhlinkCaller,
@@ -140,7 +140,7 @@ fn hits_held(caller: MhlinkCaller, link: usize) -> (MhlinkCaller, Result<u64, Fa
     (MhlinkCaller::of(held), hits)
 }
 
-/// The hits of a link by a caller's calls since its last flush.
+/// Stores the hits of a link by a caller's calls since its last flush.
 #[unsafe(no_mangle)]
 pub extern "C" fn mhlink_caller_hits(caller: &mut MhlinkCaller, link: usize, hits: &mut u64) -> u32
     requires full { caller.old.full ≡ true }
@@ -172,11 +172,10 @@ fn look_held(
     (MhlinkDesk::of(desk), (MhlinkCaller::of(caller), answer))
 }
 
-/// A caller looks at what a desk shows: from now on its calls are answered by that world. Its hits
-/// and its text stay.
+/// Has a caller use the published state of a desk from now on. Its hits and its text stay.
 ///
-/// Refused with 13 where the caller is not one of this desk, and then where memory runs out; the
-/// caller is as before.
+/// Fails with 13 if the caller is not one of this desk, or if memory runs out; then the caller does
+/// not change.
 #[unsafe(no_mangle)]
 pub extern "C" fn mhlink_caller_look(
     alloc: Global,

@@ -1,4 +1,4 @@
-//! A boxed caller as its pointer, which C keeps.
+//! A boxed caller as the pointer that C keeps.
 
 ghost use Rattle.std.specs.Prelude.{◌≡◌, Bool, true, false};
 ghost use Rattle.mhlink_c.specs.Callers.{HeldCallerState, coded_held_caller};
@@ -11,8 +11,8 @@ use std::alloc::Global;
 use std::marker::Model;
 use std::ptr;
 
-/// A caller as C keeps it: a pointer. Where it is full it owns the caller, and else nothing, as one
-/// that C made. Dropped, it leaves the caller where it is.
+/// A caller as C keeps it: a pointer. If non-null, it owns the caller; one that C made is null and
+/// owns nothing. Dropping it does not drop the caller.
 #[repr(C)]
 #[derive(Drop)]
 pub struct MhlinkCaller {
@@ -27,7 +27,7 @@ impl Model for MhlinkCaller {
 }
 
 impl MhlinkCaller {
-    /// The handle of a caller.
+    /// Returns the handle of a caller.
     pub(crate) fn of(boxed: Box<HeldCaller>) -> MhlinkCaller
         ensures full { result.full ≡ true }
         ensures value { result.value ≡ boxed.value }
@@ -35,7 +35,7 @@ impl MhlinkCaller {
         MhlinkCaller::of_parts(Parts::of(boxed))
     }
 
-    /// The caller of a handle.
+    /// Returns the caller of a handle.
     pub(crate) fn into_box(self) -> Box<HeldCaller>
         requires full { self.full ≡ true }
         ensures value { result.value ≡ self.value }
@@ -43,7 +43,7 @@ impl MhlinkCaller {
         self.into_parts().into_box()
     }
 
-    /// A handle that is not full.
+    /// Returns a null handle.
     pub(crate) fn hollow(alloc: Global) -> MhlinkCaller
         ensures { result.full ≡ false }
     {

@@ -12,7 +12,7 @@ use crate::value::{MhlinkReply, MhlinkValue};
 use core::mem::replace_with;
 use std::alloc::Global;
 
-// A call as C makes it.
+// The arguments of a call from C.
 #[derive(Drop)]
 struct Call<'a> {
     alloc: Global,
@@ -22,7 +22,7 @@ struct Call<'a> {
     texts: &'a [u8],
 }
 
-// Makes a call on the host that a handle holds.
+// Makes a call on the host that a handle owns.
 fn call_held(
     machine: MhlinkMachine,
     call: Call<'_>,
@@ -45,9 +45,10 @@ fn call_held(
     (MhlinkMachine::of(host), reply)
 }
 
-/// A worker calls a site. `texts` has the bytes of all texts among the values, one behind another.
-/// Where the status is not 0, nothing changes, and `reply` is left alone. No memory is asked for where
-/// there are at most 16 values, none is a text, and no node that is entered has String in its type.
+/// Calls a site as a worker. `texts` has the bytes of all Strings among the values, in order. If
+/// the status is not 0, nothing changes and `reply` is left unmodified. A call with at most 16
+/// values does not allocate, provided that none is a String and no node that it evaluates has
+/// String in its type.
 #[unsafe(no_mangle)]
 pub extern "C" fn mhlink_call(
     alloc: Global,

@@ -1,4 +1,4 @@
-//! What changes a machine beside calls.
+//! Changes of a machine other than calls.
 
 ghost use Rattle.std.specs.Prelude.{◌≡◌, ◌≢◌, true, IfErr, OnErr, OnOk};
 ghost use Rattle.mh_core.specs.declared.record.Record.TheVariants.{Invalidated, Snapped, Installed};
@@ -39,11 +39,11 @@ pub extern "C" fn mhlink_flush(machine: &mut MhlinkMachine, worker: u32) -> u32
     status(replace_with(machine, worker, flush_held))
 }
 
-/// Gives a site another tree, as JSON over the points, the shared trees and the sites of the
-/// definition.
+/// Replaces the tree of a site by a tree in JSON, over the points, the shared trees and the sites
+/// of the definition.
 ///
-/// Refused with `NoSite` where there is no such site, then with the fault of the text, and then as
-/// the runtime refuses the tree. `part` gets the number of the fault's cause, or 0.
+/// Fails with `NoSite` if there is no such site, then with the fault of the text, and then as the
+/// runtime rejects the tree. `part` gets the number of the fault's cause, or 0.
 #[unsafe(no_mangle)]
 pub extern "C" fn mhlink_target(
     alloc: Global,
@@ -97,7 +97,7 @@ pub extern "C" fn mhlink_invalidate(
     )
 }
 
-/// Takes a snapshot of the totals, with its number, from 1.
+/// Takes a snapshot of the totals and stores its number, from 1.
 #[unsafe(no_mangle)]
 pub extern "C" fn mhlink_snapshot(
     alloc: Global,
@@ -117,8 +117,8 @@ pub extern "C" fn mhlink_snapshot(
     make_change(alloc, machine, Change::Snapshot, number, &mut part)
 }
 
-/// Makes the best plan for a snapshot, of such the one with the fewest links, and publishes it, with
-/// the plan's number, from 1.
+/// Computes the optimal plan for a snapshot with the fewest links, publishes it, and stores its
+/// number, from 1.
 #[unsafe(no_mangle)]
 pub extern "C" fn mhlink_plan(
     alloc: Global,
@@ -139,8 +139,8 @@ pub extern "C" fn mhlink_plan(
     make_change(alloc, machine, Change::Plan(snapshot), number, &mut part)
 }
 
-/// Publishes the caller's plan for a snapshot, as JSON, if the checker accepts it, with its number.
-/// `part` gets the number of the fault's cause, as the checker's test that failed, or 0.
+/// Publishes the caller's plan for a snapshot, in JSON, if the checker accepts it, and stores its
+/// number. `part` gets the number of the fault's cause, as the checker's test that failed, or 0.
 #[unsafe(no_mangle)]
 pub extern "C" fn mhlink_offer(
     alloc: Global,
@@ -170,8 +170,8 @@ pub extern "C" fn mhlink_offer(
     )
 }
 
-/// Installs the newest plan, with the number of sites that it links. `part` gets the number of the
-/// newest plan where another is named, or 0.
+/// Installs the newest plan and stores the number of sites that it links. `part` gets the number of
+/// the newest plan if `plan` is another one, or 0.
 #[unsafe(no_mangle)]
 pub extern "C" fn mhlink_install(
     alloc: Global,

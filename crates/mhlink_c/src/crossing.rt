@@ -1,4 +1,4 @@
-//! Laws of what crosses threads.
+//! Laws about handles in threads.
 
 ghost use denote.Param.Send.{IsSend};
 ghost use Rattle.mhlink_c.specs.contracts.handle.MhlinkMachine as machines;
@@ -11,8 +11,8 @@ use mh_share::desks_cross_threads;
 use mh_tree::trees_cross_threads;
 use mh_type::values_cross_threads;
 
-/// The handles of a machine, a desk, a caller and a tree may each go to another thread, with what
-/// they own.
+/// States that the handles of a machine, a desk, a caller and a tree may each move to another
+/// thread, with everything they own.
 pub fn handles_cross_threads()
     ensures machine { IsSend machines.the_row }
     ensures desk { IsSend desks.the_row }

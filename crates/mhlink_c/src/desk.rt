@@ -1,4 +1,4 @@
-//! What a handle of a desk leads to: the desk, and the names that its definition declares.
+//! The value behind a desk's handle: the desk, and the names that its definition declares.
 
 ghost use Rattle.std.specs.Prelude.{◌≡◌, IfErr, IfOk, OnErr, OnOk, length, map};
 ghost use Rattle.mh_core.specs.declared.record.Record.TheVariants.{Invalidated, Snapped, Installed};
@@ -41,7 +41,8 @@ impl Model for HeldDesk {
 }
 
 impl HeldDesk {
-    /// The desk of a definition in JSON, and a caller for each of so many workers, in order.
+    /// Opens the desk of a definition in JSON, with a caller for each of this many workers, in
+    /// order.
     pub(crate) fn open(
         alloc: Global,
         definition: &[u8],
@@ -59,7 +60,7 @@ impl HeldDesk {
         Ok((HeldDesk { desk, scope }, callers))
     }
 
-    /// Shows callers the world of now.
+    /// Publishes the current state to callers.
     pub(crate) fn show(&mut self) -> Result<(), Failure>
         ensures shows { OnOk result (self.new ≡ shows self.old) }
         ensures refused { IfErr result (λ e. e ≡ no_memory) }
@@ -69,7 +70,7 @@ impl HeldDesk {
         Ok(())
     }
 
-    /// A caller's hits go to the totals.
+    /// Adds a caller's hits to the totals.
     pub(crate) fn flush(&mut self, caller: &mut HeldCaller) -> Result<(), Failure>
         ensures held { OnOk result (Holds self.old caller.old.caller.ledger) }
         ensures flushed { OnOk result (DeskFlushes self.old caller.old.caller.ledger self.new) }
@@ -82,7 +83,7 @@ impl HeldDesk {
         Ok(())
     }
 
-    /// Makes a change, and gives its answer.
+    /// Makes a change, and returns its answer.
     pub(crate) fn change(&mut self, alloc: Global, change: Change<'_>) -> Result<u64, Failure>
         ensures makes { IfOk result (MakesChange (DeskRecords self.old self.new)
             self.old.desk.book self.old.scope change.entry) }

@@ -1,4 +1,4 @@
-//! What C asks of a desk. The host orders these calls by a lock of its own.
+//! The functions of a desk. The host orders their calls by a lock of its own.
 
 ghost use Rattle.std.specs.Prelude.{◌≡◌, ◌≢◌, ◌<◌, ℕ, Some, None, length, true, IfErr, IfOk, OnErr, OnOk};
 ghost use Rattle.mh_core.specs.Installations.{kept};
@@ -28,7 +28,7 @@ use crate::value::MhlinkValue;
 use core::mem::{replace, replace_with};
 use std::alloc::Global;
 
-// The answer to a question, written to `out`, where there is one.
+// Writes the answer to a query to `out`, if there is an answer.
 fn look_up(alloc: Global, desk: &mut MhlinkDesk, question: Question<'_>, out: &mut u64) -> u32
     requires full { desk.old.full ≡ true }
     ensures full { desk.new.full ≡ true }
@@ -54,8 +54,8 @@ fn look_held(desk: MhlinkDesk, asked: (Global, Question<'_>)) -> (MhlinkDesk, Re
     (MhlinkDesk::of(held), answer)
 }
 
-// Makes a change, and writes its answer to `out`, where there is one, and else what its fault
-// leaves open to `part`.
+// Makes a change. Writes its answer to `out` if there is one, and otherwise its fault's detail to
+// `part`.
 fn make_change(
     alloc: Global,
     desk: &mut MhlinkDesk,
@@ -92,7 +92,7 @@ fn change_held(desk: MhlinkDesk, made: (Global, Change<'_>)) -> (MhlinkDesk, Res
     (MhlinkDesk::of(held), answer)
 }
 
-/// Gives a site another tree, as `mhlink_target` does: callers have it from their next look behind
+/// Replaces the tree of a site, as `mhlink_target` does. Callers use it from their next look after
 /// the next show on.
 #[unsafe(no_mangle)]
 pub extern "C" fn mhlink_desk_target(
@@ -122,8 +122,8 @@ pub extern "C" fn mhlink_desk_target(
     )
 }
 
-/// Invalidates points together and for good, as `mhlink_invalidate` does: callers know it from
-/// their next look behind the next show on.
+/// Invalidates points together and for good, as `mhlink_invalidate` does. Callers know it from
+/// their next look after the next show on.
 #[unsafe(no_mangle)]
 pub extern "C" fn mhlink_desk_invalidate(
     alloc: Global,
@@ -168,7 +168,7 @@ pub extern "C" fn mhlink_desk_snapshot(
     make_change(alloc, desk, Change::Snapshot, number, &mut part)
 }
 
-/// Makes the best plan for a snapshot and publishes it, as `mhlink_plan` does.
+/// Computes the optimal plan for a snapshot and publishes it, as `mhlink_plan` does.
 #[unsafe(no_mangle)]
 pub extern "C" fn mhlink_desk_plan(
     alloc: Global,
@@ -213,8 +213,8 @@ pub extern "C" fn mhlink_desk_offer(
     make_change(alloc, desk, Change::Offer { snapshot, plan }, number, part)
 }
 
-/// Installs the newest plan, as `mhlink_install` does: callers call through it from their next look
-/// behind the next show on.
+/// Installs the newest plan, as `mhlink_install` does. Callers call through it from their next look
+/// after the next show on.
 #[unsafe(no_mangle)]
 pub extern "C" fn mhlink_desk_install(
     alloc: Global,
@@ -249,8 +249,8 @@ fn show_held(desk: MhlinkDesk, _: ()) -> (MhlinkDesk, Result<(), Failure>)
     (MhlinkDesk::of(held), answer)
 }
 
-/// Shows callers the world of now, which each has from its next look on. Refused where memory runs
-/// out; what was shown stays.
+/// Publishes the current state to callers; each uses it from its next look on. If memory runs out,
+/// the state that was published before stays.
 #[unsafe(no_mangle)]
 pub extern "C" fn mhlink_desk_show(desk: &mut MhlinkDesk) -> u32
     requires full { desk.old.full ≡ true }
@@ -282,9 +282,9 @@ fn flush_held(
     (MhlinkDesk::of(desk), (MhlinkCaller::of(caller), answer))
 }
 
-/// Adds the hits of a caller since its last flush to the totals; the world of its last look stays.
+/// Adds the hits of a caller since its last flush to the totals. The state of its last look stays.
 ///
-/// Refused with 13 where the caller is not one of this desk, and then as `mhlink_flush` is; neither
+/// Fails with 13 if the caller is not one of this desk, and then as `mhlink_flush` does; neither
 /// changes.
 #[unsafe(no_mangle)]
 pub extern "C" fn mhlink_desk_flush(
@@ -310,7 +310,7 @@ pub extern "C" fn mhlink_desk_flush(
     status(answer)
 }
 
-/// The hits of a link by all callers, as far as they are flushed.
+/// Stores the flushed hits of a link by all callers.
 #[unsafe(no_mangle)]
 pub extern "C" fn mhlink_desk_total(
     alloc: Global,
@@ -330,7 +330,7 @@ pub extern "C" fn mhlink_desk_total(
     look_up(alloc, desk, Question::Total(link), total)
 }
 
-/// How many links a site holds by the records of now.
+/// Stores the number of links installed at a site, by the current records.
 #[unsafe(no_mangle)]
 pub extern "C" fn mhlink_desk_linked(
     alloc: Global,
@@ -351,9 +351,8 @@ pub extern "C" fn mhlink_desk_linked(
     look_up(alloc, desk, Question::Linked(site), links)
 }
 
-/// A detail of what is declared, stands or was published, which changes nothing: that of the number
-/// `detail`, of the point, site, link or plan `number`, and where it is one of several, of that at
-/// `place`.
+/// Stores the property `detail` of the point, site, link or plan `number`. `place` selects an
+/// element if the property is a list. It changes nothing.
 #[unsafe(no_mangle)]
 pub extern "C" fn mhlink_desk_detail(
     alloc: Global,
@@ -380,7 +379,7 @@ pub extern "C" fn mhlink_desk_detail(
     look_up(alloc, desk, question, told)
 }
 
-/// The number of the site of a name.
+/// Stores the number of the site with this name.
 #[unsafe(no_mangle)]
 pub extern "C" fn mhlink_desk_site(
     alloc: Global,
@@ -399,7 +398,7 @@ pub extern "C" fn mhlink_desk_site(
     look_up(alloc, desk, Question::Site(name), number)
 }
 
-/// The number of the point of a name.
+/// Stores the number of the point with this name.
 #[unsafe(no_mangle)]
 pub extern "C" fn mhlink_desk_point(
     alloc: Global,
@@ -418,7 +417,7 @@ pub extern "C" fn mhlink_desk_point(
     look_up(alloc, desk, Question::Point(name), number)
 }
 
-/// The number of the link of a site whose key is this value, with the bytes of a text.
+/// Stores the number of a site's link with this key; `text` has the bytes of a String.
 #[unsafe(no_mangle)]
 pub extern "C" fn mhlink_desk_link(
     alloc: Global,
@@ -452,7 +451,7 @@ fn used_held(desk: MhlinkDesk, _: ()) -> (MhlinkDesk, MhlinkUsed)
     (MhlinkDesk::of(held), used)
 }
 
-/// How much of a desk's history is used up, written to `used`. It is never refused.
+/// Stores the usage of a desk's history in `used`. Always succeeds.
 #[unsafe(no_mangle)]
 pub extern "C" fn mhlink_desk_used(desk: &mut MhlinkDesk, used: &mut MhlinkUsed) -> u32
     requires full { desk.old.full ≡ true }

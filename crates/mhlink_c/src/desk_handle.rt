@@ -1,4 +1,4 @@
-//! A boxed desk as its pointer, which C keeps.
+//! A boxed desk as the pointer that C keeps.
 
 ghost use Rattle.std.specs.Prelude.{◌≡◌, Bool, true, false};
 ghost use Rattle.mhlink_c.specs.Desks.{HeldDeskState, coded_held_desk};
@@ -11,8 +11,8 @@ use std::alloc::Global;
 use std::marker::Model;
 use std::ptr;
 
-/// A desk as C keeps it: a pointer. Where it is full it owns the desk, and else nothing, as one that C
-/// made. Dropped, it leaves the desk where it is.
+/// A desk as C keeps it: a pointer. If non-null, it owns the desk; one that C made is null and owns
+/// nothing. Dropping it does not drop the desk.
 #[repr(C)]
 #[derive(Drop)]
 pub struct MhlinkDesk {
@@ -27,7 +27,7 @@ impl Model for MhlinkDesk {
 }
 
 impl MhlinkDesk {
-    /// The handle of a desk.
+    /// Returns the handle of a desk.
     pub(crate) fn of(boxed: Box<HeldDesk>) -> MhlinkDesk
         ensures full { result.full ≡ true }
         ensures value { result.value ≡ boxed.value }
@@ -35,7 +35,7 @@ impl MhlinkDesk {
         MhlinkDesk::of_parts(Parts::of(boxed))
     }
 
-    /// The desk of a handle.
+    /// Returns the desk of a handle.
     pub(crate) fn into_box(self) -> Box<HeldDesk>
         requires full { self.full ≡ true }
         ensures value { result.value ≡ self.value }
@@ -43,7 +43,7 @@ impl MhlinkDesk {
         self.into_parts().into_box()
     }
 
-    /// A handle that is not full.
+    /// Returns a null handle.
     pub(crate) fn hollow(alloc: Global) -> MhlinkDesk
         ensures { result.full ≡ false }
     {

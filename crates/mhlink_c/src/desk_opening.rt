@@ -1,4 +1,4 @@
-//! Desks with their callers are opened, and each is closed by itself.
+//! Opening desks with their callers, and closing them.
 
 ghost use Rattle.std.specs.Prelude.{◌≡◌, ◌≢◌, ◌≤◌, length, map, true, IfErr, IfOk, OnErr, OnOk};
 ghost use Rattle.std.specs.List.{All};
@@ -19,11 +19,11 @@ use crate::texts::MhlinkLimits;
 use mh_share::Caller;
 use std::alloc::Global;
 
-/// Opens a desk of a definition in JSON, as `mhlink_open` opens a machine, and writes its handle to
-/// `desk`, and to `callers` a handle of a caller for each worker, 1 to 64, in order.
+/// Opens a desk for a definition in JSON, as `mhlink_open` opens a machine, and stores its handle
+/// in `desk`, and in `callers` the handle of a caller for each worker, 1 to 64, in order.
 ///
-/// Refused as `mhlink_open` is; `desk` and `callers` are left alone, and `part` gets the number of
-/// the fault's cause, or 0.
+/// Fails as `mhlink_open` does; then `desk` and `callers` are left unmodified, and `part` gets the
+/// number of the fault's cause, or 0.
 #[unsafe(no_mangle)]
 pub extern "C" fn mhlink_desk_open(
     alloc: Global,
@@ -80,7 +80,7 @@ fn open(
     Ok(MhlinkDesk::of(desk))
 }
 
-// A box of each caller, in order.
+// Boxes each caller, in order.
 fn boxed(alloc: Global, callers: Vec<Caller>) -> Result<Vec<Box<HeldCaller>>, Failure>
     ensures value { IfOk result (λ boxed. map (λ b. b.value) boxed.items
         ≡ map opened_held_caller callers.items) }
@@ -94,7 +94,7 @@ fn boxed(alloc: Global, callers: Vec<Caller>) -> Result<Vec<Box<HeldCaller>>, Fa
     Ok(boxed)
 }
 
-// The handles of boxed callers, in order.
+// Returns the handles of boxed callers, in order.
 fn hand_out(boxed: Vec<Box<HeldCaller>>, handles: &mut [MhlinkCaller])
     requires each { length boxed.items ≡ length handles.old }
     ensures handles { AreHandlesOf handles.new (map (λ b. b.value) boxed.items) }
@@ -106,8 +106,8 @@ fn hand_out(boxed: Vec<Box<HeldCaller>>, handles: &mut [MhlinkCaller])
     }
 }
 
-/// Closes a desk: all its memory goes back that no caller shares. Its callers go on by the worlds of
-/// their last looks.
+/// Closes a desk and frees all memory that no caller shares. Its callers keep the states of their
+/// last looks.
 #[unsafe(no_mangle)]
 pub extern "C" fn mhlink_desk_close(desk: MhlinkDesk)
     requires full { desk.full ≡ true }
@@ -115,8 +115,7 @@ pub extern "C" fn mhlink_desk_close(desk: MhlinkDesk)
     drop(desk.into_box());
 }
 
-/// Closes a caller: all its memory goes back that no other shares. Hits that it has not flushed are
-/// not counted any more.
+/// Closes a caller and frees all memory that nothing else shares. Its unflushed hits are lost.
 #[unsafe(no_mangle)]
 pub extern "C" fn mhlink_caller_close(caller: MhlinkCaller)
     requires full { caller.full ≡ true }

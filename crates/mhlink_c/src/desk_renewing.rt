@@ -1,4 +1,4 @@
-//! How a desk begins a new history, with all its callers.
+//! Renewals of desks with all their callers.
 
 ghost use Rattle.std.specs.Prelude.{◌≡◌, ◌≢◌, ◌<◌, ◌↔◌, ℕ, length, true, IfErr, IsTrue, OnErr, OnOk};
 ghost use Rattle.std.specs.List.{All};
@@ -20,8 +20,8 @@ use mh_share::Ledger;
 use std::alloc::Global;
 
 impl HeldDesk {
-    /// Begins a new history with all callers, in which these points are valid again, with what the
-    /// number says of the flushed hits.
+    /// Begins a new history with all callers, in which these points are valid again. The number
+    /// selects the part of the flushed hits that is kept.
     fn renew(
         &mut self,
         alloc: Global,
@@ -65,12 +65,12 @@ impl HeldDesk {
         exchange_all(alloc, callers, &mut ledgers);
         let answer = self.desk.renew_over(&mut ledgers, renewal);
         exchange_all(alloc, callers, &mut ledgers);
-        // What a book keeps is known of a book that is read.
+        // Reading a book names its invariants for the proof.
         self.desk.book().kept();
         Ok(answer?)
     }
 
-    // Whether these are the callers of all workers, in order, whose ledgers the desk holds.
+    // Returns whether these are the callers of all workers, in order, whose ledgers the desk holds.
     fn has_all(&self, alloc: Global, callers: &mut [MhlinkCaller]) -> bool
         requires full { All (λ h. h.full ≡ true) callers.old }
         ensures full { All (λ h. h.full ≡ true) callers.new }
@@ -92,7 +92,7 @@ impl HeldDesk {
         true
     }
 
-    // Whether a caller is that of this worker, whose ledger the desk holds.
+    // Returns whether a caller is that of this worker, and the desk holds its ledger.
     fn is_of(&self, alloc: Global, worker: usize, caller: &mut MhlinkCaller) -> bool
         requires full { caller.old.full ≡ true }
         ensures full { caller.new.full ≡ true }
@@ -109,7 +109,7 @@ impl HeldDesk {
     }
 }
 
-// Exchanges the ledger of each caller for the one at its place.
+// Replaces the ledger of each caller by the one with its index.
 fn exchange_all(alloc: Global, callers: &mut [MhlinkCaller], ledgers: &mut Vec<Ledger>)
     requires full { All (λ h. h.full ≡ true) callers.old }
     requires count { length ledgers.old.items ≡ length callers.old }
@@ -126,7 +126,7 @@ fn exchange_all(alloc: Global, callers: &mut [MhlinkCaller], ledgers: &mut Vec<L
     }
 }
 
-// Exchanges the ledger of a caller for another one, of as many links.
+// Replaces the ledger of a caller by one of as many links.
 fn exchange(alloc: Global, caller: &mut MhlinkCaller, ledger: &mut Ledger)
     requires full { caller.old.full ≡ true }
     requires links { length ledger.old.unflushed
@@ -141,13 +141,12 @@ fn exchange(alloc: Global, caller: &mut MhlinkCaller, ledger: &mut Ledger)
 }
 
 /// Begins a new history of a desk, as `mhlink_renew` does of a machine, with the callers of all its
-/// workers, in their order; none of them is in a call. They go on by the worlds of their last looks,
-/// and have the new one from their next look behind a show on. Hits that they have not flushed stay
-/// with them.
+/// workers, in order, none of which is in a call. They keep the states of their last looks, and use
+/// the new one from their next look after a show on. Their unflushed hits stay with them.
 ///
-/// Refused as unknown with another number of `hits`, with 13 where these are not the callers of this
-/// desk, one of each worker in order, and then as `mhlink_renew` is, where memory may run out first;
-/// the desk and the callers are as before.
+/// Fails as unknown if `hits` is another number, with 13 if these are not the callers of this desk,
+/// one of each worker in order, and then as `mhlink_renew` does, where memory may run out first;
+/// the desk and the callers do not change.
 #[unsafe(no_mangle)]
 pub extern "C" fn mhlink_desk_renew(
     alloc: Global,

@@ -1,10 +1,10 @@
-//! Numbers that C asks for, one by one.
+//! Properties that C queries, each a number.
 
 ghost use Rattle.std.specs.Prelude.{◌≡◌};
 ghost use Rattle.std.specs.List.{slice_get};
 ghost use Rattle.mhlink_c.specs.Details.{details};
 
-/// A number that stands in a book, of what it is named after.
+/// A property of a book, as a number, by the kind of item that has it.
 #[derive(Clone, Copy, Debug)]
 pub(crate) enum Detail {
     Count(CountDetail),
@@ -14,7 +14,7 @@ pub(crate) enum Detail {
     Plan(PlanDetail),
 }
 
-/// How many there are.
+/// A number of items.
 #[derive(Clone, Copy, Debug)]
 pub(crate) enum CountDetail {
     Points,
@@ -25,7 +25,7 @@ pub(crate) enum CountDetail {
 /// Of a point.
 #[derive(Clone, Copy, Debug)]
 pub(crate) enum PointDetail {
-    /// 1 where the point is valid, and 0 where it is not.
+    /// 1 if the point is valid, and 0 if it is not.
     Valid,
     Cost,
 }
@@ -34,21 +34,21 @@ pub(crate) enum PointDetail {
 #[derive(Clone, Copy, Debug)]
 pub(crate) enum SiteDetail {
     Level,
-    /// The place of the key, where the site has one.
+    /// The position of the key, if the site has one.
     Key,
     /// The kind of the result, numbered as that of a value.
     Result,
     Parameters,
-    /// The kind of the parameter at a place.
+    /// The kind of a parameter.
     Parameter,
     Links,
-    /// The link at a place, by number.
+    /// The number of a link.
     Link,
-    /// How many links it holds.
+    /// The number of links installed.
     Held,
-    /// The held link at a place, by number.
+    /// The number of an installed link.
     HeldLink,
-    /// How often it was retargeted.
+    /// The number of retargetings.
     Retargetings,
 }
 
@@ -59,9 +59,9 @@ pub(crate) enum LinkDetail {
     Weight,
     Charge,
     Needs,
-    /// The point at a place of its needs, by number.
+    /// The number of a point that it needs.
     Need,
-    /// 1 where all points that it needs are valid, and 0 where an installation leaves it out.
+    /// 1 if all points that it needs are valid, and 0 if an installation leaves it out.
     Eligible,
 }
 
@@ -69,17 +69,17 @@ pub(crate) enum LinkDetail {
 #[derive(Clone, Copy, Debug)]
 pub(crate) enum PlanDetail {
     Links,
-    /// The link at a place, by number.
+    /// The number of a link.
     Link,
     Points,
-    /// The point at a place, by number.
+    /// The number of a point.
     Point,
-    /// 1 where the site of the place was not retargeted since the plan's snapshot, and 0 where an
-    /// installation skips it.
+    /// 1 if the site was not retargeted since the plan's snapshot, and 0 if an installation skips
+    /// it.
     Current,
 }
 
-// Each detail, at the number by which C asks for it.
+// All properties, each at the index by which C selects it.
 const DETAILS: [Detail; 26] = [
     Detail::Count(CountDetail::Points),
     Detail::Count(CountDetail::Sites),
@@ -109,7 +109,7 @@ const DETAILS: [Detail; 26] = [
     Detail::Plan(PlanDetail::Current),
 ];
 
-/// The detail of a number.
+/// Returns the property of a number.
 pub(crate) fn detail_of(number: u32) -> Option<Detail>
     ensures value { result ≡ slice_get details number }
 {

@@ -1,4 +1,4 @@
-//! Details of a book, each a number.
+//! Properties of a book, each a number.
 
 ghost use Rattle.std.specs.Prelude.{◌≡◌, ◌<◌, length, option_map};
 ghost use Rattle.std.specs.List.{slice_get};
@@ -9,8 +9,8 @@ ghost use Rattle.mhlink_c.specs.Details.{count, current_at_site, kind_number as 
 use crate::detail::{CountDetail, Detail, LinkDetail, PlanDetail, PointDetail, SiteDetail};
 use mh_core::{Book, Definition, Kind, MethodType};
 
-/// A detail of a point, a site, a link or a plan, by number, and where it is one of several, of that
-/// at a place; None where there is none.
+/// Returns a property of a point, a site, a link or a plan, by number; `place` selects an element
+/// if the property is a list. Returns `None` if there is none.
 pub(crate) fn told(book: &Book, detail: Detail, number: usize, place: usize) -> Option<u64>
     ensures value { result ≡ told_of book.now detail number place }
 {
@@ -68,7 +68,7 @@ fn of_site(book: &Book, detail: SiteDetail, site: usize, place: usize) -> Option
     }
 }
 
-// The kind of the parameter at a place, by number.
+// Returns the kind of the parameter at an index, by number.
 fn parameter_at(method_type: &MethodType, place: usize) -> Option<u64>
     ensures value { result
         ≡ option_map number_of_kind (slice_get method_type.now.parameters place) }
@@ -77,12 +77,12 @@ fn parameter_at(method_type: &MethodType, place: usize) -> Option<u64>
     Some(kind_number(*kind))
 }
 
-// The number of a site's link at a place.
+// Returns the number of a site's link at an index.
 fn link_at(definition: &Definition, site: usize, place: usize) -> Option<u64>
     requires inside { site < length definition.now.sites }
     ensures value { result ≡ link_of_site definition.now site place }
 {
-    // Read for what a definition keeps.
+    // Reading it names the definition's invariants for the proof.
     let _count = definition.link_count();
     if place >= definition.links(site).len() {
         return None;
@@ -90,7 +90,7 @@ fn link_at(definition: &Definition, site: usize, place: usize) -> Option<u64>
     Some((definition.first_link(site) + place) as u64)
 }
 
-// The number of the link at a place of those that a site holds.
+// Returns the number of a site's installed link at an index.
 fn held_link_at(book: &Book, site: usize, place: usize) -> Option<u64>
     requires inside { site < length book.now.definition.sites }
     ensures value { result ≡ slice_get (kept book.now.definition book.now.records site) place }
@@ -128,7 +128,7 @@ fn of_plan(book: &Book, detail: PlanDetail, plan: usize, place: usize) -> Option
     }
 }
 
-// Whether an installation of a plan does not skip a site, as a number.
+// Returns whether an installation of a plan includes a site, as a number.
 fn is_current_at(book: &Book, plan: usize, site: usize) -> Option<u64>
     requires published { IsPublished book.now.records plan }
     ensures value { result ≡ current_at_site book.now plan site }
@@ -139,21 +139,21 @@ fn is_current_at(book: &Book, plan: usize, site: usize) -> Option<u64>
     Some(truth(book.is_current(plan, site)))
 }
 
-// A truth as a number.
+// Returns a truth value as a number.
 fn truth(is_true: bool) -> u64
     ensures value { result ≡ number_of_truth is_true }
 {
     if is_true { 1 } else { 0 }
 }
 
-// The number at a place.
+// Returns the number at an index.
 fn number_at(numbers: &[u32], place: usize) -> Option<u64>
     ensures value { result ≡ slice_get numbers.now place }
 {
     Some(u64::from(*numbers.get(place)?))
 }
 
-// The number that a kind has among those of values.
+// Returns the number of a kind of values.
 fn kind_number(kind: Kind) -> u64
     ensures value { result ≡ number_of_kind kind }
 {

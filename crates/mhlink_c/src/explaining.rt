@@ -1,4 +1,4 @@
-//! Why a text cannot be read.
+//! Explanations of why a text cannot be read.
 
 ghost use Rattle.std.specs.Prelude.{◌≡◌, ◌≢◌, None, drop, string_bytes, IfErr, IfOk, OnErr, OnOk};
 ghost use Rattle.std.specs.List.{slice_get};
@@ -12,16 +12,16 @@ use crate::failure::{Failure, status};
 use mh_explain::{InputFault, InputForm, definition_explanation, explanation};
 use std::alloc::Global;
 
-/// What a text is read as.
+/// The forms of texts.
 #[derive(Clone, Copy, Debug)]
 pub(crate) enum TextForm {
-    /// A definition that stands alone, as `mhlink_open` reads one.
+    /// A definition on its own, as `mhlink_open` reads it.
     Definition,
     /// An input of the program `mhlink`.
     Input(InputForm),
 }
 
-// Each form, at its number in C.
+// All forms, each at its number in C.
 const FORMS: [TextForm; 4] = [
     TextForm::Definition,
     TextForm::Input(InputForm::Script),
@@ -42,7 +42,7 @@ fn form_at(all: &[TextForm], place: usize) -> Option<TextForm>
     Some(*form)
 }
 
-// The lines that explain the fault of a text; any fault but NoMemory asks for them.
+// Returns the lines that explain the fault of a text. Call it for any fault but NoMemory.
 fn explained(alloc: Global, form: TextForm, text: &[u8]) -> Result<String, Failure>
     ensures value { IfOk result (λ lines. IsExplanation form text.now (string_bytes lines)) }
     ensures refused { IfErr result (λ e. e ≡ no_memory) }
@@ -54,9 +54,9 @@ fn explained(alloc: Global, form: TextForm, text: &[u8]) -> Result<String, Failu
 }
 
 /// Copies to `buffer` the lines that explain why a text cannot be read as a form, as
-/// `mhlink --explain` writes them: where its first fault is, what stands there, and why it is one.
-/// There are none where it can be read. How many bytes they are goes to `count`, also where `buffer`
-/// is too short. What stands in `buffer` behind them stays. A number of no form is unknown.
+/// `mhlink --explain` prints them: the place of its first fault, what was found there, and the
+/// reason. There are none if it can be read. `count` gets the number of bytes, also if `buffer` is
+/// too short. The rest of `buffer` is left unmodified. A number of no form is unknown.
 #[unsafe(no_mangle)]
 pub extern "C" fn mhlink_explain(
     alloc: Global,

@@ -1,4 +1,4 @@
-//! How a machine gets further points and sites.
+//! Extensions of machines by further points and sites.
 
 ghost use Rattle.std.specs.Prelude.{◌≡◌, ◌≢◌, true, IfErr, OnErr, OnOk};
 ghost use Rattle.mhlink_c.specs.Extensions.{GrowsBy, IsExtended, RefusesExtending, RefusesToGrow};
@@ -31,7 +31,7 @@ impl From<ExtensionFault> for Failure {
 }
 
 impl Host {
-    /// Begins a new history over a definition with what a text in JSON adds to that of now.
+    /// Begins a new history over the current definition with the additions of a text in JSON.
     pub(crate) fn extend(&mut self, alloc: Global, definition: &[u8]) -> Result<(), Failure>
         ensures extended { OnOk result (IsExtended self.old definition.now self.new) }
         ensures refused { IfErr result (RefusesExtending self.old definition.now) }
@@ -42,7 +42,7 @@ impl Host {
         Ok(())
     }
 
-    // What a text in JSON adds to the definition.
+    // Reads the additions of a text in JSON to the definition.
     fn further(&self, alloc: Global, definition: &[u8]) -> Result<Further, Failure>
         ensures value { Reads result (further_in self.now.runtime.book.definition
             definition.now) }
@@ -50,7 +50,7 @@ impl Host {
         read_further(alloc, self.runtime.book().definition(), definition)
     }
 
-    // Begins a new history over a definition with these points and sites.
+    // Begins a new history over a definition with these points and sites appended.
     fn grow(&mut self, further: Further) -> Result<(), Failure>
         ensures grows { OnOk result (GrowsBy self.old further self.new) }
         ensures refused { IfErr result (RefusesToGrow self.old further) }
@@ -61,7 +61,7 @@ impl Host {
             sites,
             scope,
         } = further;
-        // Read for what a runtime keeps, and then a book.
+        // Reading it names the runtime's invariants for the proof, and then those of a book.
         let _book = self.runtime.book();
         self.runtime.extend(points, sites)?;
         self.runtime.book().kept();
@@ -87,18 +87,18 @@ fn extend_held(
     (MhlinkMachine::of(host), answer)
 }
 
-/// Gives a machine further points and sites, which stand behind those that it has, and begins a new
-/// history, as `mhlink_renew` does. The text has `points`, `sites`, and where it likes `shared`, as
-/// a definition of version 2. Its trees may name and invoke what the machine has, and its sites those
-/// before them. The shared trees of the text are named from then on, and no earlier ones.
+/// Appends points and sites to a machine's definition, and begins a new history, as `mhlink_renew`
+/// does. The text has the keys `points`, `sites` and, optionally, `shared`, as a definition of
+/// version 2. Its trees may name and invoke the machine's points and sites, and its sites those
+/// before them. Later trees may name the shared trees of this text, and no earlier ones.
 ///
 /// The handle, names, and the numbers of sites, points and links stay, each site's calls mean what
-/// they meant, points are valid that were, and the new ones are valid. All hits go on counting, and
-/// those that were not flushed stay so. No site holds a link, and snapshots and plans are numbered
-/// from 1 again. The text of the last call stays.
+/// they meant, the same points are valid, and the new ones are valid. All hits are kept, and
+/// unflushed ones stay unflushed. No site holds a link, and snapshots and plans are numbered from 1
+/// again. The text of the last call stays.
 ///
-/// Refused as `mhlink_open` is with the text, then where the limit of the history is not above the
-/// number of workers, with the fault of the longer definition, and where memory runs out. `part`
+/// Fails as `mhlink_open` does for the text, then if the limit of the history does not exceed the
+/// number of workers, then with the fault of the longer definition, or if memory runs out. `part`
 /// gets the number of the fault's cause, or 0.
 #[unsafe(no_mangle)]
 pub extern "C" fn mhlink_extend(

@@ -1,4 +1,4 @@
-//! Why an export did nothing, and the numbers that C gets for it.
+//! Why an exported function failed, and the status that C gets for it.
 
 ghost use Rattle.std.specs.Prelude.{◌≡◌, ◌≢◌, ◌≤◌, IfErr, IfOk, OnErr, OnOk};
 ghost use Rattle.mhlink_c.specs.Statuses.{input_number as number_of_input, input_part as part_of_input, part_of, status_of};
@@ -7,28 +7,29 @@ use mh_core::{NoMemory, ProblemFault, Refusal};
 use mh_json::{Fault as TextualFault, InputFault, Misread, TextFault};
 use std::alloc::{AllocError, AllocFailed};
 
-/// Why an export did nothing.
+/// Why an exported function failed.
 #[derive(Clone, Copy, Debug)]
 pub(crate) enum Failure {
-    /// The machine refused.
+    /// The machine rejected the event.
     Refused(Refusal),
-    /// A text that was passed in has a fault.
+    /// A text has a fault.
     Input(InputFault),
-    /// Rows and costs are no problem.
+    /// The links and costs do not make a problem.
     Problem(ProblemFault),
-    /// A name or a number of nothing that is there.
+    /// There is no such name, key or number.
     Unknown,
     /// The caller's buffer is too short.
     Short,
-    /// A value of no kind, out of its kind's range, or whose text is not passed.
+    /// An unknown kind, a number out of its kind's range, or a text that is longer than the bytes
+    /// that are passed.
     BadValue,
     /// A limit, or the number of workers, is out of its range.
     BadLimits,
 }
 
 impl Failure {
-    /// The number that C gets, never 0: a refusal's own, 100 and an input fault's, 200 and a fault
-    /// of a problem, and 301 to 304.
+    /// Returns the status, never 0: the rejection's own number, 100 plus an input fault's, 200 plus
+    /// a problem fault's, and 301 to 304.
     #[tactic(auto, using(crate::proofs::Statuses::some_number))]
     pub(crate) fn number(self) -> u32
         ensures value { result ≡ status_of self }
@@ -45,7 +46,8 @@ impl Failure {
         }
     }
 
-    /// What the number leaves open: the number of the cause, the newest plan, or 0.
+    /// Returns the detail that the status leaves open: the number of the cause, the newest plan, or
+    /// 0.
     pub(crate) fn part(self) -> u64
         ensures value { result ≡ part_of self }
     {
@@ -58,7 +60,7 @@ impl Failure {
     }
 }
 
-// The number under "Faults of inputs" of docs/FAULTS.md.
+// Returns the number under "Faults of inputs" of docs/FAULTS.md.
 fn input_number(fault: InputFault) -> u32
     ensures value { result ≡ number_of_input fault }
     ensures few { result ≤ 16 }
@@ -81,7 +83,7 @@ fn input_number(fault: InputFault) -> u32
     }
 }
 
-// The number of the cause of an input's fault, or 0.
+// Returns the number of the cause of an input's fault, or 0.
 fn input_part(fault: InputFault) -> u64
     ensures value { result ≡ part_of_input fault }
 {
@@ -191,7 +193,7 @@ impl From<ProblemFault> for Failure {
     }
 }
 
-/// The status of an answer: 0, or the fault's number.
+/// Returns the status of a result: 0, or the fault's number.
 pub(crate) fn status<T: Drop>(answer: Result<T, Failure>) -> u32
     ensures ok { OnOk answer (result ≡ 0) }
     ensures refused { OnErr answer (result ≢ 0) }
@@ -203,7 +205,7 @@ pub(crate) fn status<T: Drop>(answer: Result<T, Failure>) -> u32
     }
 }
 
-/// The status of an answer; what its fault leaves open is written to `part`, and else 0.
+/// Returns the status of a result; `part` gets the detail of its fault, or 0.
 pub(crate) fn write_part<T: Drop>(answer: Result<T, Failure>, part: &mut u64) -> u32
     ensures ok { OnOk answer (result ≡ 0) }
     ensures no_part { OnOk answer (part.new ≡ 0) }
@@ -223,7 +225,7 @@ pub(crate) fn write_part<T: Drop>(answer: Result<T, Failure>, part: &mut u64) ->
     }
 }
 
-/// The same, where the answer is written to `out`.
+/// Does the same, and writes the answer to `out`.
 pub(crate) fn write_change(answer: Result<u64, Failure>, out: &mut u64, part: &mut u64) -> u32
     ensures ok { OnOk answer (result ≡ 0) }
     ensures answer { IfOk answer (λ n. out.new ≡ n) }
@@ -239,7 +241,7 @@ pub(crate) fn write_change(answer: Result<u64, Failure>, out: &mut u64, part: &m
     write_part(answer, part)
 }
 
-/// The status of an answer, which is written to `out` where there is one.
+/// Returns the status of a result, and writes the answer, if there is one, to `out`.
 pub(crate) fn write_answer(answer: Result<u64, Failure>, out: &mut u64) -> u32
     ensures ok { OnOk answer (result ≡ 0) }
     ensures answer { IfOk answer (λ n. out.new ≡ n) }

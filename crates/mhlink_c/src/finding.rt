@@ -1,4 +1,4 @@
-//! The numbers of names and keys.
+//! Numbers of names and keys.
 
 ghost use Rattle.std.specs.Prelude.{◌≡◌, ◌<◌, ℕ, length, slice_index_or, IfErr, IfOk, IfNone, IfSome};
 ghost use Rattle.mh_core.specs.Defined.{no_link};
@@ -9,7 +9,7 @@ use crate::failure::Failure;
 use mh_core::{Definition, Link, Value};
 use mh_type::same_value;
 
-/// The number of the site of this name.
+/// Returns the number of the site with this name.
 pub(crate) fn site_number(definition: &Definition, name: &[u8]) -> Result<u64, Failure>
     ensures value { IfOk result (IsSite definition.now name.now) }
     ensures unknown { IfErr result (λ e. (e ≡ Unknown)
@@ -23,7 +23,7 @@ pub(crate) fn site_number(definition: &Definition, name: &[u8]) -> Result<u64, F
     Err(Failure::Unknown)
 }
 
-/// The number of the point of this name.
+/// Returns the number of the point with this name.
 pub(crate) fn point_number(definition: &Definition, name: &[u8]) -> Result<u64, Failure>
     ensures value { IfOk result (IsPoint definition.now name.now) }
     ensures unknown { IfErr result (λ e. (e ≡ Unknown)
@@ -37,7 +37,7 @@ pub(crate) fn point_number(definition: &Definition, name: &[u8]) -> Result<u64, 
     Err(Failure::Unknown)
 }
 
-/// The number of the link of a site whose key is this value.
+/// Returns the number of a site's link with this key.
 pub(crate) fn link_number(definition: &Definition, site: usize, key: &Value) -> Result<u64, Failure>
     ensures value { IfOk result (IsLink definition.now site key.now) }
     ensures unknown { IfErr result (λ e. (e ≡ Unknown) × HasNoLink definition.now site key.now) }
@@ -45,7 +45,7 @@ pub(crate) fn link_number(definition: &Definition, site: usize, key: &Value) -> 
     if site >= definition.sites().len() {
         return Err(Failure::Unknown);
     }
-    // Read for what a definition keeps.
+    // Reading it names the definition's invariants for the proof.
     let _count = definition.link_count();
     match place_of(definition.links(site), key) {
         Some(place) => Ok((definition.first_link(site) + place) as u64),
@@ -53,7 +53,7 @@ pub(crate) fn link_number(definition: &Definition, site: usize, key: &Value) -> 
     }
 }
 
-// The place of the first link with this key.
+// Returns the index of the first link with this key.
 fn place_of(links: &[Link], key: &Value) -> Option<usize>
     ensures inside { IfSome result (λ k. k < length links.now) }
     ensures key { IfSome result (λ k. (slice_index_or links.now k no_link).when ≡ key.now) }

@@ -1,4 +1,4 @@
-//! The planner over arrays, with the flow that shows its choice to be best.
+//! The planner over arrays, with the flow that proves its selection optimal.
 
 ghost use Rattle.std.specs.Prelude.{◌≡◌, ◌≢◌, ◌⊎◌, ◌<◌, All, IfErr, IfOk, OnOk, drop, length};
 ghost use Rattle.mh_base.specs.Tests.{Passes};
@@ -18,12 +18,12 @@ use mh_core::Plan;
 use mh_network::amounts_are_within_gains;
 use std::alloc::Global;
 
-/// Chooses links as `mhlink_plan_problem` does, and returns more of the plan: the points that the
-/// links need, and the flow that shows that no links are worth more. What each link pays of its
-/// charge goes to `paid`, what is given for each need to `given`, where the need stands in `needs`
-/// (of a need that several links have, what they give together), and what each point gets to
-/// `gets`. What stands in an array behind them stays. Where the status is not 0, nothing is written
-/// but `count` and `points_count`, and these where an array is too short.
+/// Selects links as `mhlink_plan_problem` does, and stores more of the plan: the points that the
+/// links need, and the flow that proves that no links are worth more. `paid` gets the amount that
+/// each link pays of its charge, `given` the amount that is sent for each need, at the need's index
+/// in `needs` (if several links share a need there, the sum of their amounts), and `gets` the
+/// amount that each point gets. The rest of each array is left unmodified. If the status is not 0,
+/// nothing is stored but `count` and `points_count`, and these only if an array is too short.
 #[unsafe(no_mangle)]
 pub extern "C" fn mhlink_plan_problem_flow(
     alloc: Global,
@@ -98,7 +98,7 @@ struct PlanFlow {
     gets: Vec<u64>,
 }
 
-// The plan of a problem from arrays, with the amounts of its flow.
+// Plans a problem from arrays, and returns the amounts of its flow.
 fn plan_with_flow(
     alloc: Global,
     costs: &[u64],

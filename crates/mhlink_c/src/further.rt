@@ -1,4 +1,4 @@
-//! What a text in JSON adds to a definition.
+//! The additions of a text in JSON to a definition.
 
 ghost use Rattle.std.specs.Prelude.{◌≡◌, fold, IfErr, IfOk};
 ghost use Rattle.serde_json.specs.View.{view};
@@ -18,8 +18,7 @@ use mh_site::{Names, Version};
 use serde_json::Value;
 use std::alloc::{AllocError, Global};
 
-/// Points and sites that are to stand behind those of a definition, and the names that trees may use
-/// from then on.
+/// Points and sites to be appended to a definition, and the names that later trees may use.
 #[derive(Drop)]
 pub(crate) struct Further {
     /// The points.
@@ -30,7 +29,7 @@ pub(crate) struct Further {
     pub(crate) scope: Scope,
 }
 
-/// What a text in JSON adds to a definition.
+/// The additions of a text in JSON to a definition.
 pub(crate) fn read_further(
     alloc: Global,
     definition: &Definition,
@@ -42,7 +41,7 @@ pub(crate) fn read_further(
     Ok(read_value(alloc, definition, &value)?)
 }
 
-// What a JSON value adds to a definition.
+// Reads the additions of a JSON value to a definition.
 fn read_value(alloc: Global, definition: &Definition, value: &Value) -> Result<Further, Misread>
     ensures value { Gives (λ x. x) result (further_of definition.now (view value.now)) }
 {
@@ -61,8 +60,8 @@ fn read_value(alloc: Global, definition: &Definition, value: &Value) -> Result<F
     })
 }
 
-// The names that the first site may use: of all points, of the shared trees, and of the sites of the
-// definition.
+// Returns the names that the first site may use: of all points, of the shared trees, and of the
+// sites of the definition.
 fn scope_over(
     alloc: Global,
     definition: &Definition,
@@ -78,7 +77,7 @@ fn scope_over(
     Ok(scope)
 }
 
-// The names of points, and then of these.
+// Returns the names of points, followed by these.
 fn names_of_all(alloc: Global, own: &[Point], more: &[Point]) -> Result<Names, AllocError>
     ensures value { IfOk result (λ names. names ≡ all_names own.now more.now) }
 {
@@ -89,7 +88,7 @@ fn names_of_all(alloc: Global, own: &[Point], more: &[Point]) -> Result<Names, A
     Ok(names)
 }
 
-// The names, and then those of these sites.
+// Returns the names, followed by those of these sites.
 fn with_sites(scope: Scope, sites: &[Site]) -> Result<Scope, Misread>
     ensures value { IfOk result (λ all. all ≡ fold with_site scope sites.now) }
     ensures refused { IfErr result (λ e. e.fault ≡ NoMemory) }

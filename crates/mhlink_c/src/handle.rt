@@ -1,4 +1,4 @@
-//! A boxed host as its pointer, which C keeps.
+//! A boxed host as the pointer that C keeps.
 
 ghost use Rattle.std.specs.Prelude.{◌≡◌, Bool, true};
 ghost use Rattle.mhlink_c.specs.Hosts.{HostState, coded_host};
@@ -10,8 +10,8 @@ use mh_parts::Parts;
 use std::alloc::Global;
 use std::marker::Model;
 
-/// A machine as C keeps it: a pointer. Where it is full it owns the machine, and else nothing, as
-/// one that C made. Dropped, it leaves the machine where it is.
+/// A machine as C keeps it: a pointer. If non-null, it owns the machine; one that C made is null
+/// and owns nothing. Dropping it does not drop the machine.
 #[repr(C)]
 #[derive(Drop)]
 pub struct MhlinkMachine {
@@ -26,7 +26,7 @@ impl Model for MhlinkMachine {
 }
 
 impl MhlinkMachine {
-    /// The handle of a host.
+    /// Returns the handle of a host.
     pub(crate) fn of(boxed: Box<Host>) -> MhlinkMachine
         ensures full { result.full ≡ true }
         ensures value { result.value ≡ boxed.value }
@@ -34,7 +34,7 @@ impl MhlinkMachine {
         MhlinkMachine::of_parts(Parts::of(boxed))
     }
 
-    /// The host of a handle.
+    /// Returns the host of a handle.
     pub(crate) fn into_box(self) -> Box<Host>
         requires full { self.full ≡ true }
         ensures value { result.value ≡ self.value }

@@ -1,4 +1,4 @@
-//! What is asked of, and recorded by, the machine that a handle holds.
+//! Queries and changes of the machine that a handle owns.
 
 ghost use Rattle.std.specs.Prelude.{◌≡◌, ◌≢◌, true, IfErr, IfOk, OnErr, OnOk};
 ghost use Rattle.mhlink_c.specs.Changes.{MakesChange, RefusesChange};
@@ -14,7 +14,7 @@ use crate::request::{Change, Question};
 use core::mem::replace_with;
 use std::alloc::Global;
 
-/// The answer to a question, written to `out`, where there is one.
+/// Writes the answer to a query to `out`, if there is an answer.
 pub(crate) fn look_up(
     alloc: Global,
     machine: &mut MhlinkMachine,
@@ -49,8 +49,8 @@ fn look_held(
     (MhlinkMachine::of(host), answer)
 }
 
-/// Makes a change, and writes its answer to `out`, where there is one, and else what its fault
-/// leaves open to `part`.
+/// Makes a change. Writes its answer to `out` if there is one, and otherwise its fault's detail to
+/// `part`.
 pub(crate) fn make_change(
     alloc: Global,
     machine: &mut MhlinkMachine,

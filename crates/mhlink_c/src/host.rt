@@ -1,5 +1,5 @@
-//! What a handle leads to: a runtime, the names that its definition declares, and the text that the
-//! last call gave.
+//! The value behind a machine's handle: a runtime, the names that its definition declares, and the
+//! text that the last call returned.
 
 ghost use Rattle.std.specs.Prelude.{◌≡◌, ◌≤◌, Some, None, vec_capacity, IfErr, IfOk, OnErr};
 ghost use Rattle.mh_type.specs.Limits.{most_parameters};
@@ -46,7 +46,7 @@ impl Model for Host {
     ghost invariant = { λ h. most_parameters ≤ vec_capacity h.arguments };
 }
 
-// The limits, where each and the number of workers is in its range.
+// Returns the limits, if each and the number of workers is in its range.
 pub(crate) fn limits_for(workers: usize, given: &MhlinkLimits) -> Result<Limits, Failure>
     ensures value { IfOk result (λ l. (l ≡ limits_of given.now) × AreLimits workers given.now) }
     ensures bad { IfErr result (λ e. (AreLimits workers given.now → ⊥) × (e ≡ BadLimits)) }
@@ -58,7 +58,7 @@ pub(crate) fn limits_for(workers: usize, given: &MhlinkLimits) -> Result<Limits,
     Ok(limits)
 }
 
-// Room for the arguments of any call.
+// Returns a list with room for the arguments of any call.
 pub(crate) fn room_for_arguments(alloc: Global) -> Result<Vec<Value>, Failure>
     ensures room { IfOk result (λ v. most_parameters ≤ vec_capacity v) }
     ensures refused { IfErr result (λ e. e ≡ no_memory) }
@@ -67,7 +67,7 @@ pub(crate) fn room_for_arguments(alloc: Global) -> Result<Vec<Value>, Failure>
 }
 
 impl Host {
-    /// The host of a definition in JSON.
+    /// Opens the host of a definition in JSON.
     pub(crate) fn open(
         alloc: Global,
         definition: &[u8],
@@ -85,7 +85,8 @@ impl Host {
         Ok(Host::over(runtime, scope, arguments))
     }
 
-    // The host of a runtime and of the names of its definition, with room for the arguments of calls.
+    // Makes the host of a runtime and of the names of its definition, with room for the arguments
+    // of calls.
     pub(crate) fn over(runtime: Runtime, scope: Scope, arguments: Vec<Value>) -> Host
         requires room { most_parameters ≤ vec_capacity arguments }
         ensures value { result ≡ record { runtime = runtime; scope = scope; given = None } }
@@ -98,7 +99,7 @@ impl Host {
         }
     }
 
-    /// What a worker's call of a site gives. A text is kept until the next call.
+    /// Calls a site as a worker. A text is kept until the next call.
     pub(crate) fn call(
         &mut self,
         alloc: Global,
@@ -125,7 +126,7 @@ impl Host {
         Ok(reply)
     }
 
-    /// Another owner of the text that the last call gave.
+    /// Returns another owner of the text that the last call returned.
     pub(crate) fn text(&self) -> Result<Text, Failure>
         ensures value { IfOk result (λ text. self.now.given ≡ Some text) }
         ensures refused { IfErr result (HasNoText self.now.given) }

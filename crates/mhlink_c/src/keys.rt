@@ -1,4 +1,4 @@
-//! The keys of links, as C reads them.
+//! Keys of links for C.
 
 ghost use Rattle.std.specs.Prelude.{◌≡◌, ◌≢◌, ◌⊎◌, Ok, Err, drop, true, IfErr, IfOk, OnOk};
 ghost use Rattle.mh_core.specs.Value.{Value as AnyValue};
@@ -17,7 +17,7 @@ use crate::value::MhlinkValue;
 use core::mem::replace_with;
 use mh_core::{Book, NoMemory, Value};
 
-// The key of a link, with another owner.
+// Returns the key of a link, with another owner.
 fn key_of(book: &Book, link: usize) -> Result<Value, Failure>
     ensures value { IfOk result (λ x. x ≡ key_of_link book.now.definition link) }
     ensures inside { OnOk result (IsLinkOf book.now.definition link) }
@@ -30,7 +30,7 @@ fn key_of(book: &Book, link: usize) -> Result<Value, Failure>
     key.share().map_err(|_| Failure::from(NoMemory))
 }
 
-// What C gets of a value beside the bytes of a text.
+// Returns the value for C, without the bytes of a text.
 fn shown(value: &Value) -> MhlinkValue
     ensures kind { result.kind ≡ value_kind value.now }
     ensures number { result.number ≡ value_number value.now }
@@ -44,7 +44,7 @@ fn shown(value: &Value) -> MhlinkValue
     MhlinkValue { kind, number }
 }
 
-// The bytes of a text, and none of another value.
+// Returns the bytes of a text, and none for another value.
 fn bytes_of(value: &Value) -> &[u8]
     ensures value { result.now ≡ bytes_of_value value.now }
 {
@@ -54,7 +54,7 @@ fn bytes_of(value: &Value) -> &[u8]
     }
 }
 
-// Writes a key, where there is one and its bytes fit the buffer.
+// Writes a key, if there is one and its bytes fit the buffer.
 fn write_key(
     answer: Result<Value, Failure>,
     key: &mut MhlinkValue,
@@ -96,8 +96,8 @@ fn key_held(machine: MhlinkMachine, link: usize) -> (MhlinkMachine, Result<Value
     (MhlinkMachine::of(host), key)
 }
 
-/// The key of a link, which `mhlink_link` finds it by: its value, and of a text the bytes, which go
-/// to the buffer, and their count, also where the buffer is too short.
+/// Stores the key of a link, by which `mhlink_link` finds it. The bytes of a String are copied to
+/// the buffer, and their number is stored, also if the buffer is too short.
 #[unsafe(no_mangle)]
 pub extern "C" fn mhlink_key(
     machine: &mut MhlinkMachine,
@@ -137,7 +137,7 @@ fn key_of_desk(desk: MhlinkDesk, link: usize) -> (MhlinkDesk, Result<Value, Fail
     (MhlinkDesk::of(held), key)
 }
 
-/// The key of a link, as `mhlink_key` has it.
+/// Stores the key of a link, as `mhlink_key` does.
 #[unsafe(no_mangle)]
 pub extern "C" fn mhlink_desk_key(
     desk: &mut MhlinkDesk,

@@ -1,9 +1,9 @@
 //! The runtime for C: a static library, whose header is `mhlink.h`.
 //!
-//! C keeps a machine as a struct of one pointer. Nothing checks a C caller: it passes a struct that
-//! `mhlink_open` filled, to one call at a time, and to none after `mhlink_close`. Every answer is a
-//! status, 0 or the number of what is wrong (`Failure::number`); after any other than 0 the machine
-//! is as before.
+//! C keeps a machine as a struct of one pointer. The library does not validate its arguments: the
+//! caller passes a struct that `mhlink_open` filled, to one call at a time, and to none after
+//! `mhlink_close`. Every function returns a status, 0 or an error code (`Failure::number`); after
+//! an error the machine is unchanged.
 #![tactic(auto)]
 
 mod amounts;

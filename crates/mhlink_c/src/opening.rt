@@ -1,4 +1,4 @@
-//! Machines are opened and closed.
+//! Opening and closing machines.
 
 ghost use Rattle.std.specs.Prelude.{◌≡◌, ◌≢◌, true, IfErr, IfOk};
 ghost use Rattle.mhlink_c.specs.Opening.{Opens, RefusesOpening, opened_host};
@@ -11,7 +11,7 @@ use crate::host::Host;
 use crate::texts::MhlinkLimits;
 use std::alloc::Global;
 
-/// The version of these calls: 1.
+/// Returns the version of these functions: 1.
 #[unsafe(no_mangle)]
 pub extern "C" fn mhlink_version() -> u32
     ensures value { result ≡ 1 }
@@ -19,12 +19,12 @@ pub extern "C" fn mhlink_version() -> u32
     1
 }
 
-/// Opens a machine of a definition in JSON, as a script's `definition`, with 1 to 64 workers, and
-/// writes its handle to `machine`.
+/// Opens a machine for a definition in JSON, as a script's `definition`, with 1 to 64 workers, and
+/// stores its handle in `machine`.
 ///
-/// Refused where a limit or the number of workers is out of its range, and then with the fault of
-/// the definition, or for memory: `machine` is left alone, and `part` gets the number of the fault's
-/// cause, or 0.
+/// Fails if a limit or the number of workers is out of its range, then with the fault of the
+/// definition, or for lack of memory; then `machine` is left unmodified, and `part` gets the number
+/// of the fault's cause, or 0.
 #[unsafe(no_mangle)]
 pub extern "C" fn mhlink_open(
     alloc: Global,
@@ -71,7 +71,7 @@ fn open(
     Ok(MhlinkMachine::of(boxed))
 }
 
-/// Closes a machine: all its memory goes back.
+/// Closes a machine and frees all its memory.
 #[unsafe(no_mangle)]
 pub extern "C" fn mhlink_close(machine: MhlinkMachine)
     requires full { machine.full ≡ true }

@@ -16,29 +16,30 @@ use mh_core::{LinkRow, Listing, Plan, Problem};
 use mh_plan::plan_alone;
 use std::alloc::Global;
 
-/// A link of a problem: what it gains and costs alone, whether it may be chosen, and which of the
-/// needs are its own: `count` of them from `first`.
+/// A link of a problem: its gain, its charge, whether it is eligible, and which of the needs are
+/// its own: `count` of them from index `first`.
 #[repr(C)]
 #[derive(Clone, Copy, Debug)]
 pub struct MhlinkLink {
-    /// What it gains.
+    /// The gain.
     pub gain: u64,
-    /// What it alone costs.
+    /// The charge.
     pub charge: u64,
-    /// Its first need.
+    /// The index of its first need.
     pub first: usize,
     /// The number of its needs.
     pub count: usize,
-    /// 0 where it may not be chosen.
+    /// 0 if it must not be selected.
     pub eligible: u32,
 }
 
-/// Chooses the links that are worth most, of such the fewest: their gains less their charges and
-/// the costs of the points that they need, which they share. There are at most 2^20 links, and as
-/// many points, any of which a link may need. Needs are numbers of points, those of a link
-/// ascending. The numbers of the links are copied to `chosen`, how many they are to `count`, also
-/// where `chosen` is too short, and what they are worth to `value`. Where the status is not 0,
-/// `chosen` and `value` are left alone, and so is what stands in `chosen` behind the links.
+/// Computes an optimal selection of links, among optimal selections the one with the fewest links:
+/// the value is their gains less their charges and the costs of the points that they need, each
+/// cost counted once. There are at most 2^20 links and as many points, any of which a link may
+/// need. Needs are numbers of points, ascending for each link. The numbers of the links are copied
+/// to `chosen`, their number is stored in `count`, also if `chosen` is too short, and their worth
+/// in `value`. If the status is not 0, `chosen` and `value` are left unmodified, and so is the rest
+/// of `chosen`.
 #[unsafe(no_mangle)]
 pub extern "C" fn mhlink_plan_problem(
     alloc: Global,
@@ -95,7 +96,7 @@ fn choose(
     Ok(())
 }
 
-/// The plan of the best links, of such the fewest.
+/// Computes the optimal plan with the fewest links.
 pub(crate) fn best_plan(
     alloc: Global,
     costs: &[u64],

@@ -1,4 +1,4 @@
-//! What C reads of a machine: numbers of names, hits, and texts.
+//! Queries of a machine: numbers of names, hits, and texts.
 
 ghost use Rattle.std.specs.Prelude.{◌≡◌, ◌≢◌, ◌⊎◌, ◌<◌, ℕ, List, Some, None, drop, length, string_bytes, true, IfErr, IfOk, OnOk};
 ghost use Rattle.mh_core.specs.Installations.{kept};
@@ -24,7 +24,7 @@ use core::mem::replace_with;
 use mh_core::Text;
 use std::alloc::Global;
 
-/// The number of the site of a name.
+/// Stores the number of the site with this name.
 #[unsafe(no_mangle)]
 pub extern "C" fn mhlink_site(
     alloc: Global,
@@ -43,7 +43,7 @@ pub extern "C" fn mhlink_site(
     look_up(alloc, machine, Question::Site(name), number)
 }
 
-/// The number of the point of a name.
+/// Stores the number of the point with this name.
 #[unsafe(no_mangle)]
 pub extern "C" fn mhlink_point(
     alloc: Global,
@@ -63,7 +63,7 @@ pub extern "C" fn mhlink_point(
     look_up(alloc, machine, Question::Point(name), number)
 }
 
-/// The number of the link of a site whose key is this value, with the bytes of a text.
+/// Stores the number of a site's link with this key; `text` has the bytes of a String.
 #[unsafe(no_mangle)]
 pub extern "C" fn mhlink_link(
     alloc: Global,
@@ -104,7 +104,7 @@ fn hits_held(machine: MhlinkMachine, asked: (u32, usize)) -> (MhlinkMachine, Res
     (MhlinkMachine::of(host), hits)
 }
 
-/// The hits of a link by a worker's calls since its last flush.
+/// Stores the hits of a link by a worker's calls since its last flush.
 #[unsafe(no_mangle)]
 pub extern "C" fn mhlink_hits(
     machine: &mut MhlinkMachine,
@@ -127,7 +127,7 @@ pub extern "C" fn mhlink_hits(
     write_answer(replace_with(machine, (worker, link), hits_held), hits)
 }
 
-/// The hits of a link by all workers, as far as they have flushed.
+/// Stores the flushed hits of a link by all workers.
 #[unsafe(no_mangle)]
 pub extern "C" fn mhlink_total(
     alloc: Global,
@@ -148,7 +148,7 @@ pub extern "C" fn mhlink_total(
     look_up(alloc, machine, Question::Total(link), total)
 }
 
-/// How many links a site holds: 0 where its calls run its base tree.
+/// Stores the number of links installed at a site: 0 if its calls run its base tree.
 #[unsafe(no_mangle)]
 pub extern "C" fn mhlink_linked(
     alloc: Global,
@@ -169,9 +169,8 @@ pub extern "C" fn mhlink_linked(
     look_up(alloc, machine, Question::Linked(site), links)
 }
 
-/// A detail of what is declared, stands or was published, which changes nothing: that of the number
-/// `detail`, of the point, site, link or plan `number`, and where it is one of several, of that at
-/// `place`.
+/// Stores the property `detail` of the point, site, link or plan `number`. `place` selects an
+/// element if the property is a list. It changes nothing.
 #[unsafe(no_mangle)]
 pub extern "C" fn mhlink_detail(
     alloc: Global,
@@ -198,7 +197,7 @@ pub extern "C" fn mhlink_detail(
     look_up(alloc, machine, question, told)
 }
 
-// Another owner of the text that the last call gave.
+// Returns another owner of the text that the last call returned.
 fn text_held(machine: MhlinkMachine, _: ()) -> (MhlinkMachine, Result<Text, Failure>)
     requires full { machine.full ≡ true }
     ensures full { result.0.full ≡ true }
@@ -211,9 +210,9 @@ fn text_held(machine: MhlinkMachine, _: ()) -> (MhlinkMachine, Result<Text, Fail
     (MhlinkMachine::of(host), text)
 }
 
-/// Copies the text that the last call gave, and writes to `length` how many bytes it has, also where
-/// the buffer is too short. There is one after a call whose reply is of the kind of texts, until
-/// the next call. What stands in the buffer behind the text stays.
+/// Copies the text that the last call returned, and stores its number of bytes in `length`, also if
+/// the buffer is too short. There is a text after a call whose reply is a String, until the next
+/// call. The rest of the buffer is left unmodified.
 #[unsafe(no_mangle)]
 pub extern "C" fn mhlink_text(
     machine: &mut MhlinkMachine,
@@ -238,7 +237,7 @@ pub extern "C" fn mhlink_text(
     }
 }
 
-// The certificate of the best plan for a snapshot.
+// Returns the certificate of the optimal plan for a snapshot.
 fn certificate_held(
     machine: MhlinkMachine,
     asked: (Global, usize),
@@ -256,9 +255,9 @@ fn certificate_held(
     (MhlinkMachine::of(host), certificate)
 }
 
-/// Copies the best plan for a snapshot with the flow that shows it to be best, as JSON for
-/// `mhlink_offer` and `mhlink check`, and writes to `length` how many bytes it has, also where the
-/// buffer is too short. What stands in the buffer behind it stays.
+/// Copies the optimal plan for a snapshot with the flow that proves it optimal, as JSON for
+/// `mhlink_offer` and `mhlink check`, and stores its number of bytes in `length`, also if the
+/// buffer is too short. The rest of the buffer is left unmodified.
 #[unsafe(no_mangle)]
 pub extern "C" fn mhlink_certificate(
     alloc: Global,
@@ -285,7 +284,7 @@ pub extern "C" fn mhlink_certificate(
     }
 }
 
-// The report of a machine.
+// Returns the report of a machine.
 fn report_held(machine: MhlinkMachine, alloc: Global) -> (MhlinkMachine, Result<String, Failure>)
     requires full { machine.full ≡ true }
     ensures full { result.0.full ≡ true }
@@ -298,9 +297,9 @@ fn report_held(machine: MhlinkMachine, alloc: Global) -> (MhlinkMachine, Result<
     (MhlinkMachine::of(host), report)
 }
 
-/// Copies a line for each point, site and link, as `mhlink run --report` writes them, and writes
-/// to `length` how many bytes they have, also where the buffer is too short. What stands in the buffer
-/// behind them stays.
+/// Copies a line for each point, site and link, as `mhlink run --report` prints them, and stores
+/// their number of bytes in `length`, also if the buffer is too short. The rest of the buffer is
+/// left unmodified.
 #[unsafe(no_mangle)]
 pub extern "C" fn mhlink_report(
     alloc: Global,

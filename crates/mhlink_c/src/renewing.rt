@@ -1,4 +1,4 @@
-//! How much of a history is used up, and how a new one begins.
+//! The usage of histories, and renewals.
 
 ghost use Rattle.std.specs.Prelude.{◌≡◌, ◌≢◌, true, length, IfErr, IfOk, OnErr, OnOk};
 ghost use Rattle.mh_core.specs.Records.{plans, snapshots};
@@ -14,8 +14,8 @@ use crate::host::Host;
 use core::mem::replace_with;
 use mh_core::{Book, OldHits, Renewal};
 
-/// How much of a history is used up: its records, of which there are at most as many as the limit
-/// of the history allows, its snapshots and its plans, at most 1,024 of each.
+/// The usage of a history: its records, at most as many as the limit of the history allows, its
+/// snapshots and its plans, at most 1,024 of each.
 #[repr(C)]
 #[derive(Clone, Copy, Debug)]
 pub struct MhlinkUsed {
@@ -27,7 +27,7 @@ pub struct MhlinkUsed {
     pub plans: u64,
 }
 
-/// How much of the history of a book is used up.
+/// Returns the usage of a book's history.
 pub(crate) fn used_of(book: &Book) -> MhlinkUsed
     ensures used { IsUsed book.now result }
 {
@@ -39,8 +39,8 @@ pub(crate) fn used_of(book: &Book) -> MhlinkUsed
 }
 
 impl Host {
-    /// Begins a new history, in which these points are valid again, with what the number says of the
-    /// flushed hits.
+    /// Begins a new history, in which these points are valid again. The number selects the part of
+    /// the flushed hits that is kept.
     fn renew(&mut self, again: &[u32], hits: u32) -> Result<(), Failure>
         ensures renewed { OnOk result (IsRenewed self.old again.now hits self.new) }
         ensures refused { IfErr result (RefusesRenewal self.old again.now hits) }
@@ -50,15 +50,15 @@ impl Host {
         self.begin_anew(again, hits)
     }
 
-    // Begins a new history, in which these points are valid again, with what is left of the flushed
-    // hits.
+    // Begins a new history, in which these points are valid again, and this part of the flushed
+    // hits is kept.
     #[tactic(auto, using(crate::proofs::Renewed::fresh_is))]
     fn begin_anew(&mut self, again: &[u32], hits: OldHits) -> Result<(), Failure>
         ensures renewed { OnOk result (BeginsAnew self.old again.now hits self.new) }
         ensures refused { IfErr result (RefusesAnew self.old again.now) }
         ensures kept { OnErr result (self.new ≡ self.old) }
     {
-        // Read for what a runtime keeps, and then a book.
+        // Reading it names the runtime's invariants for the proof, and then those of a book.
         let _book = self.runtime.book();
         self.runtime.renew(Renewal { again, hits })?;
         self.runtime.book().kept();
@@ -66,7 +66,7 @@ impl Host {
     }
 }
 
-// What becomes of the flushed hits, by the number that C passes.
+// Returns the part of the flushed hits to keep, by the number from C.
 pub(crate) fn old_hits(number: u32) -> Result<OldHits, Failure>
     ensures value { IfOk result (λ hits. number ≡ hits_number hits) }
     ensures unknown { IfErr result (λ e. ((hits : OldHitsOf) → number ≡ hits_number hits → ⊥)
@@ -91,7 +91,7 @@ fn used_held(machine: MhlinkMachine, _: ()) -> (MhlinkMachine, MhlinkUsed)
     (MhlinkMachine::of(host), used)
 }
 
-/// How much of a machine's history is used up, written to `used`. It is never refused.
+/// Stores the usage of a machine's history in `used`. Always succeeds.
 #[unsafe(no_mangle)]
 pub extern "C" fn mhlink_used(machine: &mut MhlinkMachine, used: &mut MhlinkUsed) -> u32
     requires full { machine.old.full ≡ true }
@@ -124,17 +124,16 @@ fn renew_held(
     (MhlinkMachine::of(host), answer)
 }
 
-/// Begins a new history, of which nothing is used up but its first records, one more than there are
-/// workers. Each site's calls mean what they meant, and the handle, names, and the numbers of sites,
-/// points and links stay. The same points are valid, and those in `again`: where one of them was
-/// invalid, it gives way to its fallback in each site's tree, so that its number may be used anew.
-/// Of the flushed hits all go on counting where `hits` is 0, half of each worker's at a link,
-/// rounded down, where it is 1, and none where it is 2; hits that were not flushed stay. No site
-/// holds a link, and snapshots and plans are numbered from 1 again. The text of the last call stays.
+/// Begins a new history, which starts with one record per worker plus one. Each site's calls mean
+/// what they meant, and the handle, names, and the numbers of sites, points and links stay. The
+/// same points are valid, and so are those in `again`: in each site's tree, one that was invalid is
+/// replaced by its fallback, so that its number may be reused. Of the flushed hits all are kept if
+/// `hits` is 0, half of each worker's at a link, rounded down, if it is 1, and none if it is 2;
+/// unflushed hits stay. No site holds a link, and snapshots and plans are numbered from 1 again.
+/// The text of the last call stays.
 ///
-/// Refused as unknown with another number of `hits`, then where the limit of the history is not
-/// above the number of workers, where a point in `again` is not there, and then where memory runs
-/// out.
+/// Fails as unknown if `hits` is another number, then if the limit of the history does not exceed
+/// the number of workers, if a point in `again` does not exist, or if memory runs out.
 #[unsafe(no_mangle)]
 pub extern "C" fn mhlink_renew(machine: &mut MhlinkMachine, again: &[u32], hits: u32) -> u32
     requires full { machine.old.full ≡ true }

@@ -1,15 +1,15 @@
-//! What C asks of a machine or a desk beside calls. An answer is a number.
+//! Requests from C to a machine or a desk, other than calls. An answer is a number.
 
 use crate::value::MhlinkValue;
 
-/// What is read, and changes nothing.
+/// A query, which changes nothing.
 #[derive(Drop)]
 pub(crate) enum Question<'a> {
-    /// The number of the site of this name.
+    /// The number of the site with this name.
     Site(&'a [u8]),
-    /// The number of the point of this name.
+    /// The number of the point with this name.
     Point(&'a [u8]),
-    /// The number of the link of a site whose key is this value, with the bytes of a text.
+    /// The number of a site's link with this key, with the bytes of a String.
     Link {
         site: usize,
         key: MhlinkValue,
@@ -17,10 +17,9 @@ pub(crate) enum Question<'a> {
     },
     /// The flushed hits of a link.
     Total(usize),
-    /// The number of links that a site holds.
+    /// The number of links installed at a site.
     Linked(usize),
-    /// The detail of this number, of a point, a site, a link or a plan, and where it is one of
-    /// several, of that at a place.
+    /// A property of a point, a site, a link or a plan; `place` selects an element if it is a list.
     Detail {
         detail: u32,
         number: usize,
@@ -28,19 +27,19 @@ pub(crate) enum Question<'a> {
     },
 }
 
-/// What is recorded.
+/// A change, which is recorded.
 #[derive(Drop)]
 pub(crate) enum Change<'a> {
-    /// A site gets this tree, in JSON; answered with 0.
+    /// Gives a site this tree, in JSON. The answer is 0.
     Target { site: usize, tree: &'a [u8] },
-    /// These points become invalid; answered with 0.
+    /// Invalidates these points. The answer is 0.
     Invalidate(&'a [u32]),
-    /// A snapshot is taken; answered with its number.
+    /// Takes a snapshot. The answer is its number.
     Snapshot,
-    /// The best plan for a snapshot is made and published; answered with the plan's number.
+    /// Computes and publishes the optimal plan for a snapshot. The answer is the plan's number.
     Plan(usize),
-    /// This plan, in JSON, is published for a snapshot; answered with the plan's number.
+    /// Publishes this plan, in JSON, for a snapshot. The answer is the plan's number.
     Offer { snapshot: usize, plan: &'a [u8] },
-    /// A plan is installed; answered with the number of sites that it links.
+    /// Installs a plan. The answer is the number of sites that it links.
     Install(usize),
 }

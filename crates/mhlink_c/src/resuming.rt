@@ -1,4 +1,4 @@
-//! Machines that go on from what an earlier one kept.
+//! Machines that continue an earlier one.
 
 ghost use Rattle.std.specs.Prelude.{◌≡◌, ◌≢◌, ◌⊎◌, true, IfErr, IfOk};
 ghost use Rattle.mh_base.specs.Tests.{Refuses};
@@ -17,10 +17,10 @@ use mh_core::{Definition, Limits, Refusal, ResumptionFault, Runtime};
 use mh_json::readers::Declarations;
 use std::alloc::Global;
 
-/// What an earlier machine kept, as C passes it.
+/// The state of an earlier machine, as C passes it.
 #[derive(Clone, Copy, Debug)]
 pub(crate) struct Earlier<'a> {
-    /// The points that were invalid.
+    /// The invalid points.
     pub(crate) invalid: &'a [u32],
     /// The total of each link.
     pub(crate) totals: &'a [u64],
@@ -45,7 +45,7 @@ impl From<ResumptionFault> for Failure {
 }
 
 impl Host {
-    /// The host of a definition in JSON, which goes on from what an earlier one kept.
+    /// Opens the host of a definition in JSON that continues an earlier one.
     pub(crate) fn resume(
         alloc: Global,
         definition: &[u8],
@@ -66,7 +66,7 @@ impl Host {
     }
 }
 
-// The runtime of a definition, which goes on from what an earlier one kept.
+// Opens the runtime of a definition that continues an earlier one.
 fn resumed(
     alloc: Global,
     definition: &Definition,
@@ -85,15 +85,15 @@ fn resumed(
     Ok(runtime)
 }
 
-/// Opens a machine as `mhlink_open` does, which goes on from what an earlier one kept: the points
-/// that were invalid, and the total of each link, by number. They are the first two records, an
-/// invalidation, and a flush of the totals by the first worker, so that snapshots count them. No hit
-/// is unflushed, and no site holds a link.
+/// Opens a machine as `mhlink_open` does, which continues an earlier one: it has its invalid
+/// points, and the total of each link, by number. They are the first two records, an invalidation,
+/// and a flush of the totals by the first worker, so that snapshots count them. No hit is
+/// unflushed, and no site holds a link.
 ///
-/// Refused as `mhlink_open` is, then where a point is not there, as unknown where there is not a
-/// total for each link, where the limit of the history is below 2, where a total is past its limit,
-/// and then where memory runs out. `machine` is left alone, and `part` gets the number of the
-/// fault's cause, or 0.
+/// Fails as `mhlink_open` does, then if a point does not exist, as unknown if the number of totals
+/// is not that of links, if the limit of the history is below 2, if a total exceeds its limit, or
+/// if memory runs out. Then `machine` is left unmodified, and `part` gets the number of the fault's
+/// cause, or 0.
 #[unsafe(no_mangle)]
 pub extern "C" fn mhlink_resume(
     alloc: Global,

@@ -1,4 +1,4 @@
-//! The trees of sites, as C reads them.
+//! Trees of sites for C.
 
 ghost use Rattle.std.specs.Prelude.{◌≡◌, ◌≢◌, ◌⊎◌, drop, string_bytes, true, IfErr, IfOk, OnOk};
 ghost use Rattle.mhlink_c.specs.Buffers.{IsCopied};
@@ -17,7 +17,7 @@ use mh_core::Book;
 use mh_json::tree_json;
 use std::alloc::Global;
 
-// The tree of a site, as JSON.
+// Returns the tree of a site, as JSON.
 fn tree_text(alloc: Global, book: &Book, site: usize) -> Result<String, Failure>
     ensures text { IfOk result (λ s. string_bytes s ≡ tree_of_site book.now site) }
     ensures inside { OnOk result (IsSiteOf book.now site) }
@@ -48,10 +48,10 @@ fn tree_held(
     (MhlinkMachine::of(host), text)
 }
 
-/// Copies the tree of a site to the buffer, as JSON of the form in which a definition declares it:
-/// that of its last retargeting, else the one that it was opened with. Parts that it shares are
-/// written out. Its bytes are counted also where the buffer is too short; what stands behind them
-/// stays. A site that is not there is unknown.
+/// Copies the current tree of a site to the buffer, as JSON in the form of a definition: that of
+/// its last retargeting, or else the one of its definition. Shared subtrees are written out. The
+/// number of bytes is stored also if the buffer is too short, and the rest of the buffer is left
+/// unmodified. A site that does not exist is unknown.
 #[unsafe(no_mangle)]
 pub extern "C" fn mhlink_tree_text(
     alloc: Global,
@@ -95,7 +95,7 @@ fn tree_of_desk(desk: MhlinkDesk, asked: (Global, usize)) -> (MhlinkDesk, Result
     (MhlinkDesk::of(held), text)
 }
 
-/// Copies the tree of a site, as `mhlink_tree_text` does: the one that callers have behind the next
+/// Copies the tree of a site, as `mhlink_tree_text` does: the one that callers use after the next
 /// show and look.
 #[unsafe(no_mangle)]
 pub extern "C" fn mhlink_desk_tree_text(

@@ -1,4 +1,4 @@
-//! What C passes in JSON, for the readers of mh_json.
+//! Texts in JSON from C, for the readers of mh_json.
 
 ghost use Rattle.std.specs.Prelude.{◌≡◌, IfErr, IfOk};
 ghost use Rattle.mh_core.specs.Limits.{IsLimits};
@@ -12,8 +12,8 @@ use mh_json::readers;
 use mh_json::readers::{Declarations, Scope, read_declared, read_json};
 use std::alloc::Global;
 
-/// The limits of a machine: the most records, the most unflushed hits of a link by a worker's calls,
-/// and the most flushed hits of a link.
+/// The limits of a machine: the most records, the most unflushed hits of a link by a worker's
+/// calls, and the most flushed hits of a link.
 #[repr(C)]
 #[derive(Clone, Copy, Debug)]
 pub struct MhlinkLimits {
@@ -26,7 +26,7 @@ pub struct MhlinkLimits {
 }
 
 impl MhlinkLimits {
-    /// The limits, where each is in its range.
+    /// Returns the limits, if each is in its range.
     pub(crate) fn limits(&self) -> Result<Limits, Failure>
         ensures value { IfOk result (λ l. (l ≡ limits_of self.now) × IsLimits l) }
         ensures bad { IfErr result (λ e. (e ≡ BadLimits) × (IsLimits (limits_of self.now) → ⊥)) }
@@ -38,7 +38,7 @@ impl MhlinkLimits {
     }
 }
 
-/// What a definition in JSON declares.
+/// Reads a definition in JSON.
 pub(crate) fn read_definition(alloc: Global, definition: &[u8]) -> Result<Declarations, Failure>
     ensures value { Reads result (declarations_in definition.now) }
 {
@@ -46,7 +46,7 @@ pub(crate) fn read_definition(alloc: Global, definition: &[u8]) -> Result<Declar
     Ok(readers::read_definition(alloc, &value)?)
 }
 
-/// A tree in JSON, over the names that a definition declares.
+/// Reads a tree in JSON, over the names that a definition declares.
 pub(crate) fn read_target(alloc: Global, scope: &Scope, tree: &[u8]) -> Result<Declared, Failure>
     ensures value { Reads result (tree_in scope.now tree.now) }
 {

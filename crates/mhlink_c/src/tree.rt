@@ -1,4 +1,4 @@
-//! What a handle of a tree leads to.
+//! The value behind a tree's handle.
 
 ghost use Rattle.std.specs.Prelude.{◌≡◌, Ok, IfErr, IfOk};
 ghost use Rattle.mhlink_c.specs.Inputs.{IsFaultOf, tree_in};
@@ -29,7 +29,7 @@ impl Model for HeldTree {
 }
 
 impl HeldTree {
-    /// The tree of a text in JSON, over these names.
+    /// Reads a tree in JSON, over these names.
     pub(crate) fn read(alloc: Global, scope: &Scope, text: &[u8]) -> Result<Box<HeldTree>, Failure>
         ensures value { IfOk result (λ t. tree_in scope.now text.now ≡ Ok t.value) }
         ensures refused { IfErr result (IsFaultOf (tree_in scope.now text.now)) }
@@ -38,7 +38,7 @@ impl HeldTree {
         Ok(Box::new(alloc, HeldTree { tree })?)
     }
 
-    /// Another owner of the tree.
+    /// Returns another owner of the tree.
     pub(crate) fn share(&self) -> Result<Declared, Failure>
         ensures value { IfOk result (λ t. t ≡ self.now) }
         ensures refused { IfErr result (λ e. e ≡ no_memory) }

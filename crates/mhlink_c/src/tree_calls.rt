@@ -1,4 +1,4 @@
-//! Trees that C has read once, and gives to as many sites as it likes.
+//! Trees that C reads once and gives to any number of sites.
 
 ghost use Rattle.std.specs.Prelude.{◌≡◌, ◌≢◌, ◌⊎◌, Ok, Err, true, IfErr, IfOk, OnErr, OnOk};
 ghost use Rattle.mh_core.specs.declared.record.Record.TheVariants.{Targeted};
@@ -36,7 +36,7 @@ fn read_held(
     (MhlinkMachine::of(host), tree)
 }
 
-// Writes the handle of a tree, where there is one, and else what the fault leaves open.
+// Writes the handle of a tree, if there is one, and otherwise the detail of the fault.
 fn write_tree(answer: Result<Box<HeldTree>, Failure>, tree: &mut MhlinkTree, part: &mut u64) -> u32
     ensures ok { OnOk answer (result ≡ 0) }
     ensures value { IfOk answer (λ t. (tree.new.full ≡ true) × (tree.new.value ≡ t.value)) }
@@ -60,9 +60,9 @@ fn write_tree(answer: Result<Box<HeldTree>, Failure>, tree: &mut MhlinkTree, par
 }
 
 /// Reads a tree in JSON, over the points, the shared trees and the sites that a machine knows by
-/// name, and writes its handle to `tree`. It names them by number from then on.
+/// name, and stores its handle in `tree`. From then on the tree refers to them by number.
 ///
-/// Refused with the fault of the text, whose part goes to `part`; `tree` is left alone.
+/// Fails with the fault of the text, whose detail goes to `part`; then `tree` is left unmodified.
 #[unsafe(no_mangle)]
 pub extern "C" fn mhlink_tree_read(
     alloc: Global,
@@ -116,10 +116,10 @@ fn target_held(
     (MhlinkMachine::of(host), (MhlinkTree::of(tree), answer))
 }
 
-/// Gives a site a tree that was read, as `mhlink_target` gives it one in JSON; the tree stays the
-/// caller's, who may give it to other sites.
+/// Gives a site a tree that was read, as `mhlink_target` does with one in JSON. The tree remains
+/// the caller's, who may give it to other sites.
 ///
-/// Refused as the runtime refuses the tree; `part` is then 0, as else.
+/// Fails as the runtime rejects the tree. `part` gets 0 in any case.
 #[unsafe(no_mangle)]
 pub extern "C" fn mhlink_target_tree(
     alloc: Global,
@@ -145,7 +145,7 @@ pub extern "C" fn mhlink_target_tree(
     write_part(answer, part)
 }
 
-/// Closes a tree: all its memory goes back that no site shares.
+/// Closes a tree and frees all memory that no site shares.
 #[unsafe(no_mangle)]
 pub extern "C" fn mhlink_tree_close(tree: MhlinkTree)
     requires full { tree.full ≡ true }
@@ -170,7 +170,7 @@ fn desk_read_held(
     (MhlinkDesk::of(held), tree)
 }
 
-/// Reads a tree in JSON over what a desk knows by name, as `mhlink_tree_read` does.
+/// Reads a tree in JSON over the names of a desk, as `mhlink_tree_read` does.
 #[unsafe(no_mangle)]
 pub extern "C" fn mhlink_desk_tree_read(
     alloc: Global,
@@ -228,8 +228,8 @@ fn desk_target_held(
     (MhlinkDesk::of(held), (MhlinkTree::of(tree), answer))
 }
 
-/// Gives a site a tree that was read, as `mhlink_target_tree` does: callers have it from their next
-/// look behind the next show on.
+/// Gives a site a tree that was read, as `mhlink_target_tree` does. Callers use it from their next
+/// look after the next show on.
 #[unsafe(no_mangle)]
 pub extern "C" fn mhlink_desk_target_tree(
     alloc: Global,

@@ -1,4 +1,4 @@
-//! A boxed tree as its pointer, which C keeps.
+//! A boxed tree as the pointer that C keeps.
 
 ghost use Rattle.std.specs.Prelude.{◌≡◌, Bool, true, false};
 ghost use Rattle.mh_tree.specs.Handle.{TypedTree};
@@ -12,8 +12,8 @@ use std::alloc::Global;
 use std::marker::Model;
 use std::ptr;
 
-/// A tree as C keeps it: a pointer. Where it is full it owns the tree, and else nothing, as one
-/// that C made. Dropped, it leaves the tree where it is.
+/// A tree as C keeps it: a pointer. If non-null, it owns the tree; one that C made is null and owns
+/// nothing. Dropping it does not drop the tree.
 #[repr(C)]
 #[derive(Drop)]
 pub struct MhlinkTree {
@@ -28,7 +28,7 @@ impl Model for MhlinkTree {
 }
 
 impl MhlinkTree {
-    /// The handle of a tree.
+    /// Returns the handle of a tree.
     pub(crate) fn of(boxed: Box<HeldTree>) -> MhlinkTree
         ensures full { result.full ≡ true }
         ensures value { result.value ≡ boxed.value }
@@ -36,7 +36,7 @@ impl MhlinkTree {
         MhlinkTree::of_parts(Parts::of(boxed))
     }
 
-    /// The tree of a handle.
+    /// Returns the tree of a handle.
     pub(crate) fn into_box(self) -> Box<HeldTree>
         requires full { self.full ≡ true }
         ensures value { result.value ≡ self.value }
@@ -44,7 +44,7 @@ impl MhlinkTree {
         self.into_parts().into_box()
     }
 
-    /// A handle that is not full.
+    /// Returns a null handle.
     pub(crate) fn hollow(alloc: Global) -> MhlinkTree
         ensures { result.full ≡ false }
     {

@@ -1,4 +1,4 @@
-//! Values as they cross to C.
+//! Values at the boundary to C.
 
 ghost use Rattle.std.specs.Prelude.{◌≡◌, ◌≢◌, ◌⊎◌, ◌≤◌, Some, length, pos, take, vec_capacity, IfErr, IfOk, OnOk};
 ghost use Rattle.mhlink_c.specs.Crossing.{AreNoValues, AreValues, HaveNoText, IsNoText, IsOfItsKind, IsValue, bytes_of, reply_kind, reply_number, reply_steps, text_of_outcome, value_kind};
@@ -12,31 +12,31 @@ use mh_core::{LONGEST_TEXT, NoMemory, Outcome, Refusal, Text, Throw, TypeFault, 
 use std::alloc::Global;
 
 /// A value. Its kind is 1 for an int, 2 for a long, 3 for a boolean, whose number is 0 or 1, and 4
-/// for a String, whose number is the count of its bytes, which stand among the texts of the call.
+/// for a String, whose number is its length in bytes among the texts of the call.
 #[repr(C)]
 #[derive(Clone, Copy, Debug)]
 pub struct MhlinkValue {
-    /// What it is.
+    /// The kind.
     pub kind: u32,
     /// The number.
     pub number: i64,
 }
 
-/// What a call gave. Its kind is that of the value, and 5 where it was thrown: the number is then 1
-/// for an ArithmeticException, and 2 for a text that grew too long.
+/// The outcome of a call. Its kind is that of the value, or 5 for a throw: the number is then 1 for
+/// an ArithmeticException, and 2 for a text that grew too long.
 #[repr(C)]
 #[derive(Clone, Copy, Debug)]
 pub struct MhlinkReply {
-    /// What it is.
+    /// The kind.
     pub kind: u32,
-    /// The number, or the count of a text's bytes, which `mhlink_text` copies.
+    /// The number, or the length in bytes of a text, which `mhlink_text` copies.
     pub number: i64,
-    /// How many nodes were entered, or 2^64 - 1 where they are more.
+    /// The number of nodes evaluated, or 2^64 - 1 if there are more.
     pub steps: u64,
 }
 
-/// Puts the arguments that C passes into a list, in place of what it had: the texts stand one behind
-/// another. Where none is a text and the list has room for all, this takes no memory.
+/// Replaces the contents of a list by the arguments from C, whose texts are in order. If none is a
+/// text and the list has room for all, this does not allocate.
 #[inline(always)]
 pub(crate) fn read_values(
     values: &mut Vec<Value>,
@@ -62,7 +62,7 @@ pub(crate) fn read_values(
     Ok(())
 }
 
-// How many bytes of the texts a value has.
+// Returns the number of bytes that a value has among the texts.
 fn text_length(value: &Value) -> usize
     ensures value { result ≡ length (bytes_of value.now) }
 {
@@ -72,7 +72,7 @@ fn text_length(value: &Value) -> usize
     }
 }
 
-/// A value, whose text begins the texts.
+/// Reads a value, whose text is at the beginning of the texts.
 #[inline(always)]
 pub(crate) fn value(alloc: Global, given: &MhlinkValue, texts: &[u8]) -> Result<Value, Failure>
     ensures value { IfOk result (IsValue given.now texts.now) }
@@ -94,7 +94,7 @@ pub(crate) fn value(alloc: Global, given: &MhlinkValue, texts: &[u8]) -> Result<
     }
 }
 
-// The text of so many bytes at the beginning of the texts.
+// Returns the text of this many bytes at the beginning of the texts.
 fn text(alloc: Global, count: i64, texts: &[u8]) -> Result<Value, Failure>
     ensures value { IfOk result (λ x. (count ≡ pos (length (bytes_of x)))
         × ((take (length (bytes_of x)) texts.now ≡ bytes_of x) × (value_kind x ≡ 4))) }
@@ -119,7 +119,7 @@ fn text(alloc: Global, count: i64, texts: &[u8]) -> Result<Value, Failure>
     }
 }
 
-/// What C gets of an outcome.
+/// Returns the reply for an outcome.
 pub(crate) fn reply_of(outcome: &Outcome, steps: u128) -> MhlinkReply
     ensures kind { result.kind ≡ reply_kind outcome.now }
     ensures number { result.number ≡ reply_number outcome.now }
@@ -141,7 +141,7 @@ pub(crate) fn reply_of(outcome: &Outcome, steps: u128) -> MhlinkReply
     }
 }
 
-/// The text of an outcome, if it is one.
+/// Returns the text of an outcome, if it is one.
 pub(crate) fn text_of(outcome: Outcome) -> Option<Text>
     ensures value { result ≡ text_of_outcome outcome }
 {
@@ -151,7 +151,7 @@ pub(crate) fn text_of(outcome: Outcome) -> Option<Text>
     }
 }
 
-/// Another owner of the text that the last call gave.
+/// Returns another owner of the text that the last call returned.
 pub(crate) fn share_text(given: &Option<Text>) -> Result<Text, Failure>
     ensures value { IfOk result (λ text. given.now ≡ Some text) }
     ensures refused { IfErr result (HasNoText given.now) }

@@ -1,4 +1,4 @@
-//! What a status means, in words.
+//! Texts of statuses.
 
 ghost use Rattle.std.specs.Prelude.{◌≡◌, ◌≢◌, ℕ, List, Some, None, drop, IfErr, IfNone, IfSome, OnErr, OnOk};
 ghost use Rattle.mhlink_c.specs.Buffers.{IsCopied};
@@ -11,10 +11,10 @@ use crate::buffers::copy;
 use crate::failure::{Failure, status as status_of};
 use std::alloc::Global;
 
-/// Copies to `buffer` what a status means, as `mhlink` words it (docs/FAULTS.md), with `part`
-/// behind it where that is not 0: `refused 8 PlanRefused 3`, `fault 7 Tree 2`. How many bytes they
-/// are goes to `count`, also where `buffer` is too short. What stands in `buffer` behind them stays.
-/// A number that is no status is unknown.
+/// Copies to `buffer` the text of a status, as `mhlink` prints it (docs/FAULTS.md), followed by
+/// `part` if that is not 0: `refused 8 PlanRefused 3`, `fault 7 Tree 2`. `count` gets the number of
+/// bytes, also if `buffer` is too short. The rest of `buffer` is left unmodified. A number of no
+/// status is unknown.
 #[unsafe(no_mangle)]
 pub extern "C" fn mhlink_fault_text(
     alloc: Global,
@@ -58,7 +58,7 @@ fn word(
     copy(told.as_bytes(), buffer, count)
 }
 
-// The words of a status; none of another number.
+// Returns the text of a status, or `None` for another number.
 fn words_of(status: u32) -> Option<&'static str>
     ensures words { IfSome result (λ words. its_words status ≡ Some words.now) }
     ensures none { IfNone result (its_words status ≡ None) }
@@ -68,7 +68,7 @@ fn words_of(status: u32) -> Option<&'static str>
         .or(other_words(status))
 }
 
-// The words of what is done, and of a refusal.
+// Returns the text of success, or of a rejection.
 fn refusal_words(status: u32) -> Option<&'static str>
     ensures words { IfSome result (λ words. beside refusals status ≡ Some words.now) }
     ensures none { IfNone result (beside refusals status ≡ None) }
@@ -93,7 +93,7 @@ fn refusal_words(status: u32) -> Option<&'static str>
     }
 }
 
-// The words of a fault of an input.
+// Returns the text of a fault of an input.
 fn input_words(status: u32) -> Option<&'static str>
     ensures words { IfSome result (λ words. beside inputs status ≡ Some words.now) }
     ensures none { IfNone result (beside inputs status ≡ None) }
@@ -116,7 +116,7 @@ fn input_words(status: u32) -> Option<&'static str>
     }
 }
 
-// The words of a fault of a problem, and of these calls alone.
+// Returns the text of a fault of a problem, or of a status of this library alone.
 fn other_words(status: u32) -> Option<&'static str>
     ensures words { IfSome result (λ words. beside others status ≡ Some words.now) }
     ensures none { IfNone result (beside others status ≡ None) }

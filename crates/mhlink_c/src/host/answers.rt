@@ -1,4 +1,4 @@
-//! How a host answers each request.
+//! The answers of a host to requests.
 
 ghost use Rattle.std.specs.Prelude.{◌≡◌, ◌<◌, ◌≤◌, length, map, string_bytes, IfErr, IfOk, OnErr, OnOk};
 ghost use Rattle.std.specs.List.{All};
@@ -24,7 +24,7 @@ use mh_text::push_tables;
 use std::alloc::Global;
 
 impl Host {
-    /// A worker's hits go to the totals.
+    /// Adds a worker's hits to the totals.
     pub(crate) fn flush(&mut self, worker: u32) -> Result<(), Failure>
         ensures flushed { OnOk result (Flushes self.old worker self.new) }
         ensures refused { IfErr result (RefusesToFlush self.old worker) }
@@ -34,7 +34,7 @@ impl Host {
         Ok(())
     }
 
-    /// Makes a change, and gives its answer.
+    /// Makes a change, and returns its answer.
     pub(crate) fn change(&mut self, alloc: Global, change: Change<'_>) -> Result<u64, Failure>
         ensures makes { IfOk result (MakesChange (Records self.old self.new)
             self.old.runtime.book self.old.scope change.entry) }
@@ -122,7 +122,8 @@ impl Host {
         Ok(self.runtime.publish(snapshot, plan)? as u64)
     }
 
-    /// The best plan for a snapshot with its flow, as compact JSON, which `mhlink check` reads.
+    /// Returns the optimal plan for a snapshot with its flow, as compact JSON, which `mhlink check`
+    /// reads.
     pub(crate) fn certificate(&self, alloc: Global, snapshot: usize) -> Result<String, Failure>
         ensures value { IfOk result (λ text. IsCertificate self.now.runtime snapshot
             (string_bytes text)) }
@@ -132,7 +133,7 @@ impl Host {
         Ok(plan_json(alloc, &plan)?)
     }
 
-    /// A line for each point, site and link, with the hits that the workers have not flushed.
+    /// Returns a line for each point, site and link, with the unflushed hits of the workers.
     pub(crate) fn report(&self, alloc: Global) -> Result<String, Failure>
         ensures value { IfOk result (λ text. string_bytes text ≡ report_of self.now.runtime) }
         ensures refused { IfErr result (λ e. e ≡ no_memory) }
@@ -144,7 +145,7 @@ impl Host {
         Ok(text)
     }
 
-    /// The unflushed hits of a link by a worker's calls.
+    /// Returns the unflushed hits of a link by a worker's calls.
     pub(crate) fn hits(&self, worker: u32, link: usize) -> Result<u64, Failure>
         ensures value { IfOk result (λ n. n
             ≡ at (ledger_at self.now.runtime.ledgers worker).unflushed link) }
@@ -162,7 +163,7 @@ impl Host {
     }
 }
 
-/// The unflushed hits of a link in a ledger.
+/// Returns the unflushed hits of a link in a ledger.
 pub(crate) fn hits_in(ledger: &Ledger, link: usize) -> Result<u64, Failure>
     ensures value { IfOk result (λ n. n ≡ at ledger.now.unflushed link) }
     ensures inside { OnOk result (link < length ledger.now.unflushed) }
@@ -175,7 +176,7 @@ pub(crate) fn hits_in(ledger: &Ledger, link: usize) -> Result<u64, Failure>
     Ok(ledger.unflushed(link))
 }
 
-// The hits of each link in these ledgers.
+// Returns the hits of each link in these ledgers.
 fn unflushed_hits(alloc: Global, book: &Book, ledgers: &[Ledger]) -> Result<Vec<u128>, Failure>
     ensures value { IfOk result (λ hits. hits.items ≡ map (unflushed_of ledgers.now)
         (numbers (length (links book.now.definition)))) }
@@ -189,7 +190,7 @@ fn unflushed_hits(alloc: Global, book: &Book, ledgers: &[Ledger]) -> Result<Vec<
     Ok(hits)
 }
 
-// The hits of a link in these ledgers.
+// Returns the hits of a link in these ledgers.
 fn unflushed(ledgers: &[Ledger], link: usize) -> u128
     ensures value { result ≡ unflushed_of ledgers.now link }
     ensures few { result ≤ most_unflushed }
@@ -201,7 +202,7 @@ fn unflushed(ledgers: &[Ledger], link: usize) -> u128
     sum
 }
 
-// The hits of a link in a ledger, none past its last link.
+// Returns the hits of a link in a ledger, and 0 past its last link.
 fn hits_of(ledger: &Ledger, link: usize) -> u64
     ensures value { result ≡ at ledger.now.unflushed link }
     ensures few { result ≤ greatest_limit }
