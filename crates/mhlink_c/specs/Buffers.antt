@@ -1,7 +1,7 @@
--- What is copied to a buffer of the caller's.
+-- Copies to the caller's buffers.
 use Rattle.std.specs.Prelude.{◌≡◌, ◌<◌, ℕ, List, length, take}
 
--- so many items, which begin the buffer
+-- this many items, at the beginning of the buffer
 pub record IsCopied {X : Type 0} (xs : List X) (n : ℕ) (buffer : List X) : Type 0 where
   pub count : n ≡ length xs
   pub items : take n buffer ≡ xs

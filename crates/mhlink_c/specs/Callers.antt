@@ -1,4 +1,4 @@
--- What contracts see of a caller of C, and what its calls and looks do.
+-- Callers of C as contracts see them, and the effects of calls and looks.
 use Rattle.std.specs.Prelude.{◌≡◌, ℕ, List, Option, None, refl}
 use Rattle.std.specs.Coded.{Coded, code_by, coded×, coded_ℕ, coded_list, coded_option}
 use Rattle.mh_base.specs.Tests.{Passes}
@@ -15,7 +15,7 @@ use Rattle.mhlink_c.specs.declared.failure.Failure.{Failure}
 use Rattle.mhlink_c.specs.declared.failure.Failure.TheVariants.{Refused}
 use Rattle.mhlink_c.specs.declared.value.MhlinkReply.{MhlinkReply}
 
--- the caller, and the text that its last call gave
+-- the caller, and the text that its last call returned
 pub record HeldCallerState : Type 0 where
   pub caller : CallerState
   pub given : Option (List ℕ)
@@ -34,7 +34,7 @@ pub record CallerAnswers (h : HeldCallerState) (s : ℕ) (reply : MhlinkReply) (
   pub counted : Counts h.caller.shown.definition s a h.caller.ledger new.caller.ledger
   pub given : new.given ≡ text_of_reply (answer_after h.caller.shown s a)
 
--- the caller has what the desk shows, and its ledger and its text stay
+-- the caller uses the state that the desk published, and its ledger and its text stay
 abbrev pub looks : HeldDeskState → HeldCallerState → HeldCallerState
 looks desk h = record { caller = record { shown = desk.desk.shown; ledger = h.caller.ledger }; given = h.given }
 
@@ -42,6 +42,6 @@ looks desk h = record { caller = record { shown = desk.desk.shown; ledger = h.ca
 abbrev pub RefusesToLook : HeldDeskState → LedgerState → Failure → Type 0
 RefusesToLook desk ledger e = (told : Refusal) × ((e ≡ Refused told) × RefusesLook desk.desk.book ledger told)
 
--- the caller's ledger is this, and the world of its last look and its text stay
+-- the caller's ledger is this, and the state of its last look and its text stay
 abbrev pub with_ledger : HeldCallerState → LedgerState → HeldCallerState
 with_ledger h ledger = record { caller = record { shown = h.caller.shown; ledger = ledger }; given = h.given }

@@ -1,4 +1,4 @@
--- What a call does, and what it is refused.
+-- Calls and their failures.
 use Rattle.std.specs.Prelude.{◌≡◌, ◌⊎◌, ◌≤◌, ℕ, List, length}
 use Rattle.mh_base.specs.Tests.{Passes, Tests}
 use Rattle.mh_type.specs.Limits.{most_parameters}
@@ -16,7 +16,7 @@ use Rattle.mhlink_c.specs.declared.failure.Failure.TheVariants.{BadValue}
 use Rattle.mhlink_c.specs.declared.value.MhlinkReply.{MhlinkReply}
 use Rattle.mhlink_c.specs.declared.value.MhlinkValue.{MhlinkValue}
 
--- what a call is answered after the records of a book
+-- the answer of a call after the records of a book
 abbrev pub answer_after : BookState → ℕ → List Value → Reply
 answer_after b s a = answer_of_call b.definition b.records s a
 
@@ -31,12 +31,12 @@ pub record Answers (h : HostState) (w s : ℕ) (reply : MhlinkReply) (new : Host
 abbrev pub WithValues : List MhlinkValue → List ℕ → (List Value → Type 0) → Type 0
 WithValues values texts Answered = (a : List Value) × (AreValues values texts a × Answered a)
 
--- a call that asks for no memory: of at most 16 values, none of them a text, on which no node that is entered has String in its type
+-- a call that does not allocate: with at most 16 values, none of them a text, for which no node that is evaluated has String in its type
 abbrev pub AsksForNone : BookState → ℕ → List MhlinkValue → List ℕ → Type 0
 AsksForNone b s values texts =
     HaveNoText values × ((length values ≤ most_parameters) × ((a : List Value) → AreValues values texts a → TakesNoMemory b s a))
 
--- a value is none, memory ran out in reading them, or the first failing test of the call with them
+-- an argument is not a value, memory ran out in reading them, or the first failing test of the call with them
 abbrev pub RefusesCall : (List Value → Tests Refusal) → List MhlinkValue → List ℕ → Failure → Type 0
 RefusesCall tests values texts e =
     ((e ≡ BadValue) × AreNoValues values texts) ⊎ (e ≡ no_memory) ⊎ ((a : List Value) × (AreValues values texts a × IsRefusedBy (tests a) e))

@@ -1,4 +1,4 @@
--- What a change makes of a machine or a desk, over what a record makes of it, and what it is refused.
+-- Changes of machines and desks, in terms of the effect of a record, and their failures.
 use Rattle.std.specs.Prelude.{◌≡◌, ◌⊎◌, ◌<◌, ◌+◌, ℕ, List, None, Ok, filter, length}
 use Rattle.mh_cert.specs.declared.plan.Plan.{Plan}
 use Rattle.mh_tree.specs.Handle.{TypedTree}
@@ -29,14 +29,14 @@ RefusesRecord b r e = (told : Refusal) × ((e ≡ Refused told) × MayRefuse b 0
 abbrev pub Retargets : (Record → Type 0) → Scope → ℕ → List ℕ → Type 0
 Retargets Made scope s text = (tree : TypedTree) × ((tree_in scope text ≡ Ok tree) × Made (Targeted s tree))
 
--- there is no such site; or else the text has a fault, or the book refuses the tree
+-- the site does not exist; or the text has a fault, or the book rejects the tree
 abbrev pub RefusesTarget : BookState → Scope → ℕ → List ℕ → Failure → Type 0
 RefusesTarget b scope s text e =
     ((s < length b.definition.sites → ⊥) × (e ≡ Refused NoSite))
     ⊎ ((s < length b.definition.sites)
     × (IsFaultOf (tree_in scope text) e ⊎ ((tree : TypedTree) × ((tree_in scope text ≡ Ok tree) × RefusesRecord b (Targeted s tree) e))))
 
--- no more owners of the tree can be counted, or the book refuses it
+-- no more owners of the tree can be counted, or the book rejects it
 abbrev pub RefusesTargetTree : BookState → ℕ → TypedTree → Failure → Type 0
 RefusesTargetTree b s tree e = (e ≡ no_memory) ⊎ RefusesRecord b (Targeted s tree) e
 
@@ -58,7 +58,7 @@ pub record Publishes (Made : Record → Type 0) (b : BookState) (snapshot : ℕ)
 abbrev pub RefusesPublished : BookState → ℕ → Plan → Failure → Type 0
 RefusesPublished b snapshot plan e = (e ≡ no_memory) ⊎ RefusesRecord b (Published snapshot plan) e
 
--- a best plan for a snapshot that was taken, of such the least
+-- the optimal plan with the fewest links for a snapshot that was taken
 pub record IsBest (b : BookState) (snapshot : ℕ) (plan : Plan) : Type 0 where
   pub taken : IsTaken b.records snapshot
   pub matching : Matches (problem_at b.definition b.records snapshot) plan
@@ -67,7 +67,7 @@ pub record IsBest (b : BookState) (snapshot : ℕ) (plan : Plan) : Type 0 where
 abbrev pub PublishesBest : (Record → Type 0) → BookState → ℕ → ℕ → Type 0
 PublishesBest Made b snapshot n = (plan : Plan) × (IsBest b snapshot plan × Publishes Made b snapshot plan n)
 
--- there is no best plan for a snapshot that was not taken, and none where memory runs out
+-- there is no plan for a snapshot that was not taken, or if memory runs out
 abbrev pub HasNoBest : BookState → ℕ → Failure → Type 0
 HasNoBest b snapshot e = ((e ≡ Refused NoSnapshot) × (IsTaken b.records snapshot → ⊥)) ⊎ ((e ≡ no_memory) × IsTaken b.records snapshot)
 
@@ -85,12 +85,12 @@ RefusesOffer b snapshot text e =
     IsFaultOf (plan_of_input None text) e
     ⊎ ((plan : Plan) × ((plan_of_input None text ≡ Ok plan) × RefusesPublished b snapshot plan e))
 
--- a plan is installed, which links so many sites
+-- a plan is installed, which links this many sites
 pub record Installs (Made : Record → Type 0) (b : BookState) (plan n : ℕ) : Type 0 where
   pub recorded : Made (Installed plan)
   pub linked : n ≡ length (filter is_linked (report b.definition b.records plan).sites)
 
--- what a change makes, and its answer
+-- the effect of a change, and its answer
 abbrev pub MakesChange : (Record → Type 0) → BookState → Scope → Change → ℕ → Type 0
 MakesChange Made b scope (change.Target s tree) n = Retargets Made scope s tree.now
 MakesChange Made b scope (change.Invalidate points) n = Made (Invalidated points.now)
@@ -99,7 +99,7 @@ MakesChange Made b scope (change.Plan snapshot) n = PublishesBest Made b snapsho
 MakesChange Made b scope (change.Offer snapshot plan) n = PublishesOffer Made b snapshot plan.now n
 MakesChange Made b scope (change.Install plan) n = Installs Made b plan n
 
--- what a change is refused with
+-- the failure of a change
 abbrev pub RefusesChange : BookState → Scope → Change → Failure → Type 0
 RefusesChange b scope (change.Target s tree) e = RefusesTarget b scope s tree.now e
 RefusesChange b scope (change.Invalidate points) e = RefusesInvalidation b points.now e

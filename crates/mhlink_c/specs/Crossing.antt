@@ -1,4 +1,4 @@
--- What crosses to C of values, and of what a call gave.
+-- Values and outcomes at the boundary to C.
 use Rattle.std.specs.List.{All}
 use Rattle.std.specs.Prelude.{◌≡◌, ◌≢◌, ℕ, ◌^◌, ◌-◌, ℤ, pos, FitsSigned, Bool, true, false, List, [], ◌∷◌, drop, length, min, take, Option, Some, None}
 use Rattle.core.specs.Int.{w32}
@@ -35,13 +35,13 @@ abbrev pub bytes_of : Value → List ℕ
 bytes_of (Text t) = t
 bytes_of _ = []
 
--- an int has 32 bits, and a text is one: a long has 64 bits and a boolean is true or false in any case
+-- an int has 32 bits, and a text is lawful; a long has 64 bits and a boolean is true or false in any case
 abbrev pub IsOfItsKind : Value → Type 0
 IsOfItsKind (Int n) = FitsSigned w32 n
 IsOfItsKind (Text t) = is_text t ≡ true
 IsOfItsKind _ = Unit {0}
 
--- what C passes is this value, whose bytes begin the texts
+-- the argument from C is this value, whose bytes begin the texts
 pub record IsValue (v : MhlinkValue) (texts : List ℕ) (x : Value) : Type 0 where
   pub lawful : IsOfItsKind x
   pub kind : v.kind ≡ value_kind x
@@ -52,13 +52,13 @@ pub record IsValue (v : MhlinkValue) (texts : List ℕ) (x : Value) : Type 0 whe
 abbrev pub IsNoText : ℤ → List ℕ → Type 0
 IsNoText count texts = (t : List ℕ) → count ≡ pos (length t) → take (length t) texts ≡ t → is_text t ≡ true → ⊥
 
--- the values in order, whose bytes stand one behind another
+-- the values in order, with their bytes in order
 abbrev pub AreValues : List MhlinkValue → List ℕ → List Value → Type 0
 AreValues [] texts [] = Unit {0}
 AreValues (v ∷ vs) texts (x ∷ xs) = IsValue v texts x × AreValues vs (drop (length (bytes_of x)) texts) xs
 AreValues _ texts _ = ⊥
 
--- they are the values of no list
+-- they are not the values of any list
 abbrev pub AreNoValues : List MhlinkValue → List ℕ → Type 0
 AreNoValues given texts = (xs : List Value) → AreValues given texts xs → ⊥
 
@@ -66,7 +66,7 @@ AreNoValues given texts = (xs : List Value) → AreValues given texts xs → ⊥
 abbrev pub HaveNoText : List MhlinkValue → Type 0
 HaveNoText given = All (λ v. v.kind ≢ 4) given
 
--- what a reply has of an outcome
+-- the reply's kind and number for an outcome
 abbrev pub reply_kind : Outcome → ℕ
 reply_kind (outcome.Value x) = value_kind x
 reply_kind (outcome.Thrown t) = 5
@@ -76,7 +76,7 @@ reply_number (outcome.Value x) = value_number x
 reply_number (outcome.Thrown ArithmeticException) = pos 1
 reply_number (outcome.Thrown TextTooLong) = pos 2
 
--- the steps, or the greatest number where they are more
+-- the steps, or the greatest number if there are more
 abbrev pub reply_steps : ℕ → ℕ
 reply_steps steps = min steps (2 ^ 64 - 1)
 
@@ -85,7 +85,7 @@ abbrev pub IsReply : MhlinkReply → Reply → Type 0
 IsReply r (Called o steps) = (r.kind ≡ reply_kind o) × ((r.number ≡ reply_number o) × (r.steps ≡ reply_steps steps))
 IsReply r _ = ⊥
 
--- the text that a call gave, if it gave one
+-- the text that a call returned, if it returned one
 abbrev pub text_of_outcome : Outcome → Option (List ℕ)
 text_of_outcome (outcome.Value (Text t)) = Some t
 text_of_outcome _ = None

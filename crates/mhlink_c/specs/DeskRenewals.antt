@@ -1,4 +1,4 @@
--- What a renewal makes of a desk of C and its callers, and what it is refused.
+-- Renewals of desks of C with their callers, and their failures.
 use Rattle.std.specs.Prelude.{◌≡◌, ◌⊎◌, ◌<◌, ℕ, List, length, map}
 use Rattle.mh_ledger.specs.Ledgers.{AreHeld, LedgerState}
 use Rattle.mh_ledger.specs.Renewals.{renewed_ledger}
@@ -21,7 +21,7 @@ callers_of handles = map (λ h. h.value) handles
 abbrev pub ledgers_of : List HeldCallerState → List LedgerState
 ledgers_of callers = map (λ h. h.caller.ledger) callers
 
--- of what its ledger has flushed what goes on counting is left; the world of its last look and its text stay
+-- its ledger keeps the part of its flushed hits that is kept; the state of its last look and its text stay
 abbrev pub renewed_caller : OldHits → HeldCallerState → HeldCallerState
 renewed_caller hits h = with_ledger h (renewed_ledger hits h.caller.ledger)
 
@@ -43,12 +43,12 @@ pub record DeskBeginsAnew (h : HeldDeskState) (callers : List HeldCallerState) (
 abbrev pub RefusesDeskAnew : HeldDeskState → List HeldCallerState → List ℕ → Failure → Type 0
 RefusesDeskAnew h callers again e = IsRefusedBy (desk_tests h.desk.book (ledgers_of callers) again) e
 
--- as the number that C passes says
+-- by the number from C
 abbrev pub IsRenewedDesk : HeldDeskState → List HeldCallerState → List ℕ → ℕ → HeldDeskState → List HeldCallerState → Type 0
 IsRenewedDesk h callers again number new after =
     (hits : OldHits) × ((number ≡ hits_number hits) × DeskBeginsAnew h callers again hits new after)
 
--- the number is none, or the first failing test of a renewal
+-- the number is none of these, or the first failing test of a renewal
 abbrev pub RefusesDeskRenewal : HeldDeskState → List HeldCallerState → List ℕ → ℕ → Failure → Type 0
 RefusesDeskRenewal h callers again number e =
     (((hits : OldHits) → number ≡ hits_number hits → ⊥) × (e ≡ Unknown))

@@ -1,4 +1,4 @@
--- What contracts see of a desk of C, and what records, a show and a flush make of it.
+-- Desks of C as contracts see them, and the effects of records, a show and a flush.
 use Rattle.std.specs.Prelude.{◌≡◌, ℕ, List, slice_set, refl}
 use Rattle.std.specs.Coded.{Coded, code_by, coded×}
 use Rattle.mh_core.specs.Books.{Takes}
@@ -22,26 +22,26 @@ pub record HeldDeskState : Type 0 where
 abbrev pub coded_held_desk : Coded HeldDeskState
 coded_held_desk = code_by (DeskState × Scope) (coded× coded_desk scope.the_row.coded) (λ h. (h.desk, h.scope)) (λ p. record { desk = p.0; scope = p.1 }) (λ _. refl)
 
--- the desk of what is declared, and its names
+-- the desk of a definition, and its names
 abbrev pub opened_held_desk : Declarations → ℕ → MhlinkLimits → HeldDeskState
 opened_held_desk d workers limits = record { desk = opened_desk d.definition workers (limits_of limits); scope = d.scope }
 
--- exactly this record is appended, which passes its tests; the totals, what is shown, and the names stay
+-- exactly this record is appended, which passes its tests; the totals, the published state, and the names stay
 pub record DeskRecords (h new : HeldDeskState) (e : Record) : Type 0 where
   pub taken : Takes h.desk.book 0 e new.desk.book
   pub totals : new.desk.book.totals ≡ h.desk.book.totals
   pub shown : new.desk.shown ≡ h.desk.shown
   pub scope : new.scope ≡ h.scope
 
--- what is shown is the book of now, and nothing else changes
+-- the published state is that of the book, and nothing else changes
 abbrev pub shows : HeldDeskState → HeldDeskState
 shows h = record { desk = record { book = h.desk.book; shown = h.desk.book }; scope = h.scope }
 
--- the desk counts of the ledger's worker just the hits that the ledger has flushed
+-- the desk's count of the worker's hits is that of the ledger's flushed hits
 abbrev pub Holds : HeldDeskState → LedgerState → Type 0
 Holds h ledger = HoldsLedger h.desk.book.totals ledger
 
--- the hits of a ledger go to the totals, which hold it and all others then; what is shown, and the names stay
+-- the hits of a ledger go to the totals, which then hold it and all others; the published state and the names stay
 pub record DeskFlushes (h : HeldDeskState) (ledger : LedgerState) (new : HeldDeskState) : Type 0 where
   pub taken : Takes h.desk.book 0 (flush_of ledger) new.desk.book
   pub all : (ledgers : List LedgerState) → AreHeld h.desk.book.totals ledgers → AreHeld new.desk.book.totals (slice_set ledgers ledger.worker (settled ledger))

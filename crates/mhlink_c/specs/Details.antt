@@ -1,4 +1,4 @@
--- The numbers that C asks for, one by one.
+-- The properties that C queries.
 use Rattle.std.specs.Prelude.{ℕ, ◌+◌, ◌&&◌, nat_le, nat_lt, Bool, true, false, Option, Some, None, option_and_then, option_map, List, [], ◌∷◌, length, if◌then◌else◌}
 use Rattle.std.specs.List.{slice_get}
 use Rattle.mh_type.specs.declared.kind.Kind.{Kind}
@@ -22,7 +22,7 @@ use Rattle.mhlink_c.specs.declared.detail.PointDetail.TheVariants as point
 use Rattle.mhlink_c.specs.declared.detail.SiteDetail.{SiteDetail}
 use Rattle.mhlink_c.specs.declared.detail.SiteDetail.TheVariants as site
 
--- each detail, at the number by which C asks for it
+-- each property, at the number by which C selects it
 abbrev pub details : List Detail
 details =
     of.Count all.Points ∷ of.Count all.Sites ∷ of.Count all.Links
@@ -54,7 +54,7 @@ kind_number kind.Long = 2
 kind_number kind.Boolean = 3
 kind_number kind.Text = 4
 
--- the number of a site's link at a place
+-- the number of a site's link at an index
 abbrev pub link_of_site : DefinitionData → ℕ → ℕ → Option ℕ
 link_of_site d s k = if nat_lt k (length (site_at d s).links) then Some (first_link d s + k) else None
 
@@ -78,7 +78,7 @@ link_detail b j k link.Needs = Some (length (link_at b.definition j).1.needs)
 link_detail b j k link.Need = slice_get (link_at b.definition j).1.needs k
 link_detail b j k link.Eligible = Some (truth (is_eligible b.definition b.records j))
 
--- whether an installation of a plan does not skip a site
+-- whether an installation of a plan includes a site
 abbrev pub current_at_site : BookState → ℕ → ℕ → Option ℕ
 current_at_site b m s = if nat_lt s (length b.definition.sites) then Some (truth (is_current b.records m s)) else None
 
@@ -89,7 +89,7 @@ plan_detail b m k plan.Points = Some (length (plan_at b.records m).plan.points)
 plan_detail b m k plan.Point = slice_get (plan_at b.records m).plan.points k
 plan_detail b m k plan.Current = current_at_site b m k
 
--- a detail of the point, site, link or plan of a number, and where it is one of several, of that at a place
+-- a property of the point, site, link or plan of a number; if the property is a list, of the element at an index
 abbrev pub told : BookState → Detail → ℕ → ℕ → Option ℕ
 told b (of.Count detail) n k = Some (count b.definition detail)
 told b (of.Point detail) n k = if nat_lt n (length b.definition.points) then Some (point_detail b n detail) else None
@@ -97,6 +97,6 @@ told b (of.Site detail) n k = if nat_lt n (length b.definition.sites) then site_
 told b (of.Link detail) n k = if nat_lt n (length (links b.definition)) then link_detail b n k detail else None
 told b (of.Plan detail) n k = if nat_lt 0 n && nat_le n (plans b.records) then plan_detail b n k detail else None
 
--- the detail that C asks for by its number
+-- the property that C selects by its number
 abbrev pub detail_at : BookState → ℕ → ℕ → ℕ → Option ℕ
 detail_at b which n k = option_and_then (λ detail. told b detail n k) (slice_get details which)

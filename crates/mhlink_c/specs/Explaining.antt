@@ -1,4 +1,4 @@
--- Why a text cannot be read, in lines.
+-- Explanations of why a text cannot be read, in lines.
 use Rattle.std.specs.Prelude.{◌≡◌, ◌⊎◌, ℕ, List, [], ◌∷◌, Some, None}
 use Rattle.std.specs.List.{slice_get}
 use Rattle.mh_explain.specs.Explanations.{ExplainsDefinition, ExplainsRead}

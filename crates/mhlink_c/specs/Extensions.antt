@@ -1,4 +1,4 @@
--- What a machine is that got further points and sites, and why it did not get them.
+-- Extensions of machines by points and sites, and their failures.
 use Rattle.std.specs.Prelude.{◌≡◌, ◌⊎◌, ℕ, List, Ok, length, map}
 use Rattle.mh_ledger.specs.Extensions.{extended_ledger}
 use Rattle.mh_core.specs.Extensions.{Extends, GoesOn, RefusesExtension, more_links}
@@ -20,7 +20,8 @@ abbrev pub of_extension : ExtensionFault → Failure
 of_extension HistoryFull = Refused refusal.HistoryFull
 of_extension (Definition cause) = of_input (of_definition cause)
 
--- a new history begins over the longer definition: what was there goes on, all hits count on, trees may use other names, and the text of the last call stays
+-- a new history begins over the longer definition: existing sites go on, all hits are kept, trees may use other names, and the text of the
+-- last call stays
 pub record GrowsBy (h : HostState) (further : Further) (new : HostState) : Type 0 where
   pub extends : Extends further.points further.sites h.runtime.book new.runtime.book
   pub goes_on : GoesOn h.runtime.book new.runtime.book
@@ -34,7 +35,7 @@ abbrev pub RefusesToGrow : HostState → Further → Failure → Type 0
 RefusesToGrow h further e =
     (told : ExtensionFault) × ((e ≡ of_extension told) × RefusesExtension h.runtime.book (length h.runtime.ledgers) further.points further.sites told)
 
--- by what the text adds to the definition
+-- by the additions of the text to the definition
 abbrev pub IsExtended : HostState → List ℕ → HostState → Type 0
 IsExtended h text new =
     (further : Further) × ((further_in h.runtime.book.definition text ≡ Ok further) × GrowsBy h further new)

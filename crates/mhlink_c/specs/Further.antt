@@ -1,4 +1,4 @@
--- What a text in JSON adds to a definition.
+-- The additions of a text in JSON to a definition.
 use Rattle.std.specs.Prelude.{ℕ, List, Result, Ok, fold}
 use Rattle.serde_json.specs.Data.{Data}
 use Rattle.mh_site.specs.Defined.{DefinitionData}
@@ -16,7 +16,7 @@ use Rattle.mh_json.specs.declared.key.Field.TheVariants as field
 use Rattle.mh_json.specs.declared.json.scope.Scope.{Scope}
 use Rattle.mhlink_c.specs.declared.further.Further.{Further}
 
--- the names of points, and then of these
+-- the names of points, followed by these
 abbrev pub names_of_all : List Point → List Point → List (List ℕ)
 names_of_all own more = fold (λ names p. with_name names p.name) (point_names_of own) more
 

@@ -1,4 +1,4 @@
--- What a handle owns: where it is full, a value of this type and the right to free its block.
+-- Ownership by handles: a non-null handle owns a value of this type and the right to free its block.
 use base.Fml.{Fml, ftrue}
 use denote.RattleType.{RattleType}
 use denote.RawPtr.{Ptr}

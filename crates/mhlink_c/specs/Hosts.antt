@@ -1,4 +1,4 @@
--- What contracts see of a machine of C, and what records and flushes make of it.
+-- Machines of C as contracts see them, and the effects of records and flushes.
 use Rattle.std.specs.Prelude.{◌≡◌, ◌<◌, ℕ, List, Option, length, slice_set, refl}
 use Rattle.std.specs.Coded.{Coded, code_by, coded×, coded_ℕ, coded_list, coded_option}
 use Rattle.mh_core.specs.Books.{Takes}
@@ -11,7 +11,7 @@ use Rattle.mh_json.specs.declared.json.scope.Scope.{Scope}
 use Rattle.mhlink_c.specs.declared.failure.Failure.{Failure}
 use Rattle.mhlink_c.specs.declared.failure.Failure.TheVariants.{Refused}
 
--- the runtime, the names that its definition declares, and the text that the last call gave
+-- the runtime, the names that its definition declares, and the text that the last call returned
 pub record HostState : Type 0 where
   pub runtime : RuntimeState
   pub scope : Scope
@@ -33,7 +33,7 @@ pub record Records (h new : HostState) (e : Record) : Type 0 where
   pub ledgers : new.runtime.ledgers ≡ h.runtime.ledgers
   pub kept : KeepsNamesAndText h new
 
--- the hits of a worker go to the totals, and its ledger has none that are not flushed
+-- the hits of a worker go to the totals, and its ledger has no unflushed hits
 pub record Flushes (h : HostState) (w : ℕ) (new : HostState) : Type 0 where
   pub known : w < length h.runtime.ledgers
   pub taken : Takes h.runtime.book 0 (flush_of h.runtime w) new.runtime.book

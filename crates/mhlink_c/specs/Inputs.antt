@@ -1,4 +1,4 @@
--- What a text in JSON reads as.
+-- Readings of texts in JSON.
 use Rattle.std.specs.Prelude.{◌≡◌, ◌⊎◌, ℕ, List, Result, Ok, Err}
 use Rattle.mh_tree.specs.Handle.{TypedTree}
 use Rattle.mh_json.specs.Gives.{◌>>=◌, at_place}
@@ -17,7 +17,7 @@ tree_in scope text = do
   value ← json_of_input text
   at_place 0 (declared_of scope value)
 
--- what a definition declares
+-- a definition and its names
 abbrev pub declarations_in : List ℕ → Result Declarations TextualFault
 declarations_in text = do
   value ← json_of_input text
@@ -27,7 +27,7 @@ declarations_in text = do
 abbrev pub IsFaultOf : {X : Type 0} → Result X TextualFault → Failure → Type 0
 IsFaultOf read e = (e ≡ no_memory) ⊎ ((fault : TextualFault) × ((read ≡ Err fault) × (e ≡ of_text fault)))
 
--- what was read, or its fault
+-- the result of a reading, or its fault
 abbrev pub Reads : {X : Type 0} → Result X Failure → Result X TextualFault → Type 0
 Reads (Ok x) read = read ≡ Ok x
 Reads (Err e) read = IsFaultOf read e

@@ -1,4 +1,4 @@
--- The key of a link, as C reads it.
+-- Keys of links for C.
 use Rattle.std.specs.Prelude.{◌≡◌, ◌⊎◌, ◌<◌, ℕ, List, length}
 use Rattle.mh_core.specs.Defined.{DefinitionData}
 use Rattle.mh_core.specs.Links.{link_at, links}
@@ -13,7 +13,7 @@ use Rattle.mhlink_c.specs.declared.value.MhlinkValue.{MhlinkValue}
 abbrev pub key_of : DefinitionData → ℕ → Value
 key_of d j = (link_at d j).1.when
 
--- a value as C passes it, with the bytes of a text in a buffer
+-- a value for C, with the bytes of a text in a buffer
 pub record IsShown (x : Value) (v : MhlinkValue) (n : ℕ) (buffer : List ℕ) : Type 0 where
   pub kind : v.kind ≡ value_kind x
   pub number : v.number ≡ value_number x
@@ -22,7 +22,7 @@ pub record IsShown (x : Value) (v : MhlinkValue) (n : ℕ) (buffer : List ℕ) :
 abbrev pub IsLinkOf : DefinitionData → ℕ → Type 0
 IsLinkOf d j = j < length (links d)
 
--- there is no such link, or no more owners of its key can be counted
+-- the link does not exist, or no more owners of its key can be counted
 abbrev pub HasNoKey : DefinitionData → ℕ → Failure → Type 0
 HasNoKey d j e = ((e ≡ Unknown) × (IsLinkOf d j → ⊥)) ⊎ ((e ≡ no_memory) × IsLinkOf d j)
 

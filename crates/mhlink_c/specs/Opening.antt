@@ -1,4 +1,4 @@
--- What a machine or a desk is opened of, and why it is not.
+-- Opening a machine or a desk, and its failures.
 use Rattle.std.specs.Prelude.{◌≡◌, ◌⊎◌, ◌<◌, ◌≤◌, ℕ, List, None, Ok}
 use Rattle.mh_core.specs.Limits.{IsLimits, LimitsData}
 use Rattle.mh_core.specs.Runtimes.{opened_runtime}
@@ -19,11 +19,11 @@ pub record AreLimits (workers : ℕ) (given : MhlinkLimits) : Type 0 where
   pub some : 0 < workers
   pub few : workers ≤ most_workers
 
--- the runtime of what is declared, its names, and no text
+-- the runtime of the definition, its names, and no text
 abbrev pub opened_host : Declarations → ℕ → MhlinkLimits → HostState
 opened_host d workers limits = record { runtime = opened_runtime d.definition workers (limits_of limits); scope = d.scope; given = None }
 
--- what is opened of the definition that the text reads as
+-- the machine or desk of the definition that the text reads as
 abbrev pub Opens : List ℕ → ℕ → MhlinkLimits → (Declarations → Type 0) → Type 0
 Opens text workers limits Opened =
     (d : Declarations) × ((declarations_in text ≡ Ok d) × (AreLimits workers limits × Opened d))

@@ -1,4 +1,4 @@
--- The problem that C passes as arrays, what is chosen, and why nothing is.
+-- Problems from arrays of C, their solutions, and the failures to solve them.
 use Rattle.std.specs.Prelude.{ℕ, ◌≡◌, ◌⊎◌, ◌+◌, ◌≤◌, ◌==◌, List, All, length, not, take, drop, map, ℤ}
 use Rattle.std.specs.List.Sorted.{IsStrictlyIncreasing}
 use Rattle.mh_base.specs.Tests.{Refuses}
@@ -11,11 +11,11 @@ use Rattle.mhlink_c.specs.declared.failure.Failure.{Failure}
 use Rattle.mhlink_c.specs.declared.failure.Failure.TheVariants.{Unknown}
 use Rattle.mhlink_c.specs.declared.planning.MhlinkLink.{MhlinkLink}
 
--- the needs of a link: so many of all from the first
+-- the needs of a link: this many of all, from the first
 abbrev pub needs_of : List ℕ → MhlinkLink → List ℕ
 needs_of needs l = take l.count (drop l.first needs)
 
--- the needs of a link stand among all
+-- the needs of a link are among all needs
 abbrev pub HasNeeds : List ℕ → MhlinkLink → Type 0
 HasNeeds needs l = l.first + l.count ≤ length needs
 
@@ -25,17 +25,17 @@ row_of needs l = record { gain = l.gain; eligible = not (l.eligible == 0); needs
 abbrev pub rows_of : List ℕ → List MhlinkLink → List LinkRow
 rows_of needs links = map (row_of needs) links
 
--- the best links, of such the fewest, ascending, and what they are worth
+-- the optimal links, of such the fewest, ascending, and their worth
 pub record IsChoice (P : ProblemData) (links : List ℕ) (value : ℤ) : Type 0 where
   pub least : IsLeast P (member links)
   pub ascending : IsStrictlyIncreasing links
   pub is_worth : value ≡ worth P (member links)
 
--- the best links, of such the fewest, whatever they are worth
+-- the optimal links, of such the fewest, whatever their worth
 abbrev pub IsLeastChoice : ProblemData → List ℕ → Type 0
 IsLeastChoice P links = IsLeast P (member links) × IsStrictlyIncreasing links
 
--- needs that are not there, out of memory, or the first failing test of a large problem
+-- needs that do not exist, lack of memory, or the first failing test of a large problem
 abbrev pub RefusesRows : List ℕ → List MhlinkLink → List ℕ → Failure → Type 0
 RefusesRows needs links costs e =
     ((All (HasNeeds needs) links → ⊥) × (e ≡ Unknown)) ⊎ (e ≡ no_memory)

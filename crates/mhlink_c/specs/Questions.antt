@@ -1,4 +1,4 @@
--- What a question is answered.
+-- Answers to queries.
 use Rattle.std.specs.Prelude.{◌≡◌, ◌⊎◌, ◌<◌, ℕ, Some, None, List, length}
 use Rattle.mh_core.specs.Books.{BookState}
 use Rattle.mh_core.specs.Installations.{kept}
@@ -29,7 +29,7 @@ pub record IsLink (d : DefinitionData) (s : ℕ) (x : Value) (j : ℕ) : Type 0 
   pub site : (link_at d j).0 ≡ s
   pub key : (link_at d j).1.when ≡ x
 
--- the answer to a question
+-- the answer to a query
 abbrev pub Tells : BookState → Question → ℕ → Type 0
 Tells b (question.Site name) n = IsSite b.definition name.now n
 Tells b (question.Point name) n = IsPoint b.definition name.now n
@@ -43,13 +43,13 @@ abbrev pub HasNoLink : DefinitionData → ℕ → Value → Type 0
 HasNoLink d s key =
     s < length d.sites → (k : ℕ) → k < length (site_at d s).links → (link_of d s k).when ≡ key → ⊥
 
--- there is no such link, or its key is no value, or a text that is too much for the memory
+-- the link does not exist, or its key is not a value, or is a text for which memory ran out
 abbrev pub IsUnknownLink : DefinitionData → ℕ → MhlinkValue → List ℕ → Failure → Type 0
 IsUnknownLink d s key text e =
     ((e ≡ BadValue) × ((x : Value) → IsValue key text x → ⊥)) ⊎ ((e ≡ no_memory) × (key.kind ≡ 4))
     ⊎ ((e ≡ Unknown) × ((x : Value) × (IsValue key text x × HasNoLink d s x)))
 
--- why a question has no answer
+-- why a query has no answer
 abbrev pub IsUnknown : BookState → Question → Failure → Type 0
 IsUnknown b (question.Site name) e = (e ≡ Unknown) × ((s : ℕ) → IsSite b.definition name.now s → ⊥)
 IsUnknown b (question.Point name) e = (e ≡ Unknown) × ((p : ℕ) → IsPoint b.definition name.now p → ⊥)

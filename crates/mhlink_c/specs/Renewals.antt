@@ -1,4 +1,4 @@
--- How much of a machine's history is used up, and what a renewal makes of a machine.
+-- The usage of a machine's history, and renewals of machines.
 use Rattle.std.specs.Prelude.{◌≡◌, ◌⊎◌, ◌<◌, ◌+◌, ℕ, List, [], length, map}
 use Rattle.mh_ledger.specs.Renewals.{renewed_ledger}
 use Rattle.mh_ledger.specs.declared.old_hits.OldHits.{OldHits}
@@ -19,19 +19,19 @@ pub record IsUsed (b : BookState) (used : MhlinkUsed) : Type 0 where
   pub snapshots : used.snapshots ≡ snapshots_in b.records
   pub plans : used.plans ≡ plans_in b.records
 
--- the number that C passes
+-- the number from C
 abbrev pub hits_number : OldHits → ℕ
 hits_number Keep = 0
 hits_number Halve = 1
 hits_number Drop = 2
 
--- nothing of a history is used up but its first records, one more than there are workers
+-- the history has only its first records, one more than there are workers
 pub record IsFresh (b : BookState) (workers : ℕ) : Type 0 where
   pub records : length b.records ≡ workers + 1
   pub snapshots : b.snapshots ≡ []
   pub plans : b.plans ≡ []
 
--- a new history begins, in which these points are valid again, with what is left of the flushed hits
+-- a new history begins, in which these points are valid again, with the part of the flushed hits that is kept
 pub record BeginsAnew (h : HostState) (again : List ℕ) (hits : OldHits) (new : HostState) : Type 0 where
   pub passes : length h.runtime.ledgers < h.runtime.book.limits.history
   pub renewed : Renews again hits h.runtime.book new.runtime.book
@@ -46,11 +46,11 @@ abbrev pub RefusesAnew : HostState → List ℕ → Failure → Type 0
 RefusesAnew h again e =
     IsRefusedBy (renewal_tests h.runtime.book.definition h.runtime.book.limits (length h.runtime.ledgers) again) e
 
--- as the number that C passes says
+-- by the number from C
 abbrev pub IsRenewed : HostState → List ℕ → ℕ → HostState → Type 0
 IsRenewed h again number new = (hits : OldHits) × ((number ≡ hits_number hits) × BeginsAnew h again hits new)
 
--- the number is none, or the first failing test of a renewal
+-- the number is none of these, or the first failing test of a renewal
 abbrev pub RefusesRenewal : HostState → List ℕ → ℕ → Failure → Type 0
 RefusesRenewal h again number e =
     (((hits : OldHits) → number ≡ hits_number hits → ⊥) × (e ≡ Unknown))

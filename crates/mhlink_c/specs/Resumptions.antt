@@ -1,4 +1,4 @@
--- What a machine is that goes on from what an earlier one kept, and why there is none.
+-- Machines that continue an earlier one, and the failures to open them.
 use Rattle.std.specs.Prelude.{◌≡◌, ◌⊎◌, ℕ, List, Option, None, Ok}
 use Rattle.mh_base.specs.Tests.{Refuses}
 use Rattle.mh_core.specs.Resumptions.{IsResumed, resumption_tests}
@@ -14,7 +14,7 @@ use Rattle.mhlink_c.specs.declared.failure.Failure.{Failure}
 use Rattle.mhlink_c.specs.declared.failure.Failure.TheVariants.{Refused, Unknown, BadLimits}
 use Rattle.mhlink_c.specs.declared.texts.MhlinkLimits.{MhlinkLimits}
 
--- a resumption's fault, where totals of other links than there are are a number of nothing
+-- a resumption's fault; a wrong number of totals is unknown
 abbrev pub of_resumption : ResumptionFault → Failure
 of_resumption NoWorker = BadLimits
 of_resumption NoPoint = Refused refusal.NoPoint
@@ -23,7 +23,7 @@ of_resumption HistoryFull = Refused refusal.HistoryFull
 of_resumption TotalTooLarge = Refused refusal.TotalTooLarge
 of_resumption NoMemory = no_memory
 
--- a runtime of what is declared with these invalid points and totals, the names, and no text
+-- a runtime of the definition with these invalid points and totals, the names, and no text
 pub record IsResumedHost (d : Declarations) (workers : ℕ) (limits : MhlinkLimits) (invalid totals : List ℕ) (h : HostState) : Type 0 where
   pub runtime : IsResumed d.definition workers (limits_of limits) invalid totals h.runtime
   pub scope : h.scope ≡ d.scope

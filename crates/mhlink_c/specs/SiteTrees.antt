@@ -1,4 +1,4 @@
--- The tree of a site, as C reads it.
+-- Trees of sites for C.
 use Rattle.std.specs.Prelude.{◌≡◌, ◌⊎◌, ◌<◌, ℕ, List, length}
 use Rattle.mh_core.specs.Books.{BookState}
 use Rattle.mh_core.specs.Records.{base}
@@ -14,6 +14,6 @@ IsSiteOf b s = s < length b.definition.sites
 abbrev pub tree_of_site : BookState → ℕ → List ℕ
 tree_of_site b s = tree_text b.definition (base b.definition b.records s).tree
 
--- there is no such site, or memory ran out
+-- the site does not exist, or memory ran out
 abbrev pub HasNoTree : BookState → ℕ → Failure → Type 0
 HasNoTree b s e = ((e ≡ Unknown) × (IsSiteOf b s → ⊥)) ⊎ (e ≡ no_memory)

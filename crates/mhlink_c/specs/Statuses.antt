@@ -1,4 +1,4 @@
--- The status that C gets of a fault, as include/mhlink.h lists them, and what it leaves open, as a part.
+-- The status of each fault, as include/mhlink.h lists them, and its detail, the part.
 use Rattle.std.specs.Prelude.{◌≡◌, ℕ, ◌+◌}
 use Rattle.mh_base.specs.Tests.{Refuses, Tests}
 use Rattle.mh_type.specs.Faults as type_fault
@@ -64,12 +64,12 @@ part_of _ = 0
 abbrev pub no_memory : Failure
 no_memory = Refused refusal.NoMemory
 
--- a fault of an input, where out of memory is a refusal
+-- a fault of an input; lack of memory is a rejection
 abbrev pub of_input : InputFault → Failure
 of_input input.NoMemory = no_memory
 of_input fault = Input fault
 
--- a fault of a problem, where out of memory is a refusal
+-- a fault of a problem; lack of memory is a rejection
 abbrev pub of_problem : ProblemFault → Failure
 of_problem problem.NoMemory = no_memory
 of_problem fault = Problem fault
@@ -78,10 +78,10 @@ abbrev pub of_kind : TextFault → Failure
 of_kind (text.Input fault) = of_input fault
 of_kind _ = no_memory
 
--- a fault of a text that was passed, wherever it stands
+-- a fault of a text, at any place
 abbrev pub of_text : TextualFault → Failure
 of_text fault = of_kind fault.kind
 
--- refused for the first test that fails
+-- rejected for the first test that fails
 abbrev pub IsRefusedBy : Tests Refusal → Failure → Type 0
 IsRefusedBy tests e = (told : Refusal) × ((e ≡ Refused told) × Refuses tests told)

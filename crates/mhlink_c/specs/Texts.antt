@@ -1,4 +1,4 @@
--- The texts that C copies.
+-- Texts for C.
 use Rattle.std.specs.Prelude.{◌≡◌, ◌≢◌, ◌⊎◌, ℕ, List, Option, None, length, map}
 use Rattle.std.specs.List.{sum_by}
 use Rattle.mh_cert.specs.declared.plan.Plan.{Plan}
@@ -14,7 +14,7 @@ use Rattle.mhlink_c.specs.Statuses.{no_memory}
 use Rattle.mhlink_c.specs.declared.failure.Failure.{Failure}
 use Rattle.mhlink_c.specs.declared.failure.Failure.TheVariants.{Short, Unknown}
 
--- a best plan with the flow that shows it to be best, as JSON
+-- an optimal plan with the flow that proves it optimal, as JSON
 abbrev pub IsCertificate : RuntimeState → ℕ → List ℕ → Type 0
 IsCertificate r snapshot text = (plan : Plan) × (IsBest r.book snapshot plan × (text ≡ plan_json plan))
 
@@ -27,10 +27,10 @@ abbrev pub report_of : RuntimeState → List ℕ
 report_of r =
     tables_text r.book.definition r.book.records (map (unflushed_of r.ledgers) (numbers (length (links r.book.definition))))
 
--- the last call gave no text, or memory ran out
+-- the last call returned no text, or memory ran out
 abbrev pub HasNoText : Option (List ℕ) → Failure → Type 0
 HasNoText given e = ((e ≡ Unknown) × (given ≡ None)) ⊎ ((e ≡ no_memory) × (given ≢ None))
 
--- such a text is there, and the buffer is too short for it
+-- there is such a text, and the buffer is too short for it
 abbrev pub IsUncopied : (List ℕ → Type 0) → ℕ → List ℕ → Failure → Type 0
 IsUncopied Is count buffer e = (e ≡ Short) × ((text : List ℕ) × (Is text × IsTooShort text count buffer))

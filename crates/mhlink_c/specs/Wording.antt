@@ -1,4 +1,4 @@
--- What a status means, in words.
+-- Texts of statuses.
 use Rattle.std.specs.Prelude.{◌≡◌, ◌≢◌, ◌⊎◌, ℕ, ◌==◌, List, [], ◌∷◌, ◌++◌, Option, Some, None, codes, if◌then◌else◌}
 use Rattle.std.specs.Fmt.{decimal}
 use Rattle.mh_core.specs.Refusals.{refusal_text}
@@ -11,7 +11,7 @@ use Rattle.mhlink_c.specs.Statuses.{no_memory}
 use Rattle.mhlink_c.specs.declared.failure.Failure.{Failure}
 use Rattle.mhlink_c.specs.declared.failure.Failure.TheVariants.{Refused, Input, Problem, Unknown, Short, BadValue, BadLimits}
 
--- statuses, and the words of each: of what is done and of refusals
+-- statuses with their texts: of success and of rejections
 abbrev pub refusals : List (ℕ × List ℕ)
 refusals =
     (0, codes "done")
@@ -65,26 +65,26 @@ others =
     ∷ (304, codes "a limit, or the number of workers, is out of its range")
     ∷ []
 
--- what stands beside a number, if it stands there
+-- the entry of a number, if there is one
 abbrev pub beside : List (ℕ × List ℕ) → ℕ → Option (List ℕ)
 beside [] n = None
 beside (row ∷ rows) n = if row.0 == n then Some row.1 else beside rows n
 
--- the words of a status; none of another number
+-- the text of a status, and none for another number
 abbrev pub words_of : ℕ → Option (List ℕ)
 words_of status = beside (refusals ++ inputs ++ others) status
 
--- words, with a part behind them where it is not 0
+-- a text, followed by a part that is not 0
 abbrev pub with_part : List ℕ → ℕ → List ℕ
 with_part words part = if part == 0 then words else words ++ 32 ∷ decimal part
 
--- the number is no status; or memory ran out, or the buffer is too short, for the words
+-- the number is not a status; or memory ran out, or the buffer is too short, for the text
 abbrev pub RefusesWords : ℕ → ℕ → ℕ → List ℕ → Failure → Type 0
 RefusesWords status part count buffer e =
     ((e ≡ Unknown) × (words_of status ≡ None)) ⊎ ((e ≡ no_memory) × (part ≢ 0))
     ⊎ ((e ≡ Short) × ((words : List ℕ) × ((words_of status ≡ Some words) × IsTooShort (with_part words part) count buffer)))
 
--- the words of a fault: those of its refusal, or of its input's fault, which tell the part too
+-- the text of a fault: that of its rejection, or of its input's fault, which has the part too
 abbrev pub fault_words : Failure → List ℕ
 fault_words (Refused told) = codes "refused " ++ refusal_text told
 fault_words (Input cause) = codes "fault " ++ input_text cause
@@ -94,7 +94,7 @@ fault_words Short = codes "the buffer is too short"
 fault_words BadValue = codes "a value of no kind, out of its kind's range, or whose text is not passed"
 fault_words BadLimits = codes "a limit, or the number of workers, is out of its range"
 
--- a fault whose number C may get: out of memory is a refusal, and plans have numbers from 1
+-- a fault whose number C may get: lack of memory is a rejection, and plans have numbers from 1
 abbrev pub IsTold : Failure → Type 0
 IsTold (Refused (OldPlan newest)) = newest ≢ 0
 IsTold (Input input.NoMemory) = ⊥
