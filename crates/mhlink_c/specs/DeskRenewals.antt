@@ -25,8 +25,8 @@ ledgers_of callers = map (λ h. h.caller.ledger) callers
 abbrev pub renewed_caller : OldHits → HeldCallerState → HeldCallerState
 renewed_caller hits h = with_ledger h (renewed_ledger hits h.caller.ledger)
 
--- a new history begins, in which these points are valid again, with what is left of the flushed hits: of all callers, one of each worker
--- in order, which the desk holds then too; what is shown, and the names stay
+-- a new history begins, in which these points are valid again, with the part of the flushed hits that is kept: of all callers, one of each worker
+-- in order, which the desk then holds too; the published state and the names stay
 pub record DeskBeginsAnew (h : HeldDeskState) (callers : List HeldCallerState) (again : List ℕ) (hits : OldHits) (new : HeldDeskState) (after : List HeldCallerState) : Type 0 where
   pub held : AreHeld h.desk.book.totals (ledgers_of callers)
   pub passes : length callers < h.desk.book.limits.history
