@@ -41,6 +41,7 @@ checks_of_documents() {
     step tools/check_believe
     step tools/check_schema
     step tools/check_share
+    step tools/check_abi
     step tools/check_pictures
     step tools/calling --check
     step tools/definitions_page --check
