@@ -33,6 +33,7 @@ tests_of() {
     step tools/try_sweep
     step tools/try_c "$2"
     step tools/try_lua "$2"
+    step tools/try_rust "$2"
 }
 
 # Checks the documents against the code.
