@@ -1,4 +1,4 @@
--- Which line of a profile has its fault, and which name it has that no earlier line has.
+-- The line of a profile that has its fault, and the name in it that no earlier line has.
 use Rattle.std.specs.Prelude.{ℕ, ◌≡◌, ◌<◌, ◌==◌, ◌⊎◌, Bool, false, List, drop, length, map, not, slice_index_or, take, Option, Some, None, Ok, Err, codes}
 use Rattle.std.specs.List.{HoldsAt, IsAfterLastMatch, IsFirstMatchOrLen, list_any}
 use Rattle.std.specs.Str.{bytes_eq}
@@ -16,8 +16,8 @@ use Rattle.mh_profile.specs.declared.profile.Profile.{Profile}
 use Rattle.mh_profile.specs.Lines.{lines_of}
 use Rattle.mh_profile.specs.Profiles.{profile_of, text_of_line}
 
--- Line n of an input and what stands before it: it begins behind the end of the line before it, and goes up to its own end, or to
--- that of the input.
+-- line n of an input, and the bytes before it: it begins after the end of the line before it, and ends at its own end or that of the
+-- input
 pub record IsLine (input : List ℕ) (n : ℕ) (before line : List ℕ) : Type 0 where
   pub start : ℕ
   pub end : ℕ
@@ -27,7 +27,7 @@ pub record IsLine (input : List ℕ) (n : ℕ) (before line : List ℕ) : Type 0
   pub is : line ≡ drop start (take end input)
   pub number : length (lines_of before) ≡ n
 
--- a line that has this fault behind the lines before it, which have none and name these points
+-- a line that has this fault, after lines that have none and name these points
 pub record IsFaulty (input : List ℕ) (fault : InputFault) (line : FaultyLine) : Type 0 where
   pub front : List ℕ
   pub place : IsLine input line.number front line.bytes
@@ -36,12 +36,12 @@ pub record IsFaulty (input : List ℕ) (fault : InputFault) (line : FaultyLine) 
   pub names : line.points ≡ before.points
   pub fails : at_place line.number (text_of_line line.number before line.bytes) ≡ Err (record { kind = Input fault; at = line.number })
 
--- whether a text that may be there is the name of no point
+-- whether an optional text is the name of no point
 abbrev pub is_new : List (List ℕ) → Option (List ℕ) → Bool
 is_new points (Some name) = not (list_any (bytes_eq name) points)
 is_new points None = false
 
--- the first need of a line that is the name of no point before it
+-- the first need of a line that is the name of no earlier point
 pub record IsUnknown (line : FaultyLine) (name : List ℕ) : Type 0 where
   pub value : Data
   pub needs : Data

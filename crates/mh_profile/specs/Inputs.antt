@@ -1,4 +1,4 @@
--- What an input of lines is as a problem with names, and its faults.
+-- An input of lines as a problem with names, and its faults.
 use Rattle.std.specs.Prelude.{ℕ, ◌≡◌, ◌⊎◌, List, Ok, Err}
 use Rattle.mh_base.specs.Tests.{Passes, Refuses}
 use Rattle.mh_network.specs.declared.fault.ProblemFault.{ProblemFault}
@@ -27,6 +27,6 @@ IsFaultOfLines input e = profile_of input ≡ Err e
 abbrev pub IsProfileInput : List ℕ → NamedProblem → Type 0
 IsProfileInput input n = (x : Profile) × (profile_of input ≡ Ok x) × IsNamed x n
 
--- the first fault of an input that is none
+-- the first fault of an input that is not such a problem
 abbrev pub IsProfileFault : List ℕ → Fault → Type 0
 IsProfileFault input e = IsFaultOfLines input e ⊎ ((x : Profile) × (profile_of input ≡ Ok x) × IsNotMade x e)

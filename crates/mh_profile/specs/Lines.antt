@@ -2,11 +2,11 @@
 use Rattle.std.specs.Prelude.{ℕ, ◌≡◌, ◌==◌, ◌||◌, Bool, false, List}
 use Rattle.std.specs.List.{All, list_all, slice_split}
 
--- what each byte 0x0A parts from the next: the last line is what stands behind the last of them
+-- the parts between bytes 0x0A: the last line is the part after the last of them
 abbrev pub lines_of : List ℕ → List (List ℕ)
 lines_of bytes = slice_split (λ b. b == 10) bytes
 
--- the byte 0x0A stands nowhere in it
+-- the byte 0x0A does not occur in it
 abbrev pub IsInLine : List ℕ → Type 0
 IsInLine bytes = All (λ b. (b == 10) ≡ false) bytes
 

@@ -13,17 +13,17 @@ use Rattle.mh_profile.specs.declared.named.NamedProblem.{NamedProblem}
 use Rattle.mh_profile.specs.Accounts.{rows_of, slack_of}
 use Rattle.mh_profile.specs.Sweeps.{swept_text, until_text}
 
--- the name by a number, as a string of JSON
+-- the name of a number, as a string of JSON
 abbrev pub name_text : List (List ℕ) → ℕ → List ℕ
 name_text names k = compact_text (string (slice_index_or names k []))
 
--- how many links and points are chosen of how many
+-- how many links and points are selected, of how many
 abbrev pub counts_text : ProblemData → Plan → List ℕ
 counts_text P plan =
     codes "links " ++ (decimal (length plan.links) ++ (codes " of " ++ (decimal (length P.links)
     ++ (codes " points " ++ (decimal (length plan.points) ++ (codes " of " ++ decimal (length P.costs)))))))
 
--- what the links gain, their points cost, and they are charged, and what that leaves
+-- what the links gain, what their points cost, what they are charged, and the value
 abbrev pub sums_text : ProblemData → Plan → List ℕ
 sums_text P plan =
     codes "gain " ++ (decimal (sum_by (gain_of P) plan.links) ++ (codes " costs " ++ (decimal (sum_by (cost_of P) plan.points)
@@ -32,11 +32,11 @@ sums_text P plan =
 abbrev pub head_text : ProblemData → Plan → List ℕ
 head_text P plan = codes "profile " ++ (counts_text P plan ++ (codes " " ++ sums_text P plan))
 
--- the charge of a chosen link, where there is one
+-- the charge of a selected link, if it has one
 abbrev pub charge_text : ℕ → List ℕ
 charge_text charge = cond (charge == 0) [] (codes " charge " ++ decimal charge)
 
--- what is paid of the charge of a link that is left out, where there is one
+-- what is paid of the charge of a link that is not selected, if it has one
 abbrev pub paid_text : ℕ → ℕ → List ℕ
 paid_text charge paid = cond (charge == 0) [] (codes " charge " ++ (decimal paid ++ (codes " of " ++ decimal charge)))
 
@@ -44,24 +44,24 @@ paid_text charge paid = cond (charge == 0) [] (codes " charge " ++ (decimal paid
 abbrev pub gives_text : List (List ℕ) → Row → List ℕ
 gives_text points r = codes " gives " ++ (decimal r.2 ++ (codes " to " ++ name_text points r.1))
 
--- a link that is chosen
+-- a link that is selected
 abbrev pub chosen_text : NamedProblem → ℕ → List ℕ
 chosen_text n j = codes "link " ++ (name_text n.links j ++ (codes " gain " ++ (decimal (gain_of n.problem j) ++ charge_text (charge_of n.problem j))))
 
--- the gain of a link that is left out, and where all of it went
+-- the gain of a link that is not selected, and where it went
 abbrev pub spent_text : NamedProblem → Plan → ℕ → List ℕ
 spent_text n plan j =
     codes " gain " ++ (decimal (gain_of n.problem j) ++ (paid_text (charge_of n.problem j) (into_charge plan.charges j)
     ++ flat_map (gives_text n.points) (rows_of plan.flow j)))
 
--- a link that is left out: it may not be chosen, or it spends all that it gains
+-- a link that is not selected: it is not eligible, or it spends all that it gains
 abbrev pub left_text : NamedProblem → Plan → ℕ → List ℕ
 left_text n plan j = codes "left " ++ (name_text n.links j ++ cond (link_at n.problem j).eligible (spent_text n plan j) (codes " not eligible"))
 
 abbrev pub link_text : NamedProblem → Plan → ℕ → List ℕ
 link_text n plan j = cond (member plan.links j) (chosen_text n j) (left_text n plan j)
 
--- a point that a chosen link needs
+-- a point that a selected link needs
 abbrev pub paid_for_text : NamedProblem → Plan → ℕ → List ℕ
 paid_for_text n plan p =
     codes "point " ++ (name_text n.points p ++ (codes " cost " ++ (decimal (cost_of n.problem p) ++ (codes " slack " ++ decimal (slack_of n.problem plan p)))))
@@ -80,7 +80,7 @@ point_text n plan p =
 abbrev pub line : List ℕ → List ℕ
 line text = text ++ 10 ∷ []
 
--- what became of a link, and up to which scale it is chosen, if the costs are swept
+-- the decision for a link, and up to which scale it is selected, if the costs are swept
 abbrev pub swept_link_text : NamedProblem → Plan → Option Sweep → ℕ → List ℕ
 swept_link_text n plan sweep j = link_text n plan j ++ until_text n.problem sweep j
 

@@ -1,4 +1,4 @@
--- What a sweep of all scales of costs says of the links of a profile.
+-- What a sweep of all scales of the costs says of the links of a profile.
 use Rattle.std.specs.Prelude.{ℕ, ◌≡◌, ◌≤◌, ◌<◌, ◌+◌, ◌*◌, ◌/◌, ◌%◌, Bool, true, false, List, [], ◌++◌, codes, cond, length, Option, Some, None, IsSomeAnd}
 use Rattle.std.specs.Fmt.{decimal}
 use Rattle.mh_network.specs.declared.fault.ProblemFault.TheVariants.{GainTooLarge}
@@ -12,7 +12,7 @@ use Rattle.mh_json.specs.declared.fault.InputFault.TheVariants.{Problem}
 use Rattle.mh_json.specs.declared.fault.TextFault.TheVariants.{Input}
 use Rattle.mh_profile.specs.declared.named.NamedProblem.{NamedProblem}
 
--- the sweep of a problem: up to which scale it goes, and up to which scale each link is chosen, at most one thousandth past it
+-- the sweep of a problem: up to which scale it goes, and up to which scale each link is selected, at most one thousandth past it
 pub record IsSweep (P : ProblemData) (s : Sweep) : Type 0 where
   pub gains : 1000 * sum_of_gains P ≤ greatest_sum
   pub most : IsMost P s.most
@@ -39,7 +39,7 @@ abbrev pub swept_text : Option Sweep → List ℕ
 swept_text None = []
 swept_text (Some s) = codes " sweep " ++ thousandths_text s.most
 
--- up to which scale a link is chosen, unless it is not eligible
+-- up to which scale a link is selected, unless it is not eligible
 abbrev pub until_text : ProblemData → Option Sweep → ℕ → List ℕ
 until_text P None j = []
 until_text P (Some s) j = cond (link_at P j).eligible (codes " until " ++ thousandths_text (number_at s.until j)) []

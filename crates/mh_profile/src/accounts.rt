@@ -1,4 +1,4 @@
-//! What a flow gives and leaves at each link and each point.
+//! Accounts of a flow: what each link gives and keeps, and what each point gets.
 ghost use Rattle.std.specs.Prelude.{◌≡◌, ◌<◌, ◌≤◌, ◌+◌, ◌-◌, ◌==◌, ℕ, All, AllPairs, cond, length, slice_index_or, IfOk, true};
 ghost use Rattle.std.specs.List.{list_any};
 ghost use Rattle.std.specs.List.Sorted.{IsStrictlyIncreasing};
@@ -14,7 +14,7 @@ use mh_cert::Plan;
 use mh_network::{Problem, carried, lists_add_up};
 use std::alloc::Global;
 
-/// Whether a number is among others.
+/// Returns whether a number is among others.
 pub(crate) fn is_among(numbers: &[u32], number: u32) -> bool
     requires ascending { IsStrictlyIncreasing numbers.now }
     ensures value { result ≡ member numbers.now number }
@@ -22,7 +22,7 @@ pub(crate) fn is_among(numbers: &[u32], number: u32) -> bool
     !run_of(numbers, number).is_empty()
 }
 
-/// The rows of a link.
+/// Returns the rows of a link.
 pub(crate) fn rows_of(flow: &[(u32, u32, u64)], link: u32) -> &[(u32, u32, u64)]
     requires ordered { AllPairs IsBefore flow.now }
     ensures value { result.now ≡ rows_of_link flow.now link }
@@ -30,7 +30,7 @@ pub(crate) fn rows_of(flow: &[(u32, u32, u64)], link: u32) -> &[(u32, u32, u64)]
     run_of(flow, link)
 }
 
-/// What the rows of a link give to points, and what it pays of its charge.
+/// Returns what a link spends: what its rows give to points, and what it pays of its charge.
 fn spent(flow: &[(u32, u32, u64)], charges: &[(u32, u64)], link: u32) -> u128
     requires ordered { AllPairs IsBefore flow.now }
     requires charged { AllPairs IsChargeBefore charges.now }
@@ -39,7 +39,7 @@ fn spent(flow: &[(u32, u32, u64)], charges: &[(u32, u64)], link: u32) -> u128
     carried(rows_of(flow, link), run_of(charges, link))
 }
 
-/// What a link pays of its charge.
+/// Returns what a link pays of its charge.
 pub(crate) fn paid(charges: &[(u32, u64)], link: u32) -> u128
     requires charged { AllPairs IsChargeBefore charges.now }
     ensures value { result ≡ into_charge charges.now link }
@@ -47,7 +47,7 @@ pub(crate) fn paid(charges: &[(u32, u64)], link: u32) -> u128
     spent(&[], charges, link)
 }
 
-/// What a link has left of its gain.
+/// Returns what a link keeps of its gain.
 fn left(problem: &Problem, plan: &Plan, link: u32) -> u64
     requires matching { Matches problem.now plan.now }
     requires inside { link < length problem.now.links }
@@ -57,7 +57,7 @@ fn left(problem: &Problem, plan: &Plan, link: u32) -> u64
     problem.gain(link as usize) - spent as u64
 }
 
-/// What each point gets of its cost.
+/// Returns what each point gets of its cost.
 fn what_points_get(
     alloc: Global,
     problem: &Problem,
@@ -76,7 +76,7 @@ fn what_points_get(
     Ok(gets)
 }
 
-/// Adds an amount at each of some numbers.
+/// Adds an amount at each of some indices.
 fn add_at(sums: &mut Vec<u64>, numbers: &[u32], amount: u64)
     requires ascending { IsStrictlyIncreasing numbers.now }
     requires inside { All (λ p. p < length sums.old.items) numbers.now }
@@ -90,7 +90,7 @@ fn add_at(sums: &mut Vec<u64>, numbers: &[u32], amount: u64)
     }
 }
 
-/// What the chosen links that need each point have left together.
+/// Returns for each point what the selected links that need it keep together.
 fn what_links_leave(alloc: Global, problem: &Problem, plan: &Plan) -> Result<Vec<u64>, NoMemory>
     requires matching { Matches problem.now plan.now }
     ensures count { IfOk result (λ sums. length sums.items ≡ length problem.now.costs) }
@@ -106,17 +106,17 @@ fn what_links_leave(alloc: Global, problem: &Problem, plan: &Plan) -> Result<Vec
     Ok(sums)
 }
 
-/// What points get, and what the chosen links leave around them, by the numbers of the points.
+/// What points get, and what the selected links that need them keep, by number of the point.
 #[derive(Drop)]
 pub(crate) struct Account {
     /// What each point gets of its cost.
     gets: Listing<u64>,
-    /// What the chosen links that need each point have left together.
+    /// What the selected links that need each point keep together.
     leaves: Listing<u64>,
 }
 
 impl Account {
-    /// The account of a plan.
+    /// Returns the account of a plan.
     pub(crate) fn new(alloc: Global, problem: &Problem, plan: &Plan) -> Result<Account, NoMemory>
         requires matching { Matches problem.now plan.now }
         ensures value { IfOk result (IsAccount problem.now plan.now) }
@@ -129,7 +129,7 @@ impl Account {
         })
     }
 
-    /// What a point gets of its cost.
+    /// Returns what a point gets of its cost.
     pub(crate) fn gets(&self, point: usize) -> u64
         requires inside { point < length self.now.gets }
         ensures value { result ≡ slice_index_or self.now.gets point 0 }
@@ -137,7 +137,8 @@ impl Account {
         self.gets.as_slice()[point]
     }
 
-    /// By how much the cost of a point may rise, where it is chosen, or fall, where it is not.
+    /// Returns the slack of a point: by how much its cost may rise if it is selected, or fall if it
+    /// is not.
     pub(crate) fn slack(&self, problem: &Problem, chosen: bool, point: usize) -> u64
         requires inside { point < length problem.now.costs }
         requires gets { length self.now.gets ≡ length problem.now.costs }

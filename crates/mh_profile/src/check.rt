@@ -13,16 +13,18 @@ use mh_text::{Verdict, Watched, judge, write_verdict};
 use std::alloc::Global;
 use std::io::{Read, Write};
 
-/// Checks the plan that the reader gives behind the lines of its profile, writes a line of what is
-/// found, and returns it: `accepted`, or `refused`, the number and the name of the first part that
-/// is wrong.
+/// Checks the plan that follows the lines of its profile, writes a line with the verdict, and
+/// returns the verdict: `accepted`, or `refused` with the number and the name of the first test
+/// that failed.
 ///
-/// The plan is the last line that is not white space, as `plan_profile` writes it where its
-/// certificate is asked for, or an object that has it at the key `plan`. Whatever stands before
-/// that line is the profile, which is read and made before the plan is looked at. The input is read
-/// to its end, or to the first byte past 134,217,728. A fault of the input, or of memory, writes
-/// nothing; that of the plan has the number of its line. A failing write leaves a beginning of the
-/// line, and is a fault of no line.
+/// The plan is the last line that is not white space: as `plan_profile` writes it with a
+/// certificate, or an object that has it at the key `plan`. The profile is everything before that
+/// line. It is read, and its problem made, before the plan is looked at. The input is read to its
+/// end, or to the first byte past 134,217,728.
+///
+/// A fault of the input, or running out of memory, writes nothing; a fault of the plan has the
+/// number of its line. If a write fails, the output is a prefix of the line, and the fault has no
+/// line.
 pub fn check_profile<R: Read, W: Write>(
     alloc: Global,
     reader: &mut Watched<R>,

@@ -1,4 +1,4 @@
-//! Claims: a profile, and behind it a line that is said to be a best plan of it.
+//! Claims: a profile, followed by a line that claims to be an optimal plan of it.
 ghost use Rattle.std.specs.Prelude.{◌≡◌, ◌≢◌, ◌⊎◌, ◌==◌, ◌<◌, ◌≤◌, ◌+◌, IfOk, IfErr, IfSome, OnOk, List, ℕ, length};
 ghost use Rattle.std.specs.Io.KnownBytes.{IsAtEnd};
 ghost use Rattle.std.specs.List.{IsAfterLastMatch};
@@ -24,24 +24,24 @@ use serde_json::Value;
 use std::alloc::Global;
 use std::io::Read;
 
-/// The most bytes of a profile and the line of its plan together: twice those of a profile.
+/// The most bytes of a profile together with the line of its plan: twice those of a profile.
 const LIMIT: usize = 134_217_728;
 
-/// A problem, and what is said to be a best plan of it.
+/// A problem, and a claimed optimal plan of it.
 #[derive(Drop)]
 pub(crate) struct Claim {
     pub(crate) problem: Problem,
     pub(crate) plan: Plan,
 }
 
-/// Whether a byte is neither white space nor the end of a line.
+/// Returns whether a byte is neither white space nor the end of a line.
 fn says_something(byte: u8) -> bool
     ensures value { result ≡ is_said byte }
 {
     !matches!(byte, b' ' | b'\t' | b'\r' | b'\n')
 }
 
-/// How many bytes stand before the white space at the end.
+/// Returns the number of bytes before the white space at the end.
 fn said_len(bytes: &[u8]) -> usize
     ensures inside { result ≤ length bytes.now }
     ensures value { IsAfterLastMatch is_said bytes.now result }
@@ -53,7 +53,7 @@ fn said_len(bytes: &[u8]) -> usize
     end
 }
 
-/// Where the last line begins.
+/// Returns the index at which the last line begins.
 pub(crate) fn last_line_start(bytes: &[u8]) -> usize
     ensures inside { result ≤ length bytes.now }
     ensures value { IsAfterLastMatch (λ b. b == 10) bytes.now result }
@@ -65,7 +65,7 @@ pub(crate) fn last_line_start(bytes: &[u8]) -> usize
     start
 }
 
-/// The last line that is not white space, and what stands before it.
+/// Returns the last line that is not white space, and the bytes before it.
 fn part(input: &[u8]) -> (&[u8], &[u8])
     ensures value { IsParted input.now result.0.now result.1.now }
 {
@@ -74,7 +74,7 @@ fn part(input: &[u8]) -> (&[u8], &[u8])
     (&said[..start], &said[start..])
 }
 
-/// How many lines these bytes are: the number of the one that has begun.
+/// Returns the number of lines in these bytes, including one that has begun.
 pub(crate) fn line_count(bytes: &[u8]) -> u64
     ensures value { result ≡ length (lines_of bytes.now) }
 {
@@ -87,7 +87,7 @@ pub(crate) fn line_count(bytes: &[u8]) -> u64
     number
 }
 
-/// The plan that a value has at the key `plan`, or, where it has none, is.
+/// Reads the plan at the key `plan` of a value, or the value itself if it has no such key.
 fn read_claimed(alloc: Global, value: &Value) -> Result<Plan, Misread>
     ensures value { Gives (λ x. x) result (claimed_plan (view value.now)) }
 {
@@ -97,7 +97,7 @@ fn read_claimed(alloc: Global, value: &Value) -> Result<Plan, Misread>
     }
 }
 
-/// The plan of a line.
+/// Reads the plan of a line.
 fn read_plan_line(alloc: Global, line: &[u8]) -> Result<Plan, Misread>
     ensures value { Gives (λ x. x) result (plan_in_line line.now) }
 {
@@ -105,7 +105,7 @@ fn read_plan_line(alloc: Global, line: &[u8]) -> Result<Plan, Misread>
     read_claimed(alloc, &value)
 }
 
-/// The plan of line `number`.
+/// Reads the plan of line `number`.
 fn read_numbered_plan(alloc: Global, number: u64, line: &[u8]) -> Result<Plan, Fault>
     ensures value { GivesAt (λ x. x) result (at_place number (plan_in_line line.now)) }
     ensures kind { IfErr result (λ e. IsOfInput e.kind) }
@@ -116,7 +116,7 @@ fn read_numbered_plan(alloc: Global, number: u64, line: &[u8]) -> Result<Plan, F
     }
 }
 
-/// The profile that lines are.
+/// Reads the profile in these lines.
 pub(crate) fn read_lines(alloc: Global, lines: &[u8]) -> Result<Profile, Fault>
     ensures value { GivesAt (λ x. x) result (profile_of lines.now) }
     ensures kind { IfErr result (λ e. IsOfInput e.kind) }
@@ -124,7 +124,7 @@ pub(crate) fn read_lines(alloc: Global, lines: &[u8]) -> Result<Profile, Fault>
     LineReader::new(alloc).take(lines)?.finish()
 }
 
-/// The problem of lines, and the plan of the line behind them.
+/// Reads the problem in these lines, and the plan in the line that follows them.
 fn read_parts(alloc: Global, lines: &[u8], line: &[u8]) -> Result<Claim, Fault>
     ensures ok { IfOk result (λ claim. IsClaim lines.now line.now claim.problem claim.plan) }
     ensures kind { IfErr result (λ e. IsOfInput e.kind) }
@@ -135,16 +135,16 @@ fn read_parts(alloc: Global, lines: &[u8], line: &[u8]) -> Result<Claim, Fault>
     Ok(Claim { problem, plan })
 }
 
-/// The lines of the profile in an input that has a plan behind them.
+/// Returns the lines of the profile in an input that ends with a plan.
 pub fn claimed_lines(input: &[u8]) -> &[u8]
     ensures value { (line : List ℕ) × IsParted input.now result.now line }
 {
     part(input).0
 }
 
-/// The input of a profile and a plan, whole.
+/// Reads the input of a profile and a plan into memory.
 ///
-/// It is read to its end, or to the first byte past 134,217,728, and is too long then.
+/// It is read to its end, or to the first byte past 134,217,728, and is then too long.
 pub fn keep_claim<R: Read>(alloc: Global, reader: &mut Watched<R>) -> Result<Vec<u8>, Fault>
     ensures ok { IfOk result (λ input. IfSome (R.remaining reader.old.inner)
         (λ bytes. input.items ≡ bytes)) }
@@ -164,7 +164,7 @@ pub fn keep_claim<R: Read>(alloc: Global, reader: &mut Watched<R>) -> Result<Vec
     Ok(read_up_to(alloc, reader, LIMIT)?)
 }
 
-/// The problem and the plan that the reader gives.
+/// Reads the problem and the plan in an input.
 pub(crate) fn read_claim<R: Read>(alloc: Global, reader: &mut Watched<R>) -> Result<Claim, Fault>
     ensures ok { IfOk result (λ claim. IfSome (R.remaining reader.old.inner)
         (λ input. IsReadClaim input claim.problem claim.plan)) }

@@ -1,4 +1,4 @@
-//! The line of a profile that has its fault, for whoever explains it.
+//! The line of a profile that has its fault, for explanations.
 ghost use Rattle.std.specs.Prelude.{◌≡◌, ◌≢◌, ◌<◌, ◌≤◌, ◌==◌, ◌⊎◌, ℕ, length, slice_index_or, string_bytes, IfSome, IsTrue, Err, Some};
 ghost use Rattle.std.specs.List.{HoldsAt, IsFirstMatchOrLen};
 ghost use Rattle.serde_json.specs.Find.{as_str};
@@ -18,18 +18,18 @@ use mh_network::Listing;
 use serde_json::Value;
 use std::alloc::Global;
 
-/// A line that has a fault, and the names that stand before it.
+/// A line that has a fault, and the names of the points before it.
 #[derive(Drop)]
 pub struct FaultyLine {
     /// Its number, from 1.
     pub number: u64,
-    /// Its bytes, its end not among them.
+    /// Its bytes, without its end.
     pub bytes: Listing<u8>,
     /// The names of the points of the lines before it.
     pub points: PointNames,
 }
 
-/// The number of the first line that has a fault; 0 where none has one, or memory ran out.
+/// Returns the number of the first line that has a fault, or 0 if none has one or memory ran out.
 fn faulty_number(alloc: Global, lines: &[u8]) -> u64 {
     match read_lines(alloc, lines) {
         Ok(_) => 0,
@@ -37,7 +37,7 @@ fn faulty_number(alloc: Global, lines: &[u8]) -> u64 {
     }
 }
 
-/// Where the line of this number ends, or, where there are fewer lines, all of them.
+/// Returns the index at which the line of this number ends, or the length if there are fewer lines.
 fn line_stop(lines: &[u8], number: u64) -> usize
     ensures inside { result ≤ length lines.now }
     ensures ended { (result ≡ length lines.now) ⊎ (slice_index_or lines.now result 0 ≡ 10) }
@@ -56,7 +56,7 @@ fn line_stop(lines: &[u8], number: u64) -> usize
     at
 }
 
-/// Whether a line, whose bytes are these, has this fault behind what was read.
+/// Returns whether the next line, with these bytes, has this fault.
 #[tactic(auto, using(crate::proofs::LineFaults::line_fault))]
 fn has_fault(alloc: Global, profile: Profile, number: u64, bytes: &[u8], fault: InputFault) -> bool
     requires of_line { fault ≢ InputFault.NoMemory }
@@ -69,7 +69,7 @@ fn has_fault(alloc: Global, profile: Profile, number: u64, bytes: &[u8], fault: 
     }
 }
 
-/// A copy of bytes, unless memory runs out.
+/// Returns a copy of bytes, unless memory runs out.
 fn copied(alloc: Global, bytes: &[u8]) -> Option<Listing<u8>>
     ensures value { IfSome result (λ copy. copy ≡ bytes.now) }
 {
@@ -78,10 +78,10 @@ fn copied(alloc: Global, bytes: &[u8]) -> Option<Listing<u8>>
     Some(Listing::from_vec(copy))
 }
 
-/// The first line that has a fault, where it is this one.
+/// Returns the first line that has a fault, if the fault is this one.
 ///
-/// There is none where the fault is of no line: memory ran out, a line or all lines are too long,
-/// or sums are past their limit. Nor is there one where memory runs out here.
+/// Returns `None` if the fault has no line: memory ran out, a line or all lines are too long, or a
+/// sum exceeds its limit; and if memory runs out here.
 pub fn faulty_line(alloc: Global, lines: &[u8], fault: InputFault) -> Option<FaultyLine>
     ensures value { IfSome result (IsFaulty lines.now fault) }
 {
@@ -112,7 +112,7 @@ pub fn faulty_line(alloc: Global, lines: &[u8], fault: InputFault) -> Option<Fau
     })
 }
 
-/// Whether a value is the name of no point.
+/// Returns whether a value is the name of no point.
 fn is_new_name(points: &PointNames, value: &Value) -> bool
     ensures value { result ≡ is_new points.now (as_str (view value.now)) }
 {
@@ -122,7 +122,7 @@ fn is_new_name(points: &PointNames, value: &Value) -> bool
     }
 }
 
-/// The place of the first need that is the name of no point, or one past the last.
+/// Returns the index of the first need that names no point, or the length if each names one.
 fn new_place(points: &PointNames, needs: &[Value]) -> usize
     ensures inside { result ≤ length needs.now }
     ensures value { IsFirstMatchOrLen (λ v. is_new points.now (as_str (view v))) needs.now result }
@@ -137,7 +137,7 @@ fn new_place(points: &PointNames, needs: &[Value]) -> usize
     at
 }
 
-/// The first need that is the name of no point.
+/// Returns the first need that names no point.
 fn new_name<'a>(points: &PointNames, needs: &'a [Value]) -> Option<&'a str>
     ensures value { IfSome result (λ name. (at : ℕ) × (at < length needs.now)
         × IsFirstMatchOrLen (λ v. is_new points.now (as_str (view v))) needs.now at
@@ -152,8 +152,8 @@ fn new_name<'a>(points: &PointNames, needs: &'a [Value]) -> Option<&'a str>
 }
 
 impl FaultyLine {
-    /// The first name that it needs and that no point before it has; none where there is none, or
-    /// memory runs out.
+    /// Returns the first name among its needs that no point before it has, or `None` if there is
+    /// none or memory runs out.
     pub fn unknown_need(&self, alloc: Global) -> Option<String>
         ensures value { IfSome result (λ name. IsUnknown self.now (string_bytes name)) }
     {

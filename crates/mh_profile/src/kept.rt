@@ -1,4 +1,4 @@
-//! Inputs of lines that are kept whole, for whoever explains their fault.
+//! Inputs of lines that are kept in memory, so that their fault can be explained.
 ghost use Rattle.std.specs.Prelude.{◌≡◌, ◌≢◌, ◌<◌, ◌≤◌, ◌+◌, ◌⊎◌, ◌++◌, ℕ, List, length, Err, IfErr, IfOk, IfSome, IsErrOf, OnOk};
 ghost use Rattle.std.specs.Io.KnownBytes.{Consumes, IsAtEnd};
 ghost use Rattle.mh_text.specs.Bytes.{HasFailed, LosesAtMost};
@@ -16,7 +16,7 @@ use mh_text::Watched;
 use std::alloc::Global;
 use std::io::Read;
 
-/// What the reader gives to its end, or up to the first byte past the limit of all lines.
+/// Reads an input to its end, or to the first byte past the limit of all lines.
 fn read_front<R: Read>(alloc: Global, reader: &mut Watched<R>) -> Result<Vec<u8>, TextFault>
     ensures taken { IfOk result (λ front. Consumes (R.remaining reader.old.inner)
         (R.remaining reader.new.inner) front.items) }
@@ -45,7 +45,7 @@ fn read_front<R: Read>(alloc: Global, reader: &mut Watched<R>) -> Result<Vec<u8>
     Ok(front)
 }
 
-/// The first fault of lines that begin with bytes past the limit.
+/// Returns the first fault of lines that begin with more bytes than the limit.
 fn fault_of_long(alloc: Global, front: &[u8]) -> Fault
     ensures value { (result ≡ outside no_memory)
         ⊎ ((rest : List ℕ) → profile_of (front.now ++ rest) ≡ Err result) }
@@ -58,10 +58,10 @@ fn fault_of_long(alloc: Global, front: &[u8]) -> Fault
     Fault::from(InputFault::NoMemory)
 }
 
-/// The input of a profile, whole.
+/// Reads the input of a profile into memory.
 ///
-/// It is read to its end, or to the first byte past 67,108,864. Where it is longer than that, this
-/// fails with the first fault of its lines, as `read_profile` does.
+/// It is read to its end, or to the first byte past 67,108,864. If it is longer, this fails with
+/// the first fault of its lines, as `read_profile` does.
 #[tactic(auto, using(crate::proofs::Longer::longer_front))]
 pub fn keep_profile<R: Read>(alloc: Global, reader: &mut Watched<R>) -> Result<Vec<u8>, Fault>
     ensures ok { IfOk result (λ input. IfSome (R.remaining reader.old.inner)

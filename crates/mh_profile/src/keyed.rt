@@ -37,7 +37,7 @@ impl Keyed for (u32, u32, u64) {
     }
 }
 
-/// The items of one number, which stand together. O(log items).
+/// Returns the items of one number, which are adjacent. O(log items).
 pub(crate) fn run_of<T: Keyed>(items: &[T], key: u32) -> &[T]
     requires ordered { IsNonDecreasingBy T.key items.now }
     ensures value { result.now ≡ filter (λ x. T.key x == key) items.now }

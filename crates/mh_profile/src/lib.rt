@@ -7,12 +7,14 @@
 //! {"link": "f@12 A", "gain": 1500, "needs": ["A has no subclass"], "charge": 20, "eligible": true}
 //! ```
 //!
-//! A point stands before the links that need it, and no two points have the same name; links may.
-//! `charge` is 0, `eligible` true and `needs` empty where absent; `needs` stand in any order, and
-//! each once. A line of white space says nothing, and the last line may lack its end. A line has at
-//! most 1,048,576 bytes, its end not counted, and all lines together, ends counted, 67,108,864.
-//! There are at most 1,048,576 points and as many links. A fault has the number of its line; that
-//! gains, or costs and charges, add up to more than 2^62 is a fault of the last line.
+//! A point comes before the links that need it. No two points have the same name; links may.
+//! `charge` defaults to 0, `eligible` to true, and `needs` to an empty list, which may be in any
+//! order and names each point once. A line of white space is skipped, and the last line may lack
+//! its end. A line has at most 1,048,576 bytes without its end, and all lines together 67,108,864
+//! bytes. There are at most 1,048,576 points and as many links.
+//!
+//! A fault has the number of its line. If the gains, or the costs and charges, add up to more than
+//! 2^62, that is a fault of the last line.
 //!
 //! ```
 //! let named = read_profile(alloc, &mut reader)?.into_problem()?;

@@ -1,4 +1,4 @@
-//! A line of a profile: a point, or a link.
+//! Reading a line of a profile: a point, or a link.
 ghost use Rattle.std.specs.Prelude.{◌≡◌, codes};
 ghost use Rattle.serde_json.specs.Find.{get};
 ghost use Rattle.serde_json.specs.View.{view};
@@ -18,14 +18,14 @@ use std::alloc::Global;
 /// The greatest amount of a line: 2^63 - 1.
 const MOST: u64 = 0x7fff_ffff_ffff_ffff;
 
-/// An amount that has to be there.
+/// Reads an amount whose key is required.
 fn amount(value: &Value, key: Field) -> Result<u64, Misread>
     ensures value { Gives (λ x. x) result (amount_of key (view value.now)) }
 {
     count(part(value, key)?, MOST, Wanted::up_to(MOST))
 }
 
-/// The charge of a link, 0 where it is absent.
+/// Reads the charge of a link, 0 by default.
 fn charge(link: &Value) -> Result<u64, Misread>
     ensures value { Gives (λ x. x) result
         (amount_where (get (codes "charge") (view link.now))) }
@@ -36,7 +36,7 @@ fn charge(link: &Value) -> Result<u64, Misread>
     }
 }
 
-/// Whether a link may be chosen, which it may where nothing is said.
+/// Reads whether a link is eligible, true by default.
 fn eligible(link: &Value) -> Result<bool, Misread>
     ensures value { Gives (λ x. x) result
         (eligible_where (get (codes "eligible") (view link.now))) }
@@ -47,21 +47,21 @@ fn eligible(link: &Value) -> Result<bool, Misread>
     }
 }
 
-/// The number of the point that a value names, or one past the last.
+/// Returns the number of the point that a value names, or the number of points if it names none.
 fn place(points: &PointNames, name: &Value) -> Result<u32, Misread>
     ensures value { Gives (λ x. x) result (place_named points.now (view name.now)) }
 {
     Ok(points.place(text(name, Wanted::Text)?) as u32)
 }
 
-/// The numbers of the points that a list names.
+/// Returns the numbers of the points that a list names.
 fn named_places(alloc: Global, points: &PointNames, names: &Value) -> Result<Listing<u32>, Misread>
     ensures value { Gives (λ x. x) result (places_named points.now (view names.now)) }
 {
     each(alloc, names, |name| place(points, name))
 }
 
-/// The points that were named, ascending, where each is one of so many and none was named twice.
+/// Returns the points that were named, ascending, if each exists and none was named twice.
 fn needs_among_points(points: usize, named: Listing<u32>) -> Result<Listing<u32>, Misread>
     ensures value { Gives (λ x. x) result (needs_among points named) }
 {
@@ -80,7 +80,7 @@ fn needs_among_points(points: usize, named: Listing<u32>) -> Result<Listing<u32>
     }
 }
 
-/// The points that a link needs, none where nothing is said.
+/// Reads the points that a link needs, none by default.
 fn needs(alloc: Global, points: &PointNames, link: &Value) -> Result<Listing<u32>, Misread>
     ensures value { Gives (λ x. x) result (needs_where points.now (get (codes "needs") (view link.now))) }
 {
@@ -91,7 +91,7 @@ fn needs(alloc: Global, points: &PointNames, link: &Value) -> Result<Listing<u32
     needs_among_points(points.len(), named)
 }
 
-/// A link: its gain, its charge, whether it may be chosen, and its needs.
+/// Reads a link: its gain, its charge, whether it is eligible, and its needs.
 fn read_row(alloc: Global, points: &PointNames, link: &Value) -> Result<LinkRow, Misread>
     ensures value { Gives (λ x. x) result (row_of points.now (view link.now)) }
 {
@@ -107,7 +107,7 @@ fn read_row(alloc: Global, points: &PointNames, link: &Value) -> Result<LinkRow,
     })
 }
 
-/// A profile with the point of line `line`.
+/// Adds the point of line `line` to a profile.
 fn read_point(profile: Profile, line: u64, value: &Value, name: &Value) -> Result<Profile, Misread>
     ensures value { Gives (λ x. x) result (point_of line profile (view value.now) (view name.now)) }
 {
@@ -116,7 +116,7 @@ fn read_point(profile: Profile, line: u64, value: &Value, name: &Value) -> Resul
     profile.with_point(line, name, cost)
 }
 
-/// A profile with the link of line `line`.
+/// Adds the link of line `line` to a profile.
 fn read_link(
     alloc: Global,
     profile: Profile,
@@ -131,7 +131,7 @@ fn read_link(
     profile.with_link(line, name, row)
 }
 
-/// A profile with the point or the link of line `line`.
+/// Adds the point or the link of line `line` to a profile.
 fn read_entry(alloc: Global, profile: Profile, line: u64, value: &Value) -> Result<Profile, Misread>
     ensures value { Gives (λ x. x) result (entry_of line profile (view value.now)) }
 {
@@ -144,7 +144,7 @@ fn read_entry(alloc: Global, profile: Profile, line: u64, value: &Value) -> Resu
     }
 }
 
-/// Whether bytes are white space alone.
+/// Returns whether bytes are white space.
 fn blank(bytes: &[u8]) -> bool
     ensures value { result ≡ is_blank bytes.now }
 {
@@ -153,7 +153,7 @@ fn blank(bytes: &[u8]) -> bool
         .all(|byte| matches!(*byte, b' ' | b'\t' | b'\r'))
 }
 
-/// A profile with what line `line` says, whose bytes are these.
+/// Adds what line `line`, with these bytes, declares to a profile.
 pub(crate) fn read_line(
     alloc: Global,
     profile: Profile,

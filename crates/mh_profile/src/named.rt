@@ -21,10 +21,10 @@ pub struct NamedProblem {
 }
 
 impl Profile {
-    /// The problem of a profile. It needs no memory.
+    /// Returns the problem of a profile. Does not allocate.
     ///
-    /// What `Problem::large` refuses is a fault of the last line that is a point or a link: the
-    /// gains, or the costs and charges, add up to more than 2^62.
+    /// If `Problem::large` refuses it, the fault is that of the last line that is a point or a
+    /// link: the gains, or the costs and charges, add up to more than 2^62.
     pub fn into_problem(self) -> Result<NamedProblem, Fault>
         ensures made { IfOk result (IsNamed self) }
         ensures refused { IfErr result (IsNotMade self) }

@@ -8,7 +8,7 @@ use indexmap::IndexSet;
 use std::alloc::{AllocError, Global};
 use std::marker::Model;
 
-/// The names of points, no two the same, in the order of their lines: at most 1,048,576.
+/// The names of points, all different, in the order of their lines: at most 1,048,576.
 #[derive(Drop)]
 pub struct PointNames {
     alloc: Global,
@@ -27,7 +27,7 @@ impl Model for PointNames {
 }
 
 impl PointNames {
-    /// No names.
+    /// Returns an empty list of names.
     pub fn new(alloc: Global) -> PointNames
         ensures value { result ≡ [] }
     {
@@ -37,7 +37,7 @@ impl PointNames {
         }
     }
 
-    /// How many names there are.
+    /// Returns the number of names.
     pub fn len(&self) -> usize
         ensures value { result ≡ length self.now }
         ensures few { result ≤ greatest_count }
@@ -45,14 +45,14 @@ impl PointNames {
         self.set.len()
     }
 
-    /// Whether the name is among them.
+    /// Returns whether a name is among them.
     pub fn contains(&self, name: &str) -> bool
         ensures value { result ≡ list_any (bytes_eq name.now) self.now }
     {
         self.set.contains(name)
     }
 
-    /// Puts a name last that is not among them. Where memory is refused, all is as it was.
+    /// Appends a name that is not among them. If an allocation is refused, nothing changes.
     pub fn push(&mut self, name: &str) -> Result<(), AllocError>
         requires new { list_any (bytes_eq name.now) self.old ≡ false }
         requires few { length self.old < greatest_count }
@@ -64,7 +64,7 @@ impl PointNames {
         Ok(())
     }
 
-    /// The number of a name, or one past the last.
+    /// Returns the number of a name, or the number of names if it is not among them.
     pub fn place(&self, name: &str) -> usize
         ensures value { result ≡ position_or_len (bytes_eq name.now) self.now }
         ensures few { result ≤ greatest_count }
@@ -72,7 +72,7 @@ impl PointNames {
         self.set.get_index_of(name).unwrap_or(self.set.len())
     }
 
-    /// The name of a point; none past the last.
+    /// Returns the name of a point, or an empty text if the point does not exist.
     pub fn name(&self, point: usize) -> &str
         ensures value { result.now ≡ slice_index_or self.now point [] }
     {
@@ -98,7 +98,7 @@ impl Model for LinkNames {
 }
 
 impl LinkNames {
-    /// No names.
+    /// Returns an empty list of names.
     pub fn new(alloc: Global) -> LinkNames
         ensures value { result ≡ [] }
     {
@@ -107,7 +107,7 @@ impl LinkNames {
         }
     }
 
-    /// Puts a name last. Where memory is refused, all is as it was.
+    /// Appends a name. If an allocation is refused, nothing changes.
     pub fn push(&mut self, name: &str) -> Result<(), AllocError>
         ensures ok { OnOk result (self.new ≡ self.old ++ name.now ∷ []) }
         ensures err { OnErr result (self.new ≡ self.old) }
@@ -118,7 +118,7 @@ impl LinkNames {
         Ok(())
     }
 
-    /// The name of a link; none past the last.
+    /// Returns the name of a link, or an empty text if the link does not exist.
     pub fn name(&self, link: usize) -> &str
         ensures value { result.now ≡ slice_index_or self.now link [] }
     {

@@ -19,7 +19,7 @@ use mh_sweep::Sweep;
 use serde_json::Value;
 use std::alloc::Global;
 
-/// A name as a string of JSON.
+/// Returns a name as a string of JSON.
 ///
 /// Fails only if memory runs out.
 pub fn quoted(alloc: Global, name: &str) -> Result<String, NoMemory>
@@ -29,7 +29,7 @@ pub fn quoted(alloc: Global, name: &str) -> Result<String, NoMemory>
     Ok(value.to_string(alloc)?)
 }
 
-/// What links gain, and what they are charged.
+/// Returns the sum of the gains of links, and that of their charges.
 fn gains_and_charges(problem: &Problem, links: &[u32]) -> (u128, u128)
     requires inside { All (λ j. j < length problem.now.links) links.now }
     ensures gains { result.0 ≡ sum_by (gain_of problem.now) links.now }
@@ -43,7 +43,7 @@ fn gains_and_charges(problem: &Problem, links: &[u32]) -> (u128, u128)
     (gains, charges)
 }
 
-/// The costs of points.
+/// Returns the sum of the costs of points.
 fn costs(problem: &Problem, points: &[u32]) -> u128
     requires inside { All (λ p. p < length problem.now.costs) points.now }
     ensures value { result ≡ sum_by (cost_of problem.now) points.now }
@@ -55,7 +55,7 @@ fn costs(problem: &Problem, points: &[u32]) -> u128
     sum
 }
 
-/// How many links and points are chosen of how many.
+/// Writes how many links and points are selected, of how many.
 fn counts(alloc: Global, problem: &Problem, plan: &Plan) -> Result<String, NoMemory>
     ensures value { IfOk result (λ s. string_bytes s ≡ counts_text problem.now plan.now) }
 {
@@ -64,7 +64,7 @@ fn counts(alloc: Global, problem: &Problem, plan: &Plan) -> Result<String, NoMem
     Ok(format!(in alloc; "links {links} of {all_links} points {points} of {all_points}")?)
 }
 
-/// What the links gain, their points cost, and they are charged, and what that leaves.
+/// Writes what the links gain, what their points cost, what they are charged, and the value.
 fn sums(alloc: Global, problem: &Problem, plan: &Plan) -> Result<String, NoMemory>
     requires problem { IsProblem problem.now }
     requires matching { Matches problem.now plan.now }
@@ -76,7 +76,7 @@ fn sums(alloc: Global, problem: &Problem, plan: &Plan) -> Result<String, NoMemor
     Ok(format!(in alloc; "gain {gain} costs {cost} charges {charge} value {value}")?)
 }
 
-/// How many links and points are chosen, what they are worth, and up to which scale the costs are
+/// Writes how many links and points are selected, their value, and up to which scale the costs are
 /// swept, if they are.
 fn head(
     alloc: Global,
@@ -97,7 +97,7 @@ fn head(
     Ok(head)
 }
 
-/// The charge of a chosen link, where there is one.
+/// Writes the charge of a selected link, if it has one.
 fn charge_line(alloc: Global, charge: u64) -> Result<String, NoMemory>
     ensures value { IfOk result (λ s. string_bytes s ≡ charge_text charge) }
 {
@@ -107,7 +107,7 @@ fn charge_line(alloc: Global, charge: u64) -> Result<String, NoMemory>
     Ok(format!(in alloc; " charge {charge}")?)
 }
 
-/// What is paid of the charge of a link that is left out, where there is one.
+/// Writes what is paid of the charge of a link that is not selected, if it has one.
 fn paid_line(alloc: Global, charge: u64, paid: u128) -> Result<String, NoMemory>
     ensures value { IfOk result (λ s. string_bytes s ≡ paid_text charge paid) }
 {
@@ -117,7 +117,7 @@ fn paid_line(alloc: Global, charge: u64, paid: u128) -> Result<String, NoMemory>
     Ok(format!(in alloc; " charge {paid} of {charge}")?)
 }
 
-/// What the rows of a link give to their points.
+/// Writes what the rows of a link give to their points.
 fn gives_line(
     alloc: Global,
     named: &NamedProblem,
@@ -135,7 +135,7 @@ fn gives_line(
     Ok(line)
 }
 
-/// A link that is chosen.
+/// Writes a link that is selected.
 fn chosen_line(alloc: Global, named: &NamedProblem, link: u32) -> Result<String, NoMemory>
     requires inside { link < length named.now.problem.links }
     ensures value { IfOk result (λ s. string_bytes s ≡ chosen_text named.now link) }
@@ -146,7 +146,7 @@ fn chosen_line(alloc: Global, named: &NamedProblem, link: u32) -> Result<String,
     Ok(format!(in alloc; "link {name} gain {gain}{charge}")?)
 }
 
-/// The gain of a link that is left out, and where all of it went.
+/// Writes the gain of a link that is not selected, and where it went.
 fn spent_line(
     alloc: Global,
     named: &NamedProblem,
@@ -165,7 +165,7 @@ fn spent_line(
     Ok(format!(in alloc; " gain {gain}{paid}{gives}")?)
 }
 
-/// A link that is left out: it may not be chosen, or it spends all that it gains.
+/// Writes a link that is not selected: it is not eligible, or it spends all that it gains.
 fn left_line(
     alloc: Global,
     named: &NamedProblem,
@@ -184,7 +184,7 @@ fn left_line(
     Ok(format!(in alloc; "left {name}{spent}")?)
 }
 
-/// What became of a link.
+/// Writes the decision for a link.
 fn link_line(
     alloc: Global,
     named: &NamedProblem,
@@ -202,7 +202,7 @@ fn link_line(
     }
 }
 
-/// What became of a link, and up to which scale it is chosen, if the costs are swept.
+/// Writes the decision for a link, and up to which scale it is selected, if the costs are swept.
 fn swept_link_line(
     alloc: Global,
     named: &NamedProblem,
@@ -222,7 +222,7 @@ fn swept_link_line(
     Ok(line)
 }
 
-/// A point that a chosen link needs, or one that is not paid for.
+/// Writes the decision for a point: a selected link needs it, or it is not paid for.
 fn point_line(
     alloc: Global,
     named: &NamedProblem,
@@ -246,7 +246,7 @@ fn point_line(
     Ok(format!(in alloc; "unpaid {name} cost {cost} gets {gets} slack {slack}")?)
 }
 
-/// Puts a text last, as a line.
+/// Appends a text as a line.
 pub(crate) fn push_line(out: &mut String, text: &str) -> Result<(), NoMemory>
     ensures value { OnOk result (string_bytes out.new
         ≡ string_bytes out.old ++ line_of text.now) }
@@ -256,7 +256,7 @@ pub(crate) fn push_line(out: &mut String, text: &str) -> Result<(), NoMemory>
     Ok(())
 }
 
-/// Puts the lines of the links last.
+/// Appends the lines of the links.
 fn push_links(
     out: &mut String,
     alloc: Global,
@@ -276,7 +276,7 @@ fn push_links(
     Ok(())
 }
 
-/// Puts the lines of the points last.
+/// Appends the lines of the points.
 fn push_points(
     out: &mut String,
     alloc: Global,
@@ -296,9 +296,9 @@ fn push_points(
     Ok(())
 }
 
-/// The lines of a plan of a profile, each with its end: how many links and points are chosen of how
-/// many, with what they gain, cost, are charged and are worth; then each link, and then each point,
-/// in the order of the profile, all names as strings of JSON:
+/// Returns the lines of a plan of a profile, each with its end: how many links and points are
+/// selected of how many, with their gains, costs, charges and value; then each link and each point,
+/// in the order of the profile. Names are strings of JSON.
 ///
 /// ```
 /// profile links 1 of 3 points 1 of 2 gain 9 costs 5 charges 2 value 2
@@ -309,14 +309,14 @@ fn push_points(
 /// unpaid "b" cost 7 gets 3 slack 4
 /// ```
 ///
-/// A link that is left out spends all that it gains, on its charge and on points that it needs
-/// (`mh_network::left_links_spend_all`), and an unpaid point gets what such links give to it. What
-/// is given is that of one flow; another could share it otherwise. `slack` is by how much the
-/// cost of a chosen point may rise, or that of an unpaid one fall, and the chosen links are still
-/// worth most.
+/// A link that is not selected spends all that it gains, on its charge and on points that it needs
+/// (`mh_network::left_links_spend_all`), and an unpaid point gets what such links give to it. The
+/// amounts come from one maximum flow; another could distribute them differently. `slack` is by how
+/// much the cost of a selected point may rise, or that of an unpaid one fall, while the selected
+/// links remain optimal.
 ///
 /// With a sweep, the first line and those of eligible links end with scales of the costs: up to
-/// which scale the sweep goes, and up to which scale the link is chosen.
+/// which scale the sweep goes, and up to which scale the link is selected.
 ///
 /// ```
 /// profile links 1 of 3 points 1 of 2 gain 9 costs 5 charges 2 value 2 sweep 1000.000

@@ -26,18 +26,18 @@ use std::alloc::Global;
 use std::io::{Read, Write};
 use std::thread::Threads;
 
-/// How the plan of a profile is made, and what is written of it.
+/// How to plan a profile, and what to write of its plan.
 #[derive(Clone, Copy, Debug, PartialEq, Eq)]
 pub struct ProfileOptions {
-    /// How many workers plan, from 1 to 64. The plan does not depend on them.
+    /// The number of workers that plan, 1 to 64. The plan does not depend on it.
     pub workers: usize,
-    /// Whether the plan is also written as JSON, by number, with the flow that shows it to be best.
+    /// Whether to write the plan as JSON, too, by number, with the flow that proves it optimal.
     pub certificate: bool,
-    /// Whether it is also written up to which scale of the costs each link is chosen.
+    /// Whether to write up to which scale of the costs each link is selected.
     pub sweep: bool,
 }
 
-/// The problem with names that the reader gives.
+/// Reads the problem with names in an input.
 fn read_named<R: Read>(alloc: Global, reader: &mut Watched<R>) -> Result<NamedProblem, Fault>
     ensures ok { IfOk result (λ named. IfSome (R.remaining reader.old.inner)
         (λ input. IsProfileInput input named)) }
@@ -53,14 +53,14 @@ fn read_named<R: Read>(alloc: Global, reader: &mut Watched<R>) -> Result<NamedPr
     read_profile(alloc, reader)?.into_problem()
 }
 
-/// A problem with names, and the sweep of its costs, if one is asked for.
+/// A problem with names, and the sweep of its costs, if one was asked for.
 #[derive(Drop)]
 struct SweptProblem {
     named: NamedProblem,
     sweep: Option<Sweep>,
 }
 
-/// Reads the problem with names that the reader gives, and sweeps its costs, if that is asked for.
+/// Reads the problem with names in an input, and sweeps its costs, if that is asked for.
 fn read_swept<R: Read>(
     alloc: Global,
     options: ProfileOptions,
@@ -84,7 +84,7 @@ fn read_swept<R: Read>(
     Ok(SweptProblem { named, sweep })
 }
 
-/// The lines of a plan.
+/// Returns the lines of a plan.
 fn render(
     alloc: Global,
     options: ProfileOptions,
@@ -104,7 +104,7 @@ fn render(
     Ok(lines)
 }
 
-/// The lines of the plan of a problem with names.
+/// Returns the lines of the plan of a problem with names.
 fn plan_named<T: Threads + Sync>(
     rt: &T,
     alloc: Global,
@@ -120,16 +120,16 @@ fn plan_named<T: Threads + Sync>(
     render(alloc, options, swept, &plan)
 }
 
-/// Plans the profile that the reader gives, and writes the lines of its plan (`profile_lines`), and
-/// its certificate (`mh_json::plan_json`) where it is asked for: the best links, the fewest where
-/// several sets are best.
+/// Plans the profile in an input, and writes the lines of its plan (`profile_lines`) and, if asked
+/// for, its certificate (`mh_json::plan_json`). The plan is optimal; among optimal plans it has the
+/// fewest links.
 ///
-/// With `sweep`, the lines also say up to which scale of the costs each link is chosen: at each
-/// scale below that number it is one of the least best links, and at each other scale of the sweep
-/// it is not. The input is then refused if a thousand times its gains exceed 2^62.
+/// With `sweep`, the lines also say up to which scale of the costs each link is selected: at each
+/// scale below that number it is in the minimal optimum, and at each other scale of the sweep it is
+/// not. The input is then refused if a thousand times its gains exceed 2^62.
 ///
-/// The input is read as by `read_profile`. A fault of the input, or of memory, writes nothing. A
-/// failing write leaves a beginning of the lines, and is a fault of no line.
+/// The input is read as `read_profile` does. A fault of the input, or running out of memory, writes
+/// nothing. If a write fails, the output is a prefix of the lines, and the fault has no line.
 pub fn plan_profile<T: Threads + Sync, R: Read, W: Write>(
     rt: &T,
     alloc: Global,

@@ -1,4 +1,4 @@
-//! What the lines of a profile say.
+//! The contents of the lines of a profile.
 ghost use Rattle.std.specs.Prelude.{◌≡◌};
 ghost use Rattle.mh_json.specs.Gives.{Gives};
 ghost use Rattle.mh_profile.specs.Profiles.{nothing, with_link, with_point};
@@ -8,7 +8,7 @@ use mh_json::{InputFault, Misread};
 use mh_network::{GREATEST_COUNT, LinkRow, Listing, ProblemFault};
 use std::alloc::Global;
 
-/// The points and the links of the lines that were read, each by number in the order of the lines.
+/// The points and the links of the lines read so far, each by number in the order of the lines.
 #[derive(Drop)]
 pub struct Profile {
     /// The names of the points.
@@ -19,12 +19,12 @@ pub struct Profile {
     pub names: LinkNames,
     /// The links, with the numbers of the points that they need.
     pub links: Listing<LinkRow>,
-    /// The number of the last line that is a point or a link, from 1; 0 where there is none.
+    /// The number of the last line that is a point or a link, from 1; 0 if there is none.
     pub last: u64,
 }
 
 impl Profile {
-    /// No points and no links.
+    /// Returns a profile without points and links.
     pub fn new(alloc: Global) -> Profile
         ensures value { result ≡ nothing }
     {
@@ -37,7 +37,7 @@ impl Profile {
         }
     }
 
-    /// With one point more, of line `line`.
+    /// Adds the point of line `line`.
     pub(crate) fn with_point(self, line: u64, name: &str, cost: u64) -> Result<Profile, Misread>
         ensures value { Gives (λ x. x) result (with_point line self name.now cost) }
     {
@@ -54,7 +54,7 @@ impl Profile {
         Ok(profile)
     }
 
-    /// With one link more, of line `line`.
+    /// Adds the link of line `line`.
     pub(crate) fn with_link(self, line: u64, name: &str, link: LinkRow) -> Result<Profile, Misread>
         ensures value { Gives (λ x. x) result (with_link line self name.now link) }
     {

@@ -1,4 +1,4 @@
-//! Lines from bytes, as they come.
+//! Reading lines from bytes as they come.
 ghost use Rattle.std.specs.Prelude.{◌≡◌, ◌∷◌, ◌++◌, ◌≤◌, ◌+◌, ◌⊎◌, ◌==◌, ◌&&◌, [], List, ℕ, length, nat_le, IfOk, IfErr, IfSome, IfNone};
 ghost use Rattle.mh_json.specs.Inputs.{most_bytes};
 ghost use Rattle.std.specs.List.{position};
@@ -15,7 +15,7 @@ use mh_base::Listing;
 use mh_json::{Fault, InputFault, TextFault};
 use std::alloc::Global;
 
-/// The most bytes of a line, its end not counted.
+/// The most bytes of a line, without its end.
 const LONGEST_LINE: usize = 1_048_576;
 
 /// The most bytes of all lines together.
@@ -25,24 +25,24 @@ pub(crate) const LIMIT: u64 = 67_108_864;
 #[derive(Drop)]
 pub struct LineReader {
     alloc: Global,
-    /// What the lines so far say.
+    /// The contents of the lines read so far.
     profile: Profile,
     /// The bytes of the line that has begun.
     line: Listing<u8>,
     /// The number of that line, from 1.
     number: u64,
-    /// How many bytes stand before that line.
+    /// The number of bytes before that line.
     offset: u64,
 }
 
-/// Where the first line of bytes ends.
+/// Returns the index at which the first line of bytes ends.
 fn line_end(bytes: &[u8]) -> Option<usize>
     ensures value { result ≡ position (λ b. b == 10) bytes.now }
 {
     bytes.iter().position(|byte| *byte == b'\n')
 }
 
-/// The first line of bytes, and what stands behind its end, where one ends in them.
+/// Returns the first line of bytes, and the bytes after its end, if a line ends in them.
 fn split_line(bytes: &[u8]) -> Option<(&[u8], &[u8])>
     ensures found { IfSome result (λ parts. IsInLine parts.0.now
         × (bytes.now ≡ (parts.0.now ++ 10 ∷ []) ++ parts.1.now)) }
@@ -54,7 +54,7 @@ fn split_line(bytes: &[u8]) -> Option<(&[u8], &[u8])>
     }
 }
 
-/// A fault of line `at`; out of memory is a fault of no line.
+/// Returns the fault of line `at`; running out of memory is a fault of no line.
 pub(crate) fn placed(fault: InputFault, at: u64) -> Fault
     ensures memory { fault ≡ InputFault.NoMemory → result ≡ outside no_memory }
     ensures other { (fault ≡ InputFault.NoMemory → ⊥)
@@ -68,7 +68,7 @@ pub(crate) fn placed(fault: InputFault, at: u64) -> Fault
     }
 }
 
-/// A profile with what line `number` says, whose bytes are these.
+/// Adds what line `number`, with these bytes, declares to a profile.
 fn read_numbered(
     alloc: Global,
     profile: Profile,
@@ -84,7 +84,7 @@ fn read_numbered(
     }
 }
 
-/// Whether a line of so many bytes, behind so many others, is within the limits.
+/// Returns whether a line of this length, after so many bytes, is within the limits.
 fn is_within(offset: u64, length: usize) -> bool
     requires started { offset ≤ most_in_all + 1 }
     ensures value { result ≡ (nat_le length most_bytes && nat_le (offset + length) most_in_all) }
@@ -93,7 +93,7 @@ fn is_within(offset: u64, length: usize) -> bool
 }
 
 impl LineReader {
-    /// A reader before the first line.
+    /// Returns a reader before the first line.
     pub fn new(alloc: Global) -> LineReader
         ensures value { (input : List ℕ) → resumed result input ≡ profile_of input }
         ensures reading { IsReading result }
@@ -108,7 +108,7 @@ impl LineReader {
         }
     }
 
-    /// With more bytes of the line that has begun.
+    /// Appends bytes to the line that has begun.
     fn with_part(self, part: &[u8]) -> Result<LineReader, Fault>
         requires begun { IsBegun self }
         requires whole { IsInLine part.now }
@@ -142,7 +142,7 @@ impl LineReader {
         })
     }
 
-    /// With the end of the line that has begun, which is read.
+    /// Ends the line that has begun, and reads it.
     fn with_end(self) -> Result<LineReader, Fault>
         requires reading { IsReading self }
         ensures begun { IfOk result IsBegun }
@@ -170,7 +170,7 @@ impl LineReader {
         })
     }
 
-    /// With the rest of the line that has begun, and its end.
+    /// Appends the rest of the line that has begun, and reads it.
     fn with_line(self, part: &[u8]) -> Result<LineReader, Fault>
         requires begun { IsBegun self }
         requires whole { IsInLine part.now }
@@ -182,10 +182,10 @@ impl LineReader {
         self.with_part(part)?.with_end()
     }
 
-    /// With more bytes, which hold any number of ends of lines.
+    /// Takes more bytes, with any number of ends of lines.
     ///
     /// Fails with the first fault of the lines that end in them, with `TooLong` as soon as a line,
-    /// or all lines, are past their limit, or if memory runs out.
+    /// or all lines, exceed their limit, or if memory runs out.
     pub fn take(self, bytes: &[u8]) -> Result<LineReader, Fault>
         requires reading { IsReading self }
         ensures reading { IfOk result IsReading }
@@ -202,7 +202,7 @@ impl LineReader {
         reader.with_part(rest)
     }
 
-    /// The profile, whose last line is the one that has begun.
+    /// Returns the profile, of which the line that has begun is the last.
     pub fn finish(self) -> Result<Profile, Fault>
         requires reading { IsReading self }
         ensures value { GivesAt (λ x. x) result (resumed self []) }

@@ -16,10 +16,10 @@ use mh_text::Watched;
 use std::alloc::Global;
 use std::io::Read;
 
-/// What the lines that the reader gives say.
+/// Reads a profile.
 ///
-/// The input is read by parts of 8,192 bytes, to its end, or to the part in which its first fault
-/// shows, and no more than 67,117,056 bytes of it.
+/// The input is read in blocks of 8,192 bytes, to its end or to the block that shows its first
+/// fault, and at most 67,117,056 bytes of it.
 pub fn read_profile<R: Read>(alloc: Global, reader: &mut Watched<R>) -> Result<Profile, Fault>
     ensures ok { IfOk result (λ x. IfSome (R.remaining reader.old.inner)
         (λ input. profile_of input ≡ Ok x)) }

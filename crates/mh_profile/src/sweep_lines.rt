@@ -28,7 +28,7 @@ pub(crate) fn swept_part(alloc: Global, sweep: &Option<Sweep>) -> Result<String,
     Ok(format!(in alloc; " sweep {most}")?)
 }
 
-/// Writes up to which scale a link is chosen, and nothing if there is no sweep or the link is not
+/// Writes up to which scale a link is selected, and nothing if there is no sweep or the link is not
 /// eligible.
 pub(crate) fn until_part(
     alloc: Global,
