@@ -76,7 +76,8 @@ fn names_like<'a>(
     Ok(names)
 }
 
-/// Returns the question of whether a similar name is meant, or nothing if there is none.
+/// Returns the question of whether a similar name is meant, or where a point has to be if there is
+/// none.
 fn meant(alloc: Global, points: &PointNames, name: &str) -> Result<String, NoMemory> {
     let names = names_like(alloc, points, name)?;
     match nearest(alloc, name, names.as_slice())? {
@@ -84,7 +85,7 @@ fn meant(alloc: Global, points: &PointNames, name: &str) -> Result<String, NoMem
             let near = quoted(alloc, near)?;
             Ok(format!(in alloc; "; did you mean {near}?")?)
         }
-        None => Ok(String::new(alloc)),
+        None => Ok(String::from_str(alloc, "; a point comes before the links that need it")?),
     }
 }
 
@@ -100,9 +101,27 @@ fn unknown_reasons(alloc: Global, line: &FaultyLine) -> Result<String, NoMemory>
     Ok(format!(in alloc; "  found: {found}\n  why:   no earlier line has this point{meant}\n")?)
 }
 
+/// Returns the reason for a line that does not begin with an object, or ends with a comma after one.
+fn why_no_object(alloc: Global, bytes: &[u8]) -> Option<&'static str> {
+    match bytes {
+        [b'{', front @ .., b','] if !front.is_empty() => {
+            let object = &bytes[..bytes.len() - 1];
+            match Value::from_slice(alloc, object) {
+                Ok(_) => Some("remove the comma at the end; each object is on a line of its own"),
+                Err(_) => None,
+            }
+        }
+        [b'{' | b'[' | b' ' | b'\t', ..] => None,
+        _ => Some(r#"expected a JSON object, such as {"point":"A","cost":1}"#),
+    }
+}
+
 /// Returns the reason why a line is not JSON.
 fn why_no_json(alloc: Global, bytes: &[u8]) -> Result<String, NoMemory> {
     if let Some(why) = foreign_format(bytes) {
+        return Ok(String::from_str(alloc, why)?);
+    }
+    if let Some(why) = why_no_object(alloc, bytes) {
         return Ok(String::from_str(alloc, why)?);
     }
     match Value::from_slice(alloc, bytes) {
@@ -173,8 +192,11 @@ fn why_no_link(alloc: Global, value: &Value) -> Result<String, NoMemory> {
     Ok(String::from_str(alloc, "\"needs\" must be a list of names, such as [\"A\"]")?)
 }
 
-/// Returns which command reads a value that is not a line of a profile, after a semicolon.
+/// Returns which command reads a value that is not a line of a profile, or an example of a line.
 fn other_input(value: &Value) -> &'static str {
+    if value.is_array() {
+        return "; write each object on a line of its own, and no list";
+    }
     if value.get("definition").is_some() {
         return "; this is a script, which mhlink run reads";
     }
@@ -187,7 +209,7 @@ fn other_input(value: &Value) -> &'static str {
     if value.get("flow").is_some() {
         return "; this is a plan, which mhlink check --profile reads on the last line";
     }
-    ""
+    r#", such as {"point":"A","cost":1}"#
 }
 
 /// Why a line is of another form.

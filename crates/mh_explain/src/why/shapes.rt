@@ -31,6 +31,10 @@ pub(crate) fn why_other(alloc: Global, spot: &Spot<'_>) -> Result<String, NoMemo
             alloc,
             "expected a list of filters, found a tree; write [TREE]",
         )?),
+        Wanted::Tree if is_position_first(spot) => Ok(String::from_str(
+            alloc,
+            "expected a tree and then a position, found a position and then a tree",
+        )?),
         Wanted::Tree => why_no_tree(alloc, spot.input, value),
         Wanted::TreeWord => why_no_tree_word(alloc, value),
         Wanted::Event => why_no_event(alloc, value),
@@ -53,7 +57,7 @@ pub(crate) fn why_other(alloc: Global, spot: &Spot<'_>) -> Result<String, NoMemo
 /// Describes the list that is read at a place.
 fn list_at(spot: &Spot<'_>) -> &'static str {
     let [parent @ .., Key::Member(field)] = spot.path else {
-        return "a list";
+        return list_in(head_around(spot));
     };
     match (object_at(spot.form, parent), field) {
         (Some(Object::Script), Field::Events) => r#"a list of events, such as [["flush",0]]"#,
@@ -81,6 +85,32 @@ fn list_at(spot: &Spot<'_>) -> &'static str {
             "a list of [link, point, amount], such as [[0,0,5]]"
         }
         (Some(Object::Plan), Field::Charges) => { "a list of [link, amount], such as [[0,5]]" }
+        _ => "a list",
+    }
+}
+
+/// Returns the word with which the list around a part begins.
+fn head_around<'a>(spot: &Spot<'a>) -> Option<&'a str> {
+    let [parent @ .., Key::Item(_)] = spot.path else {
+        return None;
+    };
+    value_at(spot.input, parent).and_then(head_of)
+}
+
+/// Returns whether a tree with this first word has a position after its first tree.
+fn has_position(head: Option<&str>) -> bool {
+    matches!(head, Some("insert" | "drop" | "filter"))
+}
+
+/// Describes the list that a list with this first word contains.
+fn list_in(head: Option<&str>) -> &'static str {
+    match head {
+        Some("call") => "a list of arguments, such as [1]",
+        Some("insert") => "a list of values, such as [1]",
+        Some("drop") => r#"a list of kinds, such as ["int"]"#,
+        Some("permute") => "a list of positions, such as [0]",
+        Some("filter") => r#"a list of filters, such as [["op","ineg"]]"#,
+        Some("invalidate") => r#"a list of names of points, such as ["p"]"#,
         _ => "a list",
     }
 }
@@ -119,6 +149,16 @@ fn is_filter_alone(spot: &Spot<'_>) -> bool {
     };
     let is_filter = value_at(spot.input, form).and_then(head_of) == Some("filter");
     is_filter && matches!(spot.value.as_str(), Some(word) if is_tree_word(word))
+}
+
+/// Returns whether a part is the position of a form whose tree comes after it.
+fn is_position_first(spot: &Spot<'_>) -> bool {
+    let [form @ .., Key::Item(1)] = spot.path else {
+        return false;
+    };
+    let second = value_at(spot.input, form).and_then(|form| form.get(2));
+    let is_tree = matches!(second.and_then(head_of), Some(word) if is_tree_word(word));
+    is_tree && spot.value.is_number() && has_position(head_around(spot))
 }
 
 /// Explains why a value is not a tree, with the tree that may have been meant.
