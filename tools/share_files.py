@@ -82,6 +82,11 @@ _mhlink() {{
     elif [[ $before == = ]]; then
         before=${{COMP_WORDS[COMP_CWORD - 2]}}
     fi
+    # (with no word offered, bash completes names of files)
+    if [[ $before == *[\\<\\>] ]]; then
+        COMPREPLY=()
+        return
+    fi
     for it in "${{COMP_WORDS[@]:1:COMP_CWORD-1}}"; do
         if [[ $it != -* ]]; then
             command=$it

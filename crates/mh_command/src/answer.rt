@@ -11,12 +11,13 @@ ghost use Rattle.mh_command.specs.Statuses.{status_answered};
 ghost use Rattle.mh_command.specs.Streams.{IsCut, IsTold, IsShown, IsDone};
 
 use crate::status::{COMMAND_LINE, DONE, IO_FAILED, NO_MEMORY, status_of_fault};
+use crate::wording::worded;
 use crate::work::Ending;
 use clap::Error;
 use clap::error::ErrorKind;
 use mh_json::{Fault, TextFault};
 use mh_text::Watched;
-use std::alloc::Global;
+use std::alloc::{AllocError, Global};
 use std::io::Write;
 
 /// Writes a text and what explains it to their end, and flushes them.
@@ -96,12 +97,21 @@ pub(crate) fn end<W: Write, E: Write>(
     }
 }
 
+/// Returns the text of help or of an error, in the words of this program.
+fn text_of(alloc: Global, error: &Error) -> Result<String, AllocError> {
+    let text = error.to_string(alloc)?;
+    match error.kind() {
+        ErrorKind::ValueValidation | ErrorKind::UnknownArgument => worded(alloc, text.as_str()),
+        _ => Ok(text),
+    }
+}
+
 /// Writes what words are answered with, and gives the status, or the one for what kept it back.
 fn show<W: Write>(alloc: Global, error: &Error, stream: &mut Watched<W>, status: u8) -> u8
     ensures shown { IsShown (W.contents stream.old.inner)
         (W.contents stream.new.inner) stream.old.failures stream.new.failures result status }
 {
-    let Ok(text) = error.to_string(alloc) else {
+    let Ok(text) = text_of(alloc, error) else {
         return NO_MEMORY;
     };
     // clap has a text for each answer, and memory alone keeps it back.

@@ -78,6 +78,11 @@ fn perform<T: Threads + Wait + Sync, P: ShowRounds + Sync, R: Read, W: Write, E:
 /// nothing reads is refused before anything runs, by the fault `BadShape` in the event of the first
 /// one, or at 0; with `check --profile` it says nothing.
 ///
+/// The stage also shows notes, which are not written to `err`: with `--explain` the keys that occur
+/// twice in an object of JSON, and the first snapshot of a run that lacks hits since no flush came
+/// before it; the calls and flushes that a stress skips (see `mh_stress::stress_bytes`); and why an
+/// input may be unreadable.
+///
 /// The statuses: 0 done, also help and the version, which go to `out`; 1 the input is refused, or its
 /// plan; 2 the command line is wrong, and nothing is read; 3 a read, a write or a flush failed; 4
 /// memory ran out outside an event, or readers of a published world.

@@ -11,9 +11,11 @@ mod command_line;
 mod findings;
 mod flags;
 mod line_reasons;
+mod notes;
 mod options;
 mod request;
 mod status;
+mod wording;
 mod work;
 
 pub use command_line::command;

@@ -4,7 +4,7 @@ ghost use Rattle.mh_command.specs.Readings.{ExplainsProfile, IsProfileIn, NamesN
 
 use crate::request::Request;
 use mh_core::NoMemory;
-use mh_explain::nearest;
+use mh_explain::{foreign_format, nearest};
 use mh_json::InputFault;
 use mh_profile::{FaultyLine, PointNames, claimed_lines, faulty_line, quoted};
 use serde_json::Value;
@@ -20,8 +20,8 @@ const MOST_BYTES: usize = 8;
 /// How many pairs of bytes are compared at most.
 const MOST_PAIRS: u64 = 1 << 28;
 
-/// Why an amount is none.
-const AMOUNT: &str = "is a whole number from 0 to 9223372036854775807";
+/// The form of an amount.
+const AMOUNT: &str = "must be a whole number from 0 to 9223372036854775807";
 
 /// The lines of the profile that the input of a request has.
 fn profile_in(request: Request, input: &[u8]) -> &[u8]
@@ -54,7 +54,7 @@ fn cut(alloc: Global, text: &str) -> Result<String, NoMemory> {
 fn beginning(alloc: Global, bytes: &[u8]) -> Result<String, NoMemory> {
     match str::from_utf8(bytes) {
         Ok(text) => cut(alloc, text),
-        Err(_) => Ok(String::from_str(alloc, "bytes that are no UTF-8")?),
+        Err(_) => Ok(String::from_str(alloc, "bytes that are not UTF-8")?),
     }
 }
 
@@ -76,15 +76,16 @@ fn names_like<'a>(
     Ok(names)
 }
 
-/// The question whether a name that is near is meant, and nothing where none is.
+/// Returns the question of whether a similar name is meant, or where a point has to be if there is
+/// none.
 fn meant(alloc: Global, points: &PointNames, name: &str) -> Result<String, NoMemory> {
     let names = names_like(alloc, points, name)?;
     match nearest(alloc, name, names.as_slice())? {
         Some(near) => {
             let near = quoted(alloc, near)?;
-            Ok(format!(in alloc; "; is {near} meant?")?)
+            Ok(format!(in alloc; "; did you mean {near}?")?)
         }
-        None => Ok(String::new(alloc)),
+        None => Ok(String::from_str(alloc, "; a point comes before the links that need it")?),
     }
 }
 
@@ -100,13 +101,38 @@ fn unknown_reasons(alloc: Global, line: &FaultyLine) -> Result<String, NoMemory>
     Ok(format!(in alloc; "  found: {found}\n  why:   no earlier line has this point{meant}\n")?)
 }
 
-/// Why a line is no JSON.
+/// Returns the reason for a line that does not begin with an object, or ends with a comma after one.
+fn why_no_object(alloc: Global, bytes: &[u8]) -> Option<&'static str> {
+    match bytes {
+        [b'{', front @ .., b','] if !front.is_empty() => {
+            let object = &bytes[..bytes.len() - 1];
+            match Value::from_slice(alloc, object) {
+                Ok(_) => Some("remove the comma at the end; each object is on a line of its own"),
+                Err(_) => None,
+            }
+        }
+        [b'{' | b'[' | b' ' | b'\t', ..] => None,
+        _ => Some(r#"expected a JSON object, such as {"point":"A","cost":1}"#),
+    }
+}
+
+/// Returns the reason why a line is not JSON.
 fn why_no_json(alloc: Global, bytes: &[u8]) -> Result<String, NoMemory> {
+    if let Some(why) = foreign_format(bytes) {
+        return Ok(String::from_str(alloc, why)?);
+    }
+    if let Some(why) = why_no_object(alloc, bytes) {
+        return Ok(String::from_str(alloc, why)?);
+    }
     match Value::from_slice(alloc, bytes) {
         Ok(_) => Ok(String::new(alloc)),
+        Err(error) if error.is_eof() => Ok(String::from_str(
+            alloc,
+            "the line ends within a value; write each object on one line",
+        )?),
         Err(error) => {
             let column = error.column();
-            Ok(format!(in alloc; "this is no JSON from column {column} on")?)
+            Ok(format!(in alloc; "this is not valid JSON from column {column} on")?)
         }
     }
 }
@@ -119,12 +145,35 @@ fn is_amount(value: &Value, key: &str) -> bool {
     }
 }
 
-/// Why the amount at a key is none.
+/// Returns the reason why the value of a key is not an amount.
 fn why_no_amount(alloc: Global, value: &Value, key: &str) -> Result<String, NoMemory> {
     match value.get(key) {
         Some(_) => Ok(format!(in alloc; "\"{key}\" {AMOUNT}")?),
-        None => Ok(format!(in alloc; "\"{key}\" is missing")?),
+        None => why_missing(alloc, value, key),
     }
+}
+
+/// Returns the reason for a key that is missing, with the key that may stand for it.
+fn why_missing(alloc: Global, value: &Value, key: &str) -> Result<String, NoMemory> {
+    let others = keys_of(alloc, value)?;
+    Ok(match nearest(alloc, key, others.as_slice())? {
+        Some(other) => {
+            let other = quoted(alloc, other)?;
+            format!(in alloc; "found the key {other}; did you mean \"{key}\"?")?
+        }
+        None => format!(in alloc; "\"{key}\" is missing")?,
+    })
+}
+
+/// Returns the keys of an object.
+fn keys_of(alloc: Global, value: &Value) -> Result<Vec<&str>, NoMemory> {
+    let mut keys = Vec::new(alloc);
+    if let Value::Object(members) = value {
+        for (key, _member) in members.iter() {
+            keys.push(key.as_str())?;
+        }
+    }
+    Ok(keys)
 }
 
 /// Why a line that has a link is of another form.
@@ -137,19 +186,40 @@ fn why_no_link(alloc: Global, value: &Value) -> Result<String, NoMemory> {
     }
     if let Some(eligible) = value.get("eligible") {
         if eligible.as_bool().is_none() {
-            return Ok(String::from_str(alloc, "\"eligible\" is true or false")?);
+            return Ok(String::from_str(alloc, "\"eligible\" must be true or false")?);
         }
     }
-    Ok(String::from_str(alloc, "\"needs\" is a list of names")?)
+    Ok(String::from_str(alloc, "\"needs\" must be a list of names, such as [\"A\"]")?)
+}
+
+/// Returns which command reads a value that is not a line of a profile, or an example of a line.
+fn other_input(value: &Value) -> &'static str {
+    if value.is_array() {
+        return "; write each object on a line of its own, and no list";
+    }
+    if value.get("definition").is_some() {
+        return "; this is a script, which mhlink run reads";
+    }
+    if value.get("problem").is_some() {
+        return "; this is a problem with a plan, which mhlink check reads";
+    }
+    if value.get("costs").is_some() {
+        return "; this is a problem, which mhlink plan reads";
+    }
+    if value.get("flow").is_some() {
+        return "; this is a plan, which mhlink check --profile reads on the last line";
+    }
+    r#", such as {"point":"A","cost":1}"#
 }
 
 /// Why a line is of another form.
 fn why_bad(alloc: Global, value: &Value) -> Result<String, NoMemory> {
     let Some(name) = value.get("point").or(value.get("link")) else {
-        return Ok(String::from_str(alloc, "a line is an object with \"point\" or \"link\"")?);
+        let other = other_input(value);
+        return Ok(format!(in alloc; "expected an object with \"point\" or \"link\"{other}")?);
     };
     if name.as_str().is_none() {
-        return Ok(String::from_str(alloc, "a name is a string")?);
+        return Ok(String::from_str(alloc, "a name must be a string")?);
     }
     match value.get("point") {
         Some(_) => why_no_amount(alloc, value, "cost"),

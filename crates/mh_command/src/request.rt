@@ -74,9 +74,9 @@ impl Asked {
 
 /// What `mhlink --help` ends with.
 const AFTER_HELP: &str = "\
-With --explain, a command says where an error in its input is, and why it is one. All but
-`profile` and `check --profile` also report unknown keys, and reject such input with
---strict.
+With --explain, a command says where an error in its input is, and why it is
+one. All but `profile` and `check --profile` also report unknown keys, and
+reject such input with --strict.
 
 Examples:
   mhlink run --explain < examples/first-calls.json
@@ -85,16 +85,18 @@ Examples:
   mhlink stress --rounds 1000 < examples/stress-calls.json
   mhlink profile < examples/profiles/shop.jsonl
 
-Statuses: 0 done, 1 the input or its plan is refused, 2 the command line is wrong,
-3 a read or a write failed, 4 out of memory, or too many readers of the published state.
-Formats are described in docs/FORMATS.md, faults and refusals in docs/FAULTS.md.";
+Statuses: 0 done, 1 the input or its plan is refused, 2 the command line is
+wrong, 3 a read or a write failed, 4 out of memory, or too many readers of the
+published state. Formats are described in docs/FORMATS.md, faults and refusals
+in docs/FAULTS.md.";
 
 /// What `mhlink run --help` ends with.
 const AFTER_RUN: &str = "\
-Reads a script from standard input: a JSON object with a definition (points, shared
-trees, sites), a number of workers, and events. Each event gets one line on standard
-output. If the script has a fault, nothing is run: the fault is one line on standard
-error, after which --explain says where it is and why. It also explains refused events.
+Reads a script from standard input: a JSON object with a definition (points,
+shared trees, sites), a number of workers, and events. Each event gets one line
+on standard output. If the script has a fault, nothing is run: the fault is one
+line on standard error, after which --explain says where it is and why. It also
+explains refused events.
 
 Example:
   mhlink run --explain --report < examples/first-calls.json";
@@ -102,10 +104,11 @@ Example:
 /// What `mhlink check --help` ends with.
 const AFTER_CHECK: &str = "\
 Reads a JSON object with a problem and a plan from standard input, and prints
-`accepted`, or `refused` with the number and the name of the first part that is wrong.
-With --profile, it reads a profile, as `mhlink profile` does, followed by a plan on the
-last line, as `mhlink profile --certificate` prints it. Unknown keys of these are ignored:
---strict has no effect then, and --explain explains faults of the profile alone.
+`accepted`, or `refused` with the number and the name of the first part that is
+wrong. With --profile, it reads a profile, as `mhlink profile` does, followed
+by a plan on the last line, as `mhlink profile --certificate` prints it.
+Unknown keys of these are ignored: --strict has no effect then, and --explain
+explains faults of the profile only.
 
 Examples:
   mhlink check < examples/check-shared-point.json
@@ -113,32 +116,37 @@ Examples:
 
 /// What `mhlink plan --help` ends with.
 const AFTER_PLAN: &str = "\
-Reads a problem from standard input, a JSON object with costs and links, and prints its
-plan on one line: links, points, value, and the sum of the flow that proves it optimal.
+Reads a problem from standard input, a JSON object with costs and links, and
+prints its plan on one line: links, points, value, and the sum of the flow that
+proves it optimal.
 
 Example:
   mhlink plan --workers 4 --certificate < examples/plan-shared-point.json";
 
 /// What `mhlink stress --help` ends with.
 const AFTER_STRESS: &str = "\
-Reads a script from standard input, as `mhlink run` does. Each worker makes its calls in a
-thread of its own and flushes, once per round. Meanwhile, each of the other events except
-flushes is made once. In the end the hits of all links are added up; --report adds a line
-for each point, site and link.
+Reads a script from standard input, as `mhlink run` does. Each worker makes its
+calls in a thread of its own and flushes, once per round. Meanwhile, each of
+the other events except flushes is made once. Refused calls, flushes and events
+are skipped; --explain reports how many calls and flushes were refused, and
+why. In the end the hits of all links are added up; --report adds a line for
+each point, site and link.
 
 Example:
   mhlink stress --workers 2 --rounds 1000 < examples/stress-calls.json";
 
 /// What `mhlink profile --help` ends with.
 const AFTER_PROFILE: &str = "\
-Reads a profile from standard input: one line of JSON for each named point and link, each
-point before the links that need it. Prints the links that the optimal plan selects, those
-that it leaves and why, and what each point is paid. A profile has at most 1048576 points,
-1048576 links and 64 MiB. A fault is one line on standard error with its line number, after
-which --explain shows that line and the reason. With --explain the input is kept in memory.
+Reads a profile from standard input: one line of JSON for each named point and
+link, each point before the links that need it. Prints the links that the
+optimal plan selects, those that it leaves and why, and what each point is
+paid. A profile has at most 1048576 points, 1048576 links and 64 MiB. A fault
+is one line on standard error with its line number, after which --explain shows
+that line and the reason. With --explain the input is kept in memory.
 
-With --sweep, the line of each eligible link ends with the scale of the costs up to which it
-is selected. A link with `until 8.315` is while all costs are below 8.315 times these.
+With --sweep, the line of each eligible link ends with the scale of the costs
+up to which it is selected: a link with `until 8.315` is selected while all
+costs are below 8.315 times these.
 
 Examples:
   mhlink profile --explain --certificate < examples/profiles/shop.jsonl
@@ -225,7 +233,7 @@ fn callers_option<'a>(alloc: Global) -> Arg<'a>
         .long("workers")
         .value_name("N")
         .value_parser(value_parser!(u8).range(1..=64))
-        .help("Number of calling threads, 1 to 64; as many as the script's workers by default")
+        .help("Number of calling threads, 1 to 64 [default: the script's]")
 }
 
 /// How often they call.
@@ -238,7 +246,7 @@ fn rounds_option<'a>(alloc: Global) -> Arg<'a>
         .value_name("N")
         .default_value("1")
         .value_parser(value_parser!(u32).range(1..=1_000_000))
-        .help("Number of times each worker makes its calls, 1 to 1000000")
+        .help("Rounds of calls per worker, 1 to 1000000")
 }
 
 fn stress_command<'a>(alloc: Global) -> Result<Command<'a>, AllocError>
@@ -277,7 +285,7 @@ fn profile_command<'a>(alloc: Global) -> Result<Command<'a>, AllocError>
     let sweep = flag(
         alloc,
         "sweep",
-        "Also print up to which scale of the costs each link is selected",
+        "Also print the cost scale up to which a link is selected",
     );
     let help = "Explain errors: show the line and the reason";
     let command = with_explain(alloc, command, help)?;
@@ -292,7 +300,7 @@ fn root_command<'a>(alloc: Global) -> Command<'a>
     ensures app { app_of result ≡ root_app }
 {
     Command::new(alloc, "mhlink")
-        .about("Dynamic calls in the style of java.lang.invoke, and optimal plans with their proof")
+        .about("Dynamic calls in the style of java.lang.invoke, and provably optimal plans")
         .version("0.1.0")
         .after_help(AFTER_HELP)
         .subcommand_required(true)

@@ -16,6 +16,7 @@ ghost use Rattle.mh_command.specs.Readings.{fault_told, form_of, IsExplained};
 
 use crate::findings::{Findings, findings_in, help_for_text};
 use crate::line_reasons::line_reasons;
+use crate::notes::{tell_twice, tell_unflushed, tell_unread};
 use crate::request::{Asked, Request};
 use crate::status::{DONE, status_of_verdict};
 use mh_explain::{InputForm, explanation_of_refused};
@@ -341,6 +342,7 @@ fn work_or_refuse<T: Threads + Wait + Sync, S: ShowRounds + Sync, W: Write>(
     if let Some(fault) = fault {
         return Ending::beside(alloc, Err(fault), help);
     }
+    tell_unflushed(stage, alloc, asked, parsed.value);
     match work_parsed(stage, alloc, asked.request, parsed, out) {
         Ok(Worked { status, refused }) => Ending {
             end: Ok(status),
@@ -378,6 +380,7 @@ fn work_read<T: Threads + Wait + Sync, S: ShowRounds + Sync, W: Write>(
 {
     match parse_json(alloc, input) {
         Ok(value) => {
+            tell_twice(stage, alloc, asked, input);
             let parsed = Parsed {
                 input,
                 value: &value,
@@ -485,8 +488,8 @@ fn work_lines<T: Threads + Wait + Sync, S: ShowRounds + Sync, R: Read, W: Write>
     }
 }
 
-/// Does what is asked, up to the last flush.
-pub(crate) fn work_asked<T: Threads + Wait + Sync, S: ShowRounds + Sync, R: Read, W: Write>(
+/// Performs a request, up to the last flush, without a note on a failed read.
+fn work_in<T: Threads + Wait + Sync, S: ShowRounds + Sync, R: Read, W: Write>(
     stage: &Stage<'_, T, S>,
     alloc: Global,
     asked: Asked,
@@ -517,4 +520,34 @@ pub(crate) fn work_asked<T: Threads + Wait + Sync, S: ShowRounds + Sync, R: Read
         Some(form) => work_whole(stage, alloc, asked, form, reader, out),
         None => work_lines(stage, alloc, asked, reader, out),
     }
+}
+
+/// Does what is asked, up to the last flush.
+pub(crate) fn work_asked<T: Threads + Wait + Sync, S: ShowRounds + Sync, R: Read, W: Write>(
+    stage: &Stage<'_, T, S>,
+    alloc: Global,
+    asked: Asked,
+    reader: &mut Watched<R>,
+    out: &mut Watched<W>,
+) -> Ending
+    requires workers { HasWorkers asked.request }
+    ensures works { IfOk result.end (Works asked (R.remaining reader.old.inner) result.refused.items
+        (W.contents out.old.inner) (W.contents out.new.inner)) }
+    ensures small { IfOk result.end (λ status. status < 2) }
+    ensures clear { OnErr result.end (result.refused.items ≡ []) }
+    ensures fails { IfErr result.end (FailsIn asked (R.remaining reader.old.inner)
+        (W.contents out.old.inner) (W.contents out.new.inner)
+        (HasFailed reader.old.failures reader.new.failures)
+        (HasFailed out.old.failures out.new.failures)) }
+    ensures honest { IsHonest result.end reader.old.failures reader.new.failures
+        out.old.failures out.new.failures }
+    ensures others { IfErr result.end (λ e. NoOtherFailed e.kind reader.old.failures
+        reader.new.failures out.old.failures out.new.failures) }
+    ensures end { OnOk result.end (IsAtEnd (R.remaining reader.new.inner)) }
+    ensures help { IsHelp asked (R.remaining reader.old.inner) result.end
+        result.refused.items (string_bytes result.help) }
+{
+    let ending = work_in(stage, alloc, asked, reader, out);
+    tell_unread(stage, &ending.end);
+    ending
 }

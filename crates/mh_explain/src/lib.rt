@@ -15,6 +15,7 @@
 #![tactic(auto)]
 
 mod faulty;
+mod foreign;
 mod found;
 mod lines;
 mod near;
@@ -25,15 +26,20 @@ mod refused;
 mod said;
 mod scope;
 mod spot;
+mod twice;
+mod unflushed;
 mod unread;
 mod values;
 mod why;
 mod words;
 
 pub use faulty::{FaultyPart, faulty_part};
+pub use foreign::foreign_format;
 pub use lines::{definition_explanation, explanation, explanation_of_part, explanation_of_text};
 pub use mh_json::{InputFault, InputForm};
 pub use near::nearest;
 pub use refused::explanation_of_refused;
+pub use twice::keys_twice;
+pub use unflushed::unflushed_calls;
 pub use unread::{UnreadKeys, unread_keys};
 pub use words::quoted;

@@ -2,11 +2,13 @@
 mod levels;
 mod stop;
 
+use crate::foreign::foreign_format;
 use crate::no_json::levels::{Level, Levels};
 use crate::no_json::stop::{COMMENTS, Stop, is_white};
 use crate::objects::is_profile_line;
 use crate::words::printable;
 use mh_base::NoMemory;
+use mh_json::Field;
 use mh_json::readers::parse_json;
 use serde_json::Value;
 use std::alloc::Global;
@@ -38,18 +40,18 @@ impl Text<'_> {
     /// Returns the lines that say where it stops being valid JSON, what was found there, and why
     /// that is not valid.
     pub(crate) fn explanation(&self, alloc: Global) -> Result<String, NoMemory> {
+        if let Some(why) = foreign_format(self.input) {
+            return self.lines(alloc, why);
+        }
         if str::from_utf8(self.input).is_err() {
             return self.lines(alloc, "the text is not UTF-8 from here on");
-        }
-        if self.input.starts_with(b"\xef\xbb\xbf") {
-            return self.lines(alloc, "the input begins with a byte order mark");
         }
         if self.is_cut {
             return self.lines(alloc, cut_reason(alloc, self.input)?);
         }
         let (before, rest) = self.parts();
         match parse_json(alloc, before) {
-            Ok(value) => self.lines(alloc, reason_behind(&value, rest)),
+            Ok(value) => self.lines(alloc, reason_behind(alloc, &value, rest)),
             Err(_) => self.explanation_within(alloc),
         }
     }
@@ -60,7 +62,7 @@ impl Text<'_> {
         let (levels, read) = Levels::by(alloc, self.parts().0)?;
         let text = self.moved_to(read);
         if levels.depth() > DEEPEST_VALUE {
-            return text.lines(alloc, "values stand at most 127 deep in one another");
+            return text.lines(alloc, "values may be nested at most 127 deep");
         }
         let (before, rest) = text.parts();
         let stop = Stop {
@@ -149,13 +151,31 @@ fn cut_reason(alloc: Global, input: &[u8]) -> Result<&'static str, NoMemory> {
 }
 
 /// Returns the reason why these bytes are not allowed after a whole value.
-fn reason_behind(value: &Value, rest: &[u8]) -> &'static str {
+fn reason_behind(alloc: Global, value: &Value, rest: &[u8]) -> &'static str {
     match rest {
         [b'/' | b'#', ..] => COMMENTS,
-        [b']' | b'}', ..] => "the input is one value of JSON, which ended before this",
-        _ if is_profile_line(value) => {
-            "the input is one value of JSON, and this stands behind it; lines as these are a profile, which mhlink profile reads"
+        [b']' | b'}', ..] => "the input is one JSON value, which ends before this",
+        _ if is_problem(value) && is_plan(alloc, rest) => {
+            "a problem and its plan are one object: {\"problem\":PROBLEM,\"plan\":PLAN}"
         }
-        _ => "the input is one value of JSON, and this stands behind it",
+        _ if is_profile_line(value) => {
+            "the input is one JSON value, and this comes after it; lines like these are a profile, which mhlink profile reads"
+        }
+        _ => "the input is one JSON value, and this comes after it",
+    }
+}
+
+/// Returns whether a value has the costs and links of a problem.
+fn is_problem(value: &Value) -> bool {
+    value.get(Field::Costs.name()).is_some() && value.get(Field::Links.name()).is_some()
+}
+
+/// Returns whether a text is a JSON value with the links and points of a plan.
+fn is_plan(alloc: Global, text: &[u8]) -> bool {
+    match parse_json(alloc, text) {
+        Ok(value) => {
+            value.get(Field::Links.name()).is_some() && value.get(Field::Points.name()).is_some()
+        }
+        Err(_) => false,
     }
 }

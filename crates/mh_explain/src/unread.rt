@@ -31,7 +31,7 @@ pub(crate) enum Reach {
 /// The keys of an input that are not read.
 #[derive(Drop)]
 pub struct UnreadKeys {
-    /// A line for each, as `note: definition.sites[9].lnks is not read; is "links" meant?`.
+    /// A line for each, as `note: definition.sites[9].lnks is not read; did you mean "links"?`.
     pub notes: String,
     /// The number of the event that contains the first one, from 1, or 0 if it is outside the
     /// events; `None` if each key is read.
@@ -255,7 +255,7 @@ fn note(alloc: Global, look: &Look<'_>, key: &str) -> Result<String, NoMemory> {
     }
     let names = names(alloc, look.keys)?;
     if let Some(meant) = nearest(alloc, key, &names)? {
-        write!(note, "; is \"{meant}\" meant?")?;
+        write!(note, "; did you mean \"{meant}\"?")?;
     }
     note.push('\n')?;
     Ok(note)

@@ -11,6 +11,7 @@ mod trees;
 mod types;
 
 use crate::spot::Spot;
+pub(crate) use definitions::has_links;
 pub(crate) use events::reasons_of_event;
 use mh_base::NoMemory;
 use mh_json::InputFault;

@@ -32,13 +32,13 @@ pub(crate) fn kind_word(value: &Value) -> &'static str {
     }
 }
 
-/// Explains that a part of another form is expected.
+/// Explains that a part of another form is expected: `expected a tree, found a number`.
 pub(crate) fn wanted(alloc: Global, what: &str, value: &Value) -> Result<String, NoMemory> {
     if let Value::Number(number) = value {
-        return Ok(format!(in alloc; "{what} is wanted here, and this is {number}")?);
+        return Ok(format!(in alloc; "expected {what}, found {number}")?);
     }
     let kind = kind_word(value);
-    Ok(format!(in alloc; "{what} is wanted here, and this is {kind}")?)
+    Ok(format!(in alloc; "expected {what}, found {kind}")?)
 }
 
 /// Returns the question of whether a similar name is meant, or the list of the names of such
@@ -51,7 +51,7 @@ pub(crate) fn meant(
     many: &str,
 ) -> Result<String, NoMemory> {
     if let Some(near) = nearest(alloc, name, known)? {
-        return Ok(format!(in alloc; "is \"{near}\" meant?")?);
+        return Ok(format!(in alloc; "did you mean \"{near}\"?")?);
     }
     match known {
         [] => Ok(format!(in alloc; "there is no {one}")?),
@@ -75,17 +75,17 @@ fn listed(alloc: Global, names: &[&str]) -> Result<String, NoMemory> {
     Ok(text)
 }
 
-/// Returns the question of whether a similar word is meant, or the list of all known words,
-/// followed by `do_this`.
+/// Returns the question of whether a similar word is meant, or the list of all known words, which
+/// `before` introduces.
 pub(crate) fn meant_of(
     alloc: Global,
     word: &str,
     known: &str,
-    do_this: &str,
+    before: &str,
 ) -> Result<String, NoMemory> {
     match nearest(alloc, word, &words_of(alloc, known)?)? {
-        Some(near) => Ok(format!(in alloc; "is \"{near}\" meant?")?),
-        None => Ok(format!(in alloc; "{known} {do_this}")?),
+        Some(near) => Ok(format!(in alloc; "did you mean \"{near}\"?")?),
+        None => Ok(format!(in alloc; "{before} {known}")?),
     }
 }
 
@@ -152,8 +152,10 @@ pub(crate) fn why_no_kind(alloc: Global, word: &str) -> Result<String, NoMemory>
     let shown = quoted(alloc, word)?;
     let known = ["int", "long", "boolean", "String"];
     Ok(match nearest(alloc, word, &known)? {
-        Some(near) => format!(in alloc; "{shown} is not a kind; is \"{near}\" meant?")?,
-        None => format!(in alloc; "{shown} is not a kind; int, long, boolean and String are")?,
+        Some(near) => format!(in alloc; "{shown} is not a kind; did you mean \"{near}\"?")?,
+        None => format!(in alloc;
+            "{shown} is not a kind; the kinds are int, long, boolean and String"
+        )?,
     })
 }
 

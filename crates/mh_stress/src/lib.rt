@@ -9,11 +9,13 @@
 
 mod changes;
 mod division;
+mod notes;
 mod rounds;
 mod settled;
 mod stage;
 mod stress;
 mod sums;
+mod tally;
 mod threads;
 
 pub use mh_json::{Fault, InputFault, TextFault};

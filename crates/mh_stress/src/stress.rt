@@ -12,6 +12,7 @@ ghost use Rattle.mh_stress.specs.Stress.{AreLawful, FailsStress, FailsStressBy, 
 ghost use Rattle.mh_stress.specs.Rounds.{AreFresh};
 
 use crate::division::{Division, divide};
+use crate::notes::tell_notes;
 use crate::settled::settled_lines;
 use crate::stage::{ShowRounds, Stage};
 use crate::threads::work_beside;
@@ -148,6 +149,12 @@ fn stress_script<T: Threads + Wait + Sync, S: ShowRounds + Sync>(
     } = script;
     let workers = workers_for(options, workers);
     let division = divide(alloc, steps.into_vec())?;
+    tell_notes(
+        &stage.shows,
+        &definition,
+        division.calls.as_slice(),
+        workers,
+    );
     let opening = Opening::new(alloc, &definition, workers, limits).map_err(fault_of)?;
     run_threads::<Brand, T, S>(stage, alloc, opening, division, options)
 }
@@ -161,7 +168,9 @@ fn stress_script<T: Threads + Wait + Sync, S: ShowRounds + Sync>(
 /// refused is skipped. The calls of workers that do not exist are not made. Finally the hits of all
 /// calls are added up.
 ///
-/// While the first worker makes its rounds, the stage shows how many are done.
+/// While the first worker makes its rounds, the stage shows how many are done. It also shows how
+/// many calls and flushes of each worker were refused, how many workers make no calls, how many
+/// calls are of workers that do not exist, and whether the definition has no links.
 ///
 /// The input is read to its end, or to the first byte beyond 1,048,576. If it has a fault, if
 /// memory runs out, or if no more readers of the published world can be made (`NoReader`, which is

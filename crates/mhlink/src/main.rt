@@ -18,6 +18,11 @@ fn asks_for(words: &[String], subcommand: &str) -> bool {
     matches!(words.get(1), Some(word) if word.as_str() == subcommand)
 }
 
+/// Returns whether the words ask for explanations.
+fn asks_to_explain(words: &[String]) -> bool {
+    words.iter().any(|word| word.as_str() == "--explain")
+}
+
 fn main(rt: HostRuntime) -> io::Result<ExitCode> {
     let alloc = rt.alloc();
     let arguments = match env::args(&rt) {
@@ -42,7 +47,11 @@ fn main(rt: HostRuntime) -> io::Result<ExitCode> {
     let mut err = Watched::new(rt.stderr());
     let stage = Stage {
         rt: &rt,
-        shows: Rounds::new(&rt, asks_for(&words, "stress") && is_seen),
+        shows: Rounds::new(
+            &rt,
+            asks_for(&words, "stress") && is_seen,
+            is_seen || asks_to_explain(&words),
+        ),
     };
     let status = command(
         &stage,

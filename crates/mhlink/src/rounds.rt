@@ -1,6 +1,7 @@
-//! The progress of the rounds of a stress, on a terminal.
+//! The progress of the rounds of a stress, on a terminal, and notes.
 
 use mh_command::ShowRounds;
+use std::fmt;
 use std::io::Write;
 use std::time::Instant;
 
@@ -8,19 +9,22 @@ use std::time::Instant;
 const MOST_LINES: u32 = 100;
 
 /// Shows on a terminal how many rounds are made, once they take more than a second. The next text
-/// overwrites that line, and the end of the rounds clears it.
+/// overwrites that line, and the end of the rounds clears it. Prints notes to standard error, if they
+/// are asked for, a line each.
 #[derive(Clone, Copy)]
 pub(crate) struct Rounds<'a> {
     rt: &'a HostRuntime,
     /// The time when the program began, or `None` if nothing is to be shown.
     start: Option<Instant>,
+    /// True if notes are shown.
+    tells: bool,
 }
 
 impl<'a> Rounds<'a> {
-    /// Returns a display of rounds, if that is asked for.
-    pub(crate) fn new(rt: &'a HostRuntime, shows: bool) -> Rounds<'a> {
+    /// Returns a display of rounds and of notes, if these are asked for.
+    pub(crate) fn new(rt: &'a HostRuntime, shows: bool, tells: bool) -> Rounds<'a> {
         let start = if shows { Instant::now(rt).ok() } else { None };
-        Rounds { rt, start }
+        Rounds { rt, start, tells }
     }
 
     /// Returns whether rounds are to be shown, and more than a second has passed.
@@ -44,6 +48,16 @@ impl<'a> ShowRounds for Rounds<'a> {
     fn clear(&self) {
         if self.is_slow() {
             let _ = self.rt.stderr().write_all(b"\x1b[K");
+        }
+    }
+
+    fn tell<D: fmt::Display>(&self, note: &D) {
+        if !self.tells {
+            return;
+        }
+        // One write, so that the notes of several threads do not mix.
+        if let Ok(line) = format!(in self.rt.alloc(); "note: {note}\n") {
+            let _ = self.rt.stderr().write_all(line.as_bytes());
         }
     }
 }

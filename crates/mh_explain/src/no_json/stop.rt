@@ -5,9 +5,9 @@ use crate::no_json::levels::Level;
 /// The reason why `//` and `#` are not valid.
 pub(crate) const COMMENTS: &str = "JSON has no comments";
 
-const QUOTES: &str = "a string of JSON stands in \"\"";
+const QUOTES: &str = "write strings in double quotes";
 
-const KEY: &str = "a key of an object stands in \"\"";
+const KEY: &str = "write keys in double quotes";
 
 const NO_KEY: &str = "a key is missing before this";
 
@@ -15,17 +15,17 @@ const NO_VALUE: &str = "a value is missing before this";
 
 const NO_COLON: &str = "a colon and a value are missing before this";
 
-const COMMA_BEFORE: &str = "there is a comma too many before this";
+const COMMA_BEFORE: &str = "remove the comma before this";
 
-const COMMA_HERE: &str = "there is a comma too many here";
+const COMMA_HERE: &str = "remove this comma";
 
-const SEMICOLON: &str = "commas stand between the parts of a list or an object, and no ;";
+const SEMICOLON: &str = "separate the parts of a list or an object with commas, not with ;";
 
 const NOT_FINITE: &str = "JSON has no NaN and no infinity";
 
 const TOO_LARGE: &str = "the number before this is too large";
 
-const NOTHING: &str = "no text of JSON has this here";
+const NOTHING: &str = "JSON does not allow this here";
 
 /// A place where a text, which is not a JSON value up to there, cannot continue as it does.
 #[derive(Clone, Copy)]
@@ -42,7 +42,7 @@ impl Stop<'_> {
         match self.rest {
             [b'/' | b'#', ..] => return COMMENTS,
             [b'\'' | b'`', ..] | [0xe2, 0x80, 0x98..=0x9f, ..] => return QUOTES,
-            [0xc2, 0xa0, ..] => return "JSON has plain spaces alone, and this is a no-break space",
+            [0xc2, 0xa0, ..] => return "this is a no-break space; JSON has plain spaces only",
             _ => {}
         }
         let is_object = matches!(self.level, Some(Level { is_list: false, .. }));
@@ -58,7 +58,7 @@ impl Stop<'_> {
     fn reason_at_start(&self) -> &'static str {
         match self.rest {
             [b'"', ..] => reason_in_string(self.rest),
-            _ => "an input is an object of JSON, which begins with {",
+            _ => "expected a JSON object, which begins with {",
         }
     }
 
@@ -79,11 +79,11 @@ impl Stop<'_> {
         match self.rest {
             [b',' | b']' | b'}', ..] if last == b':' => NO_VALUE,
             [b',', ..] => COMMA_HERE,
-            [b':', ..] if last == b':' => "there is a colon too many here",
+            [b':', ..] if last == b':' => "remove this colon",
             [b':', ..] => NO_KEY,
             [b']', ..] if last == b',' => COMMA_BEFORE,
             [b']' | b'}', ..] => self.reason_crossed(),
-            [b'(', ..] => "a list of JSON stands in []",
+            [b'(', ..] => "write lists in []",
             _ => reason_in_value(self.rest),
         }
     }
@@ -96,12 +96,11 @@ impl Stop<'_> {
         match self.rest {
             [b'}', ..] if level.is_list => self.reason_crossed(),
             [b']', ..] if !level.is_list => self.reason_crossed(),
-            [b':', ..] if level.is_list =>
-                "a list has no keys; an object, which has them, stands in {}",
+            [b':', ..] if level.is_list => "a list has no keys; write objects in {}",
             [b';', ..] => SEMICOLON,
             [byte, ..] if level.is_list || level.has_colon => self.reason_behind_value(last, *byte),
             [_, ..] if last != b'"' => KEY,
-            [b'=', ..] => "a colon stands between a key and its value, and no =",
+            [b'=', ..] => "separate a key from its value with a colon, not with =",
             [byte, ..] if begins(*byte) => "a colon is missing before this",
             _ => NO_COLON,
         }
@@ -116,7 +115,7 @@ impl Stop<'_> {
             return "a string ends before this; is a \" missing, or the \\ before a \" inside of one?";
         }
         match byte {
-            b':' => "there is a colon too many here",
+            b':' => "remove this colon",
             _ if begins(byte) && ends_a_value(last) => "a comma is missing before this",
             _ => NOTHING,
         }
@@ -178,27 +177,27 @@ fn reason_in_value(rest: &[u8]) -> &'static str {
     }
     match rest {
         [b'"', ..] => reason_in_string(rest),
-        [b'N' | b'T' | b'F', ..] => "JSON has null, true and false, in small letters",
+        [b'N' | b'T' | b'F', ..] => "write null, true and false in lower case",
         [b'0'..=b'9' | b'-' | b'+' | b'.', ..] => reason_in_number(rest),
         [byte, ..] if byte.is_ascii_alphabetic() || *byte == b'_' => {
-            "of words JSON has null, true and false alone, and a string stands in \"\""
+            "JSON has the words null, true and false only; write strings in double quotes"
         }
-        _ => "no value of JSON begins so",
+        _ => "no JSON value begins like this",
     }
 }
 
 /// Returns the reason why a number cannot be written as it is.
 fn reason_in_number(rest: &[u8]) -> &'static str {
     if let [b'0', b'0'..=b'9', ..] | [b'-', b'0', b'0'..=b'9', ..] = rest {
-        return "a number of JSON does not begin with 0";
+        return "a JSON number does not begin with 0";
     }
     match behind_number(rest) {
         Some(b';') => SEMICOLON,
         Some(byte) if byte.is_ascii_alphabetic() || byte == b'_' => {
-            "a number of JSON has decimal digits alone, and no letters"
+            "a JSON number has decimal digits only, no letters"
         }
         _ if is_whole(rest) => TOO_LARGE,
-        _ => "a number of JSON has digits, before and behind its dot, and no + before them",
+        _ => "a JSON number has digits before and after its dot, and no + before them",
     }
 }
 
@@ -230,10 +229,10 @@ fn behind_number(rest: &[u8]) -> Option<u8> {
 fn reason_in_string(rest: &[u8]) -> &'static str {
     for byte in rest {
         match *byte {
-            0..=0x1f => return "a string has no line break and no tab, but \\n and \\t",
-            b'\\' => return "an escape of this string is none of JSON",
+            0..=0x1f => return "a string has no line breaks or tabs; write \\n and \\t",
+            b'\\' => return "an escape in this string is not valid JSON",
             _ => {}
         }
     }
-    "no string of JSON begins so"
+    "this string is not valid JSON"
 }

@@ -348,6 +348,17 @@ impl<'a> Site<'a> {
     }
 }
 
+/// Returns whether the first site with a name has links.
+pub(crate) fn has_links(script: &Value, name: &str) -> bool {
+    let Some(definition) = script.get(Field::Definition.name()) else {
+        return false;
+    };
+    match Site::named(definition, name).and_then(|site| site.part(Field::Links)) {
+        Some(links) => !items(links).is_empty(),
+        None => false,
+    }
+}
+
 /// Returns the key of a link.
 fn key_of(
     alloc: Global,

@@ -27,10 +27,10 @@ pub(crate) fn why_missing(
 /// Explains that another value was found in place of an object.
 fn why_no_object(alloc: Global, object: Object, value: &Value) -> Result<String, NoMemory> {
     let noun = object.noun();
-    let what = format!(in alloc; "{noun}, which is an object,")?;
+    let what = format!(in alloc; "{noun} (an object)")?;
     let why = wanted(alloc, what.as_str(), value)?;
     let example = object.example();
-    Ok(format!(in alloc; "{why}; one is {example}")?)
+    Ok(format!(in alloc; "{why}; for example {example}")?)
 }
 
 /// Explains that an object lacks a key, with the key that it has instead.
@@ -46,7 +46,7 @@ fn why_lacking(
     let others = other_keys(alloc, keys, members)?;
     if let Some(other) = nearest(alloc, name, &others)? {
         let other = quoted(alloc, other)?;
-        return Ok(format!(in alloc; "{other} stands here; is \"{name}\" meant?")?);
+        return Ok(format!(in alloc; "found the key {other}; did you mean \"{name}\"?")?);
     }
     if spot.path.is_empty() {
         if let Some(command) = other_command(spot.form, spot.value) {

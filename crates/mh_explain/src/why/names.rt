@@ -65,7 +65,7 @@ pub(crate) fn why_no_name(
     match number.and_then(|number| names.get(number)) {
         Some(name) => {
             let name = quoted(alloc, name)?;
-            Ok(format!(in alloc; "{why}; is {name} meant?")?)
+            Ok(format!(in alloc; "{why}; did you mean {name}?")?)
         }
         None => Ok(why),
     }
@@ -91,7 +91,7 @@ pub(crate) fn why_unknown_shared(
     let names = shared_names(alloc, script)?;
     let shown = quoted(alloc, name)?;
     if is_among(name, &names) {
-        return Ok(format!(in alloc; "the shared tree {shown} stands no earlier than this tree")?);
+        return Ok(format!(in alloc; "the shared tree {shown} is not declared before this tree")?);
     }
     let others = meant(alloc, name, &names, "shared tree", "shared trees")?;
     Ok(format!(in alloc; "no shared tree has the name {shown}; {others}")?)
@@ -107,7 +107,7 @@ pub(crate) fn why_unknown_site(
     let names = names_of(alloc, script, Field::Sites)?;
     let shown = quoted(alloc, name)?;
     if is_among(name, &names) {
-        return Ok(format!(in alloc; "the site {shown} stands no earlier than this tree")?);
+        return Ok(format!(in alloc; "the site {shown} is not declared before this tree")?);
     }
     let others = meant(alloc, name, &names, "site", "sites")?;
     Ok(format!(in alloc; "no site has the name {shown}; {others}")?)

@@ -8,7 +8,7 @@ use mh_base::NoMemory;
 use mh_json::Wanted;
 use mh_json::readers::{Scope, place, read_filter_or_none, read_tree, read_type, read_value};
 use mh_tree::{DEEPEST, DEEPEST_DECLARED, Handle, LARGEST, LARGEST_DECLARED, TreeFault};
-use mh_type::{Kind, MOST_PARAMETERS, MethodType};
+use mh_type::{Kind, MOST_PARAMETERS, MethodType, begins_with};
 use serde_json::Value;
 use std::alloc::Global;
 
@@ -177,16 +177,65 @@ fn why_branches(
     let Some(fallback) = tree(alloc, scope, fallback)? else {
         return Ok(String::new(alloc));
     };
-    let (target, fallback) = (
-        Part::Type(target.method_type()),
-        Part::Type(fallback.method_type()),
-    );
+    let (target, fallback) = (target.method_type(), fallback.method_type());
+    let hint = drop_hint_of(alloc, target, fallback)?;
     say!(
         alloc,
-        "the target is _, and the fallback _",
-        target,
-        fallback
+        "the target is _, and the fallback __",
+        Part::Type(target),
+        Part::Type(fallback),
+        Part::Text(hint.as_str())
     )
+}
+
+/// Returns what to write so that two branches have the same parameters, if one of them lacks the
+/// last ones of the other.
+fn drop_hint_of(
+    alloc: Global,
+    target: &MethodType,
+    fallback: &MethodType,
+) -> Result<String, NoMemory> {
+    if target.ret() != fallback.ret() {
+        return Ok(String::new(alloc));
+    }
+    if target.count() < fallback.count() {
+        return drop_hint(alloc, "TARGET", target, fallback.parameters());
+    }
+    drop_hint(alloc, "FALLBACK", fallback, target.parameters())
+}
+
+/// Returns what to write so that a branch has the parameters of the given kinds, if it lacks the
+/// last ones alone.
+fn drop_hint(
+    alloc: Global,
+    name: &'static str,
+    branch: &MethodType,
+    wanted: &[Kind],
+) -> Result<String, NoMemory> {
+    let own = branch.count();
+    if own >= wanted.len() || !begins_with(wanted, branch.parameters()) {
+        return Ok(String::new(alloc));
+    }
+    let kinds = listed_kinds(alloc, &wanted[own..])?;
+    say!(
+        alloc,
+        "; write [\"drop\",_,_,_] to add the missing parameters",
+        Part::Text(name),
+        Part::Number(own),
+        Part::Text(kinds.as_str())
+    )
+}
+
+/// Returns kinds as a list of JSON.
+fn listed_kinds(alloc: Global, kinds: &[Kind]) -> Result<String, NoMemory> {
+    let mut list = String::new(alloc);
+    let mut before = '[';
+    for kind in kinds {
+        write!(list, "{before}\"{kind}\"")?;
+        before = ',';
+    }
+    list.push(']')?;
+    Ok(list)
 }
 
 fn why_no_guard(
@@ -211,11 +260,13 @@ fn why_no_guard(
     };
     let branch = branch.method_type();
     if !branch.begins_with(test.parameters()) {
+        let hint = drop_hint(alloc, "TARGET", branch, test.parameters())?;
         return say!(
             alloc,
-            "the test is _, and the target _ does not begin with its parameters",
+            "the test is _, and the target _ does not begin with its parameters_",
             Part::Type(test),
-            Part::Type(branch)
+            Part::Type(branch),
+            Part::Text(hint.as_str())
         );
     }
     why_branches(alloc, scope, target, fallback)

@@ -8,6 +8,12 @@ use std::alloc::Global;
 /// Explains why a text is not a method type.
 pub(crate) fn why_none(alloc: Global, value: &Value) -> Result<String, NoMemory> {
     let text = value.as_str().unwrap_or("");
+    if text.contains(' ') {
+        return Ok(String::from_str(
+            alloc,
+            "write a method type without spaces, such as (int,String)boolean",
+        )?);
+    }
     let Some((parameters, returned)) = parts_of(text) else {
         return Ok(String::from_str(alloc, "a method type is written as (int,String)boolean")?);
     };
