@@ -22,7 +22,7 @@ use Rattle.mh_command.specs.declared.request.Request.TheVariants.{Run, Check, Ch
 abbrev pub root_app : App
 root_app = on_top (λ s. record s { has_version = true; subcommand_required = true }) (new_app (codes "mhlink"))
 
--- `--workers N`, N from 1 to 64, and 1 where it is not given
+-- `--workers N`, N from 1 to 64, 1 by default
 abbrev pub workers_rule : Rule
 workers_rule = record (new_rule (codes "workers")) {
   long = Some (codes "workers");
@@ -31,11 +31,11 @@ workers_rule = record (new_rule (codes "workers")) {
   parser = Some (Signed (pos 1) (pos most_workers));
 }
 
--- the same, and the script's where it is not given
+-- the same, the script's number by default
 abbrev pub callers_rule : Rule
 callers_rule = record (new_rule (codes "workers")) { long = Some (codes "workers"); value_names = 1; parser = Some (Signed (pos 1) (pos most_workers)) }
 
--- `--rounds N`, N from 1 to 1,000,000, and 1 where it is not given
+-- `--rounds N`, N from 1 to 1,000,000, 1 by default
 abbrev pub rounds_rule : Rule
 rounds_rule = record (new_rule (codes "rounds")) {
   long = Some (codes "rounds");
@@ -44,7 +44,7 @@ rounds_rule = record (new_rule (codes "rounds")) {
   parser = Some (Signed (pos 1) (pos most_rounds));
 }
 
--- a word that is there or not
+-- an option without a value
 abbrev pub flag_rule : List ℕ → Rule
 flag_rule name = record (new_rule name) { long = Some name; action = Some SetTrue }
 
@@ -102,23 +102,23 @@ abbrev pub truth_text : Bool → List ℕ
 truth_text true = true_text
 truth_text false = false_text
 
--- what was found after `run` says these options
+-- the words after `run` are these options
 abbrev pub IsReported : RunOptions → List Row → Type 0
 IsReported options rows = one_of (codes "report") rows ≡ Some (truth_text options.report)
 
--- what was found says that so many workers plan
+-- the words say that so many workers plan
 pub record AreWorkers (workers : ℕ) (rows : List Row) : Type 0 where
   pub number : IsNumber (one_of (codes "workers") rows) workers
   pub some : 0 < workers
   pub few : workers ≤ most_workers
 
--- what was found after `plan` says these options
+-- the words after `plan` are these options
 pub record AreOptions (options : PlanOptions) (rows : List Row) : Type 0 where
   pub workers : AreWorkers options.workers rows
   pub certificate : one_of (codes "certificate") rows ≡ Some (truth_text options.certificate)
   pub phases : one_of (codes "phases") rows ≡ Some (truth_text options.phases)
 
--- what was found after `profile` says these options
+-- the words after `profile` are these options
 pub record AreProfiled (options : ProfileOptions) (rows : List Row) : Type 0 where
   pub workers : AreWorkers options.workers rows
   pub certificate : one_of (codes "certificate") rows ≡ Some (truth_text options.certificate)
@@ -130,24 +130,24 @@ MayBeNumber (Some text) (Some n) = IsNumber (Some text) n
 MayBeNumber None None = ⊤
 MayBeNumber _ _ = ⊥
 
--- what was found after `stress` says these options
+-- the words after `stress` are these options
 pub record AreStressed (options : StressOptions) (rows : List Row) : Type 0 where
   pub workers : MayBeNumber (one_of (codes "workers") rows) options.workers
   pub rounds : IsNumber (one_of (codes "rounds") rows) options.rounds
   pub report : one_of (codes "report") rows ≡ Some (truth_text options.report)
   pub lawful : AreLawful options
 
--- what was found after any subcommand but `profile` says how its input is read
+-- the words after any subcommand but `profile` say how to read its input
 pub record IsRead (reading : Reading) (rows : List Row) : Type 0 where
   pub explain : one_of (codes "explain") rows ≡ Some (truth_text reading.explain)
   pub strict : one_of (codes "strict") rows ≡ Some (truth_text reading.strict)
 
--- what was found after `profile` says whether a fault is explained; no key is refused
+-- the words after `profile` say whether to explain a fault; no key is refused
 pub record IsReadPlainly (reading : Reading) (rows : List Row) : Type 0 where
   pub explain : one_of (codes "explain") rows ≡ Some (truth_text reading.explain)
   pub strict : reading.strict ≡ false
 
--- what was found after the subcommand of a request says how its input is read
+-- the words after the subcommand of a request say how to read its input
 abbrev pub IsReadFor : Request → Reading → List Row → Type 0
 IsReadFor (Profile options) reading rows = IsReadPlainly reading rows
 IsReadFor (Run options) reading rows = IsRead reading rows
@@ -156,15 +156,15 @@ IsReadFor CheckProfile reading rows = IsRead reading rows
 IsReadFor (Plan options) reading rows = IsRead reading rows
 IsReadFor (Stress options) reading rows = IsRead reading rows
 
--- it says that nothing is explained
+-- they ask for no explanation
 abbrev pub IsUnexplained : List Row → Type 0
 IsUnexplained rows = one_of (codes "explain") rows ≡ Some false_text
 
--- what was found after `check` says whether a profile is checked
+-- the words after `check` say whether a profile is checked
 abbrev pub IsOfProfile : Bool → List Row → Type 0
 IsOfProfile profile rows = one_of (codes "profile") rows ≡ Some (truth_text profile)
 
--- the name of a request's subcommand, and what was found after it
+-- the name of a request's subcommand, and the words after it
 abbrev pub IsRequest : Request → List ℕ → List Row → Type 0
 IsRequest (Run options) name rows = (name ≡ codes "run") × IsReported options rows
 IsRequest Check name rows = (name ≡ codes "check") × IsOfProfile false rows
@@ -173,12 +173,12 @@ IsRequest (Plan options) name rows = (name ≡ codes "plan") × AreOptions optio
 IsRequest (Stress options) name rows = (name ≡ codes "stress") × AreStressed options rows
 IsRequest (Profile options) name rows = (name ≡ codes "profile") × AreProfiled options rows
 
--- the subcommand of what is asked, with what was found after it
+-- the subcommand of a request with its options for reading, and the words after it
 abbrev pub IsNamed : Asked → Option (List ℕ × List Row) → Type 0
 IsNamed asked (Some (name, rows)) = IsRequest asked.request name rows × IsReadFor asked.request asked.reading rows
 IsNamed asked None = ⊥
 
--- a subcommand after which nothing says to explain, or none
+-- a subcommand with no word that asks for an explanation, or none
 abbrev pub SaysNoExplanation : Option (List ℕ × List Row) → Type 0
 SaysNoExplanation (Some (name, rows)) = IsUnexplained rows
 SaysNoExplanation None = ⊤
@@ -208,8 +208,8 @@ AreWords (Plan options) reading after = ⊥
 AreWords (Stress options) reading after = ⊥
 AreWords (Profile options) reading after = ⊥
 
--- The words, the program's name first, are those of what is asked: `mhlink run` and `mhlink check`; or, in any order that clap
--- takes, `mhlink plan --workers 2 --certificate` and `mhlink stress --rounds 3 --explain`.
+-- The words, the program's name first, are those of a request: `mhlink run` and `mhlink check`; or, in any order that clap takes,
+-- `mhlink plan --workers 2 --certificate` and `mhlink stress --rounds 3 --explain`.
 abbrev pub AsksFor : Asked → List (List ℕ) → Type 0
 AsksFor asked words =
     AreWords asked.request asked.reading (drop 1 words)
@@ -227,6 +227,6 @@ AsksHelp words = (drop 1 words ≡ codes "--help" ∷ []) ⊎ (drop 1 words ≡ 
 abbrev pub AsksVersion : List (List ℕ) → Type 0
 AsksVersion words = (drop 1 words ≡ codes "--version" ∷ []) ⊎ (drop 1 words ≡ codes "-V" ∷ [])
 
--- the status of the kind, or that of its text, which a failed write or memory kept back
+-- the status of the kind, or that of the failure to write its text
 abbrev pub IsReply : ℕ → ErrorKind → Type 0
 IsReply status kind = (status ≡ status_answered kind) ⊎ (status ≡ 3) ⊎ (status ≡ 4)

@@ -1,4 +1,4 @@
--- What the options of reading ask.
+-- The effects of the options for reading.
 use Rattle.std.specs.Prelude.{◌≡◌, ◌⊎◌, ◌∷◌, ◌++◌, ℕ, List, [], Option, Some, None, codes, if◌then◌else◌}
 use Rattle.serde_json.specs.Data.{string}
 use Rattle.serde_json.specs.Written.{compact_text}
@@ -20,7 +20,7 @@ use Rattle.mh_command.specs.declared.request.Asked.{Asked}
 use Rattle.mh_command.specs.declared.request.Request.{Request}
 use Rattle.mh_command.specs.declared.request.Request.TheVariants.{Run, Check, CheckProfile, Plan, Stress, Profile}
 
--- what the input of a request is read as; none of these, where it has the lines of a profile
+-- the form of the input of a request; none if it has the lines of a profile
 abbrev pub form_of : Request → Option InputForm
 form_of (Run options) = Some Script
 form_of Check = Some Claim
@@ -29,20 +29,20 @@ form_of (Plan options) = Some Problem
 form_of (Stress options) = Some Script
 form_of (Profile options) = None
 
--- where the first key of an input stands that nothing reads: in the event of this number, or outside the events at 0
+-- the place of the first unknown key of an input: in the event of this number, or outside the events at 0
 abbrev pub unread_in : Option InputForm → List ℕ → Option ℕ
 unread_in None input = None
 unread_in (Some form) input = first_unread form input
 
--- where that key stands, if an input is refused for it
+-- the place of that key, if an input is refused for it
 abbrev pub refused_at : Asked → List ℕ → Option ℕ
 refused_at asked input = if asked.reading.strict then unread_in (form_of asked.request) input else None
 
--- the fault of a key that nothing reads
+-- the fault of an unknown key
 abbrev pub unread_fault : ℕ → Fault
 unread_fault at = record { kind = Input BadShape; at = at }
 
--- an input is refused with this fault for a key that nothing reads
+-- an input is refused with this fault for an unknown key
 abbrev pub IsRefusal : Asked → List ℕ → Fault → Type 0
 IsRefusal asked input e = (at : ℕ) × (refused_at asked input ≡ Some at) × (e ≡ unread_fault at)
 
@@ -57,8 +57,8 @@ abbrev pub fault_told : Option Fault → Option InputFault
 fault_told None = None
 fault_told (Some e) = input_fault e.kind
 
--- the fault of an input that is explained; where the input is refused for a key that nothing reads, which has its note, it is its
--- first other fault
+-- the fault of an input that is explained; if the input is refused for an unknown key, which has a note of its own, it is its first
+-- other fault
 abbrev pub fault_explained : Option ℕ → Option Fault → Option InputFault
 fault_explained (Some at) fault = Some BadShape
 fault_explained None fault = fault_told fault
@@ -72,7 +72,7 @@ IsProfileIn Check input profile = profile ≡ input
 IsProfileIn (Plan options) input profile = profile ≡ input
 IsProfileIn (Stress options) input profile = profile ≡ input
 
--- lines begin with the first need of a line that is the name of no point before it
+-- lines begin with the first need of a line that names no point before it
 abbrev pub NamesNeed : FaultyLine → List ℕ → Type 0
 NamesNeed line text =
     (name rest : List ℕ) × IsUnknown line name × (text ≡ codes "  found: " ++ (compact_text (string name) ++ (10 ∷ rest)))
@@ -82,23 +82,23 @@ abbrev pub ExplainsProfile : Request → List ℕ → InputFault → List ℕ �
 ExplainsProfile request input e text =
     (text ≡ []) ⊎ ((profile : List ℕ) × (line : FaultyLine) × IsProfileIn request input profile × IsFaulty profile e line × (e ≡ UnknownPoint → NamesNeed line text))
 
--- the same of an input that is read as a form, or has the lines of a profile
+-- the same for an input of a form, or with the lines of a profile
 abbrev pub ExplainsAs : Option InputForm → Request → List ℕ → InputFault → List ℕ → Type 0
 ExplainsAs (Some form) request input e lines = Explains form input e lines
 ExplainsAs None request input e lines = ExplainsProfile request input e lines
 
--- lines that explain a fault of an input; there are none where there is no fault
+-- lines that explain a fault of an input; there are none if there is no fault
 abbrev pub ExplainsFault : Request → List ℕ → Option InputFault → List ℕ → Type 0
 ExplainsFault request input (Some e) lines = ExplainsAs (form_of request) request input e lines
 ExplainsFault request input None lines = lines ≡ []
 
--- Such lines, and behind them those of the keys that nothing reads, none where each is read; or nothing, where memory ran out for them.
+-- such lines, followed by those of unknown keys, if there are any; or nothing, if memory ran out for them
 abbrev pub IsExplained : Request → List ℕ → Option InputFault → List ℕ → Type 0
 IsExplained request input fault help =
     (help ≡ [])
     ⊎ ((lines notes : List ℕ) × (help ≡ lines ++ notes) × ExplainsFault request input fault lines × (unread_in (form_of request) input ≡ None → notes ≡ []))
 
--- Such lines, and behind them those of the events of a run that were refused; or none of these, where memory ran out for them.
+-- such lines, followed by those of the events of a run that were refused; or without these, if memory ran out for them
 abbrev pub IsExplainedWith : Request → List ℕ → Option InputFault → List RefusedEvent → List ℕ → Type 0
 IsExplainedWith request input fault refused help =
     (front events : List ℕ) × (help ≡ front ++ events) × IsExplained request input fault front × ((events ≡ []) ⊎ NamesRefused refused events)

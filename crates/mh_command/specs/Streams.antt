@@ -1,4 +1,4 @@
--- What happens to the streams of a command line.
+-- The effects of a command line on its streams.
 use Rattle.std.specs.Prelude.{◌≡◌, ◌≢◌, ◌⊎◌, ℕ, List, [], ◌++◌, Option}
 use Rattle.std.specs.Io.KnownBytes.{Appends, Keeps}
 use Rattle.mh_text.specs.Bytes.{HasFailed}
@@ -6,7 +6,7 @@ use Rattle.mh_json.specs.Faults.{fault_line}
 use Rattle.mh_json.specs.declared.fault.Fault.{Fault}
 use Rattle.mh_command.specs.Statuses.{status_told}
 
--- known bytes grow by a beginning of a text, which may be all of it
+-- known bytes grow by a prefix of a text, which may be all of it
 abbrev pub AppendsBeginning : Option (List ℕ) → Option (List ℕ) → List ℕ → Type 0
 AppendsBeginning old new text = (front rest : List ℕ) × (text ≡ front ++ rest) × Appends old new front
 
@@ -16,27 +16,27 @@ module _ (old new : Option (List ℕ)) (failures_old failures_new : ℕ) where
   abbrev pub IsIdle : Type 0
   IsIdle = Keeps old new × (failures_new ≡ failures_old)
 
-  -- a text stands written, and nothing failed
+  -- a text was written, and nothing failed
   abbrev pub IsWritten : List ℕ → Type 0
   IsWritten text = Appends old new text × (failures_new ≡ failures_old)
 
-  -- the stream failed behind a beginning of a text, which stands written
+  -- the stream failed after a prefix of a text was written
   abbrev pub IsCut : List ℕ → Type 0
   IsCut text = HasFailed failures_old failures_new × AppendsBeginning old new text
 
-  -- a text was kept back: the stream failed, or memory ran out before it
+  -- a text was not written whole: the stream failed, or memory ran out before it
   abbrev pub IsKeptBack : List ℕ → ℕ → Type 0
   IsKeptBack text status = ((status ≡ 3) × IsCut text) ⊎ ((status ≡ 4) × IsIdle)
 
-  -- the line of a fault stands written with what explains it, and the status is its own; or this was kept back
+  -- the line of a fault was written with its explanation, and the status is its own; or this was not written whole
   abbrev pub IsTold : List ℕ → ℕ → Fault → Type 0
   IsTold help status e =
       ((status ≡ status_told e.kind) × IsWritten (fault_line e ++ help)) ⊎ IsKeptBack (fault_line e ++ help) status
 
-  -- some text that is not empty stands written, with this status; or it was kept back
+  -- a non-empty text was written, with this status; or it was not written whole
   abbrev pub IsShown : ℕ → ℕ → Type 0
   IsShown status wanted = (text : List ℕ) × (text ≢ []) × (((status ≡ wanted) × IsWritten text) ⊎ IsKeptBack text status)
 
-  -- there was no fault to write, and the rest stands written; or a part of it was kept back
+  -- there was no fault to write, and the rest was written; or it was not written whole
   abbrev pub IsDone : List ℕ → ℕ → ℕ → Type 0
   IsDone help status wanted = ((status ≡ wanted) × IsWritten help) ⊎ ((help ≢ []) × (status ≡ 3) × IsCut help)

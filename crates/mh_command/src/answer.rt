@@ -1,4 +1,4 @@
-//! What is written at the end of the work for a request, and for words that ask for none.
+//! Output at the end of the work for a request, and for command lines that ask for none.
 ghost use Rattle.std.specs.Prelude.{◌≡◌, ◌≢◌, ◌++◌, ◌<◌, ◌⊎◌, string_bytes, IfOk, IfErr, OnOk, OnErr};
 ghost use Rattle.std.specs.Io.KnownBytes.{Appends, Keeps};
 ghost use Rattle.clap.specs.Words.{kind_of};
@@ -20,7 +20,7 @@ use mh_text::Watched;
 use std::alloc::{AllocError, Global};
 use std::io::Write;
 
-/// Writes a text and what explains it to their end, and flushes them.
+/// Writes a text and its explanation, and flushes both streams.
 fn write_text<W: Write>(stream: &mut Watched<W>, text: &str, help: &str) -> Result<(), TextFault>
     ensures ok { OnOk result (Appends (W.contents stream.old.inner)
         (W.contents stream.new.inner) (text.now ++ help.now)) }
@@ -33,8 +33,8 @@ fn write_text<W: Write>(stream: &mut Watched<W>, text: &str, help: &str) -> Resu
     stream.flush()
 }
 
-/// Writes the line of a fault and what explains it, and gives its status, or the one for what kept
-/// them back.
+/// Writes the line of a fault and its explanation. Returns the fault's status, or that of the
+/// failure to write them.
 fn tell<E: Write>(alloc: Global, fault: Fault, help: &str, err: &mut Watched<E>) -> u8
     ensures told { IsTold (E.contents err.old.inner) (E.contents err.new.inner) err.old.failures
         err.new.failures help.now result fault }
@@ -48,8 +48,8 @@ fn tell<E: Write>(alloc: Global, fault: Fault, help: &str, err: &mut Watched<E>)
     }
 }
 
-/// Writes the help of an end without a fault, and returns its status, or the one for what kept the
-/// help back.
+/// Writes the notes of work that ended without a fault. Returns its status, or that of the failure
+/// to write them.
 fn tell_alone<E: Write>(help: &str, err: &mut Watched<E>, status: u8) -> u8
     ensures done { IsDone (E.contents err.old.inner) (E.contents err.new.inner) err.old.failures
         err.new.failures help.now result status }
@@ -90,7 +90,7 @@ pub(crate) fn end<W: Write, E: Write>(
             Err(kind) => tell(alloc, Fault::from(kind), help, err),
         },
         Err(fault) => {
-            // The fault's own status stands, whatever becomes of this flush.
+            // The fault's own status is returned, whether or not this flush fails.
             let _ = out.inner.flush();
             tell(alloc, fault, help, err)
         }
@@ -106,7 +106,7 @@ fn text_of(alloc: Global, error: &Error) -> Result<String, AllocError> {
     }
 }
 
-/// Writes what words are answered with, and gives the status, or the one for what kept it back.
+/// Writes the answer to a command line. Returns its status, or that of the failure to write it.
 fn show<W: Write>(alloc: Global, error: &Error, stream: &mut Watched<W>, status: u8) -> u8
     ensures shown { IsShown (W.contents stream.old.inner)
         (W.contents stream.new.inner) stream.old.failures stream.new.failures result status }
@@ -114,7 +114,7 @@ fn show<W: Write>(alloc: Global, error: &Error, stream: &mut Watched<W>, status:
     let Ok(text) = text_of(alloc, error) else {
         return NO_MEMORY;
     };
-    // clap has a text for each answer, and memory alone keeps it back.
+    // clap has a text for each answer, and only running out of memory prevents it.
     if text.is_empty() {
         return NO_MEMORY;
     }
@@ -124,7 +124,8 @@ fn show<W: Write>(alloc: Global, error: &Error, stream: &mut Watched<W>, status:
     }
 }
 
-/// Answers words that ask for nothing that reads: help and the version on `out`, a fault on `err`.
+/// Answers a command line that does not run a subcommand: help and the version on `out`, an error
+/// on `err`.
 pub(crate) fn reply<W: Write, E: Write>(
     alloc: Global,
     error: &Error,

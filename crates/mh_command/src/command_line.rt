@@ -1,4 +1,4 @@
-//! One command line, over a reader and two writers.
+//! Runs one command line, over a reader and two writers.
 ghost use Rattle.std.specs.Prelude.{◌≡◌, ◌≢◌, ◌⊎◌, ◌<◌, ◌≤◌, [], ◌∷◌, false, map, IfSome};
 ghost use Rattle.clap.specs.Words.{fault_of};
 ghost use Rattle.clap.specs.declared.error.kind.ErrorKind.{ErrorKind};
@@ -22,7 +22,7 @@ use std::io::{Read, Write};
 use std::sync::Wait;
 use std::thread::Threads;
 
-/// Does what is asked, and gives the status.
+/// Does the work of a request, and returns the status.
 fn perform<T: Threads + Wait + Sync, P: ShowRounds + Sync, R: Read, W: Write, E: Write>(
     stage: &Stage<'_, T, P>,
     alloc: Global,
@@ -55,37 +55,38 @@ fn perform<T: Threads + Wait + Sync, P: ShowRounds + Sync, R: Read, W: Write, E:
     end(alloc, &outcome, out, err)
 }
 
-/// Runs one command line, whose first word is the program's name, and returns the status.
+/// Runs one command line, whose first word is the program's name, and returns the exit status.
 ///
-/// `mhlink run` reads a script from `reader`, and writes the line of each reply to `out`; it takes
-/// `--report`. `mhlink check` reads a problem and a plan, and writes to `out` whether the plan is
-/// accepted; with `--profile` it reads a profile, and behind it a plan. `mhlink plan` reads a
-/// problem, and writes its best plan to `out`; it takes `--workers N`, N from 1 to 64,
-/// `--certificate` and `--phases`, and starts threads by the stage. `mhlink stress` reads a script,
-/// runs its calls in threads, and writes the sums of their hits to `out`; it takes `--workers N`, N
-/// from 1 to 64, `--rounds N`, N from 1 to 1,000,000, and `--report`; the stage shows the rounds
-/// that are done. `mhlink profile` reads a profile, line by line, and writes to `out` what becomes
-/// of each of its names in a best plan; it takes `--workers N`, N from 1 to 64, `--certificate` and
-/// `--sweep`, and starts threads too. A fault is one line on `err`.
+/// - `mhlink run` reads a script from `reader`, and writes a line for each reply to `out`. Option:
+///   `--report`.
+/// - `mhlink check` reads a problem and a plan, and writes to `out` whether the plan is accepted.
+///   With `--profile` it reads a profile followed by a plan.
+/// - `mhlink plan` reads a problem, and writes its optimal plan to `out`. Options: `--workers N`, 1
+///   to 64, `--certificate` and `--phases`. The stage starts its threads.
+/// - `mhlink stress` reads a script, runs its calls in threads, and writes the sums of their hits
+///   to `out`. Options: `--workers N`, 1 to 64, `--rounds N`, 1 to 1,000,000, and `--report`. The
+///   stage shows the rounds that are done.
+/// - `mhlink profile` reads a profile line by line, and writes to `out` the decision for each of
+///   its names in an optimal plan. Options: `--workers N`, 1 to 64, `--certificate` and `--sweep`.
+///   The stage starts its threads.
 ///
-/// Each takes `--explain`, and each but `profile` takes `--strict`. With `--explain` the input is
-/// read whole first, and the line of a fault is followed on `err` by lines that explain it. They
-/// say where it is and why (see `mh_explain::explanation`), and behind them stand those of the keys
-/// that nothing reads (see `mh_explain::unread_keys`), which are also written where the input is
-/// accepted; and last, of a run that refuses events, those that say which of their tests failed (see
-/// `mh_explain::explanation_of_refused`). Of a profile they say what the line that has the fault has
-/// there and why it is one, and no key of it is looked at. With `--strict` an input with a key that
-/// nothing reads is refused before anything runs, by the fault `BadShape` in the event of the first
-/// one, or at 0; with `check --profile` it says nothing.
+/// A fault is one line on `err`. Each subcommand takes `--explain`, and each but `profile` takes
+/// `--strict`.
 ///
-/// The stage also shows notes, which are not written to `err`: with `--explain` the keys that occur
-/// twice in an object of JSON, and the first snapshot of a run that lacks hits since no flush came
-/// before it; the calls and flushes that a stress skips (see `mh_stress::stress_bytes`); and why an
-/// input may be unreadable.
+/// With `--explain` the input is first read into memory. The line of a fault is followed on `err`
+/// by lines that say where it is and why (`mh_explain::explanation`), and by a line for each
+/// unknown key (`mh_explain::unread_keys`), which are also written if the input is accepted. If a
+/// run refuses events, the last lines say which tests failed
+/// (`mh_explain::explanation_of_refused`). For a profile the lines say what the faulty line
+/// contains and why it is a fault; its keys are not looked at.
 ///
-/// The statuses: 0 done, also help and the version, which go to `out`; 1 the input is refused, or its
-/// plan; 2 the command line is wrong, and nothing is read; 3 a read, a write or a flush failed; 4
-/// memory ran out outside an event, or readers of a published world.
+/// With `--strict` an input with an unknown key is refused before anything runs, by the fault
+/// `BadShape` in the event of the first such key, or at 0. With `check --profile` the option has no
+/// effect.
+///
+/// The exit statuses: 0 success, help and the version, which go to `out`; 1 the input is refused,
+/// or its plan; 2 the command line is wrong, and nothing is read; 3 a read, a write or a flush
+/// failed; 4 memory ran out outside an event, or readers of a published world did.
 pub fn command<
     T: Threads + Wait + Sync,
     P: ShowRounds + Sync,

@@ -1,5 +1,4 @@
-//! What is found of an input before the work over it: its first fault, what explains that, and the
-//! keys that nothing reads.
+//! Findings in an input before the work: its first fault, the explanation, and unknown keys.
 ghost use Rattle.std.specs.Prelude.{◌≡◌, ◌⊎◌, [], List, ℕ, Ok, Some, false, if◌then◌else◌, nat_lt, None, option_map, string_bytes, IfOk};
 ghost use Rattle.serde_json.specs.View.{view};
 ghost use Rattle.mh_json.specs.Gives.{no_memory, outside};
@@ -21,12 +20,12 @@ use mh_json::{Fault, Field, InputFault, Key, Misread, TextFault};
 use serde_json::Value;
 use std::alloc::Global;
 
-/// What is found of an input before the work over it.
+/// Findings in an input before the work.
 #[derive(Drop)]
 pub(crate) struct Findings {
-    /// The fault for which the work is not begun, if there is one.
+    /// The fault that prevents the work, if there is one.
     pub(crate) fault: Option<Fault>,
-    /// The lines that explain it, and then those of the keys that nothing reads.
+    /// The lines that explain it, followed by those of unknown keys.
     pub(crate) help: String,
 }
 
@@ -43,7 +42,7 @@ impl Findings {
     }
 }
 
-/// The fault of a key that nothing reads, in the event of this number, or outside the events at 0.
+/// Returns the fault of an unknown key in the event of this number, or outside the events at 0.
 pub(crate) fn unread_fault(at: u64) -> Fault
     ensures value { result ≡ fault_unread at }
 {
@@ -53,8 +52,8 @@ pub(crate) fn unread_fault(at: u64) -> Fault
     }
 }
 
-/// The number of the event that keys lead into, from 1, or 0 where they lead into none; none where
-/// it would be 2^64, past that of each event.
+/// Returns the number of the event that keys lead into, from 1, or 0 if they lead into none; `None`
+/// if it would be 2^64, past every event.
 fn event_of(path: &[Key]) -> Option<u64>
     ensures value { result ≡ (if nat_lt (number_of_event path.now) event_bound
         then Some (number_of_event path.now) else None) }
@@ -65,7 +64,7 @@ fn event_of(path: &[Key]) -> Option<u64>
     }
 }
 
-/// The fault of a part of an input, with the number of its event.
+/// Returns the fault of a part of an input, with the number of its event.
 fn fault_of(part: &FaultyPart) -> Fault
     ensures value { (result ≡ outside no_memory) ⊎ (result ≡ fault_in (misread_of part.now)) }
 {
@@ -78,7 +77,7 @@ fn fault_of(part: &FaultyPart) -> Fault
     }
 }
 
-/// Where the first key stands that nothing reads, if the input is refused for it.
+/// Returns the place of the first unknown key, if the input is refused for it.
 fn refused_for(asked: Asked, unread: &UnreadKeys) -> Option<u64>
     ensures value { result ≡ first_refused asked unread.now.first }
 {
@@ -89,8 +88,8 @@ fn refused_for(asked: Asked, unread: &UnreadKeys) -> Option<u64>
     }
 }
 
-/// The fault for which the work is not begun: that of a key that nothing reads, where the input is
-/// refused for it, and else that of a part that could not be read.
+/// Returns the fault that prevents the work: that of an unknown key, if the input is refused for
+/// it, and otherwise that of a part that could not be read.
 fn fault_before(refused: Option<u64>, part: &Option<FaultyPart>) -> Option<Fault>
     ensures value { IsFaultBefore refused (option_map misread_of part.now)
         result }
@@ -102,7 +101,7 @@ fn fault_before(refused: Option<u64>, part: &Option<FaultyPart>) -> Option<Fault
     }
 }
 
-/// The lines of the keys that nothing reads.
+/// Returns the lines of unknown keys.
 fn notes(unread: &UnreadKeys) -> &str
     ensures silent { unread.now.first ≡ None → result.now ≡ [] }
 {
@@ -112,8 +111,8 @@ fn notes(unread: &UnreadKeys) -> &str
     }
 }
 
-/// The lines that explain the fault of a part of an input, where one has a fault, and then those of
-/// the keys that nothing reads.
+/// Returns the lines that explain the fault of a part of an input, if one has a fault, followed by
+/// those of unknown keys.
 fn explain(
     alloc: Global,
     form: InputForm,
@@ -130,7 +129,7 @@ fn explain(
     Ok(help)
 }
 
-/// The same, and nothing where memory runs out.
+/// Returns the same, and nothing if memory runs out.
 fn help_in(
     alloc: Global,
     form: InputForm,
@@ -147,7 +146,8 @@ fn help_in(
     }
 }
 
-/// What is found of an input whose fault is not to be explained: the key for which it is refused.
+/// Returns the findings in an input whose fault is not to be explained: the key for which it is
+/// refused.
 fn findings_unexplained(alloc: Global, asked: Asked, unread: &UnreadKeys) -> Findings
     ensures fault { result.fault ≡ option_map fault_unread (first_refused asked unread.now.first) }
     ensures alone { string_bytes result.help ≡ [] }
@@ -158,7 +158,7 @@ fn findings_unexplained(alloc: Global, asked: Asked, unread: &UnreadKeys) -> Fin
     }
 }
 
-/// What is found of an input that is this value of JSON, in which these keys are read by nothing.
+/// Returns the findings in an input that is this value of JSON, with these unknown keys.
 fn findings_beside(
     alloc: Global,
     asked: Asked,
@@ -183,7 +183,7 @@ fn findings_beside(
     }
 }
 
-/// What is found of an input that is this value of JSON.
+/// Returns the findings in an input that is this value of JSON.
 pub(crate) fn findings_in(alloc: Global, asked: Asked, form: InputForm, value: &Value) -> Findings
     requires formed { form_of asked.request ≡ Some form }
     ensures findings { (bytes : List ℕ) → json_of_input bytes ≡ Ok (view value.now)
@@ -195,8 +195,8 @@ pub(crate) fn findings_in(alloc: Global, asked: Asked, form: InputForm, value: &
     }
 }
 
-/// The lines that explain why an input is no JSON, where that is asked for and memory does not run
-/// out for them.
+/// Returns the lines that explain why an input is not valid JSON, if that is asked for and memory
+/// does not run out.
 pub(crate) fn help_for_text(alloc: Global, asked: Asked, input: &[u8], misread: Misread) -> String
     ensures unexplained { asked.reading.explain ≡ false → string_bytes result ≡ [] }
     ensures memory { misread.fault ≡ out_of_memory → string_bytes result ≡ [] }

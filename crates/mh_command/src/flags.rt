@@ -7,7 +7,7 @@ ghost use Rattle.mh_command.specs.CommandLine.{flag_rule};
 use clap::{Arg, ArgAction, Command};
 use std::alloc::{AllocError, Global};
 
-/// The command line with one option more.
+/// Adds an option to a command line.
 pub(crate) fn with_option<'a>(
     command: Command<'a>,
     option: Arg<'a>,
@@ -21,7 +21,7 @@ pub(crate) fn with_option<'a>(
     command.arg(option)
 }
 
-/// A word that is there or not.
+/// Returns an option without a value.
 pub(crate) fn flag<'a>(alloc: Global, name: &'a str, help: &'a str) -> Arg<'a>
     ensures rule { rule_of result ≡ flag_rule name.entry.now }
     ensures own { result.global ≡ false }

@@ -1,4 +1,4 @@
-//! Why a line of a profile has its fault.
+//! Explanations of the faults of lines of a profile.
 ghost use Rattle.std.specs.Prelude.{string_bytes, IfOk};
 ghost use Rattle.mh_command.specs.Readings.{ExplainsProfile, IsProfileIn, NamesNeed};
 
@@ -11,19 +11,19 @@ use serde_json::Value;
 use std::alloc::Global;
 use std::str;
 
-/// How many characters of a line are shown.
+/// The number of characters of a line that are shown.
 const MOST_SHOWN: usize = 120;
 
-/// By how many bytes a name may be longer or shorter than one that is asked for.
+/// The greatest difference in length between a name and one that is suggested for it.
 const MOST_BYTES: usize = 8;
 
-/// How many pairs of bytes are compared at most.
+/// The greatest number of pairs of bytes that are compared.
 const MOST_PAIRS: u64 = 1 << 28;
 
 /// The form of an amount.
 const AMOUNT: &str = "must be a whole number from 0 to 9223372036854775807";
 
-/// The lines of the profile that the input of a request has.
+/// Returns the lines of the profile in the input of a request.
 fn profile_in(request: Request, input: &[u8]) -> &[u8]
     ensures value { IsProfileIn request input.now result.now }
 {
@@ -33,7 +33,7 @@ fn profile_in(request: Request, input: &[u8]) -> &[u8]
     }
 }
 
-/// Text as it is, with `?` for each control character, cut where it is long.
+/// Returns a text with `?` for each control character, shortened if it is long.
 fn cut(alloc: Global, text: &str) -> Result<String, NoMemory> {
     let mut shown = String::new(alloc);
     for (i, character) in text.chars().enumerate() {
@@ -50,7 +50,7 @@ fn cut(alloc: Global, text: &str) -> Result<String, NoMemory> {
     Ok(shown)
 }
 
-/// The beginning of a line.
+/// Returns the beginning of a line.
 fn beginning(alloc: Global, bytes: &[u8]) -> Result<String, NoMemory> {
     match str::from_utf8(bytes) {
         Ok(text) => cut(alloc, text),
@@ -58,7 +58,8 @@ fn beginning(alloc: Global, bytes: &[u8]) -> Result<String, NoMemory> {
     }
 }
 
-/// The names that may be meant by one: of about its length, and as many as are soon compared.
+/// Returns the names that a name may be misspelt for: those of about its length, as many as can be
+/// compared soon.
 fn names_like<'a>(
     alloc: Global,
     points: &'a PointNames,
@@ -89,7 +90,7 @@ fn meant(alloc: Global, points: &PointNames, name: &str) -> Result<String, NoMem
     }
 }
 
-/// The lines for a need that is the name of no earlier point.
+/// Returns the lines for a need that names no earlier point.
 fn unknown_reasons(alloc: Global, line: &FaultyLine) -> Result<String, NoMemory>
     ensures named { IfOk result (λ text. NamesNeed line.now (string_bytes text)) }
 {
@@ -137,7 +138,7 @@ fn why_no_json(alloc: Global, bytes: &[u8]) -> Result<String, NoMemory> {
     }
 }
 
-/// Whether a value has a whole number in range at a key.
+/// Returns whether a value has a whole number in range at a key.
 fn is_amount(value: &Value, key: &str) -> bool {
     match value.get(key) {
         Some(amount) => matches!(amount.as_u64(), Some(number) if number <= 0x7fff_ffff_ffff_ffff),
@@ -176,7 +177,7 @@ fn keys_of(alloc: Global, value: &Value) -> Result<Vec<&str>, NoMemory> {
     Ok(keys)
 }
 
-/// Why a line that has a link is of another form.
+/// Returns why a line with a link does not have the form of one.
 fn why_no_link(alloc: Global, value: &Value) -> Result<String, NoMemory> {
     if !is_amount(value, "gain") {
         return why_no_amount(alloc, value, "gain");
@@ -212,7 +213,7 @@ fn other_input(value: &Value) -> &'static str {
     r#", such as {"point":"A","cost":1}"#
 }
 
-/// Why a line is of another form.
+/// Returns why a line has neither form.
 fn why_bad(alloc: Global, value: &Value) -> Result<String, NoMemory> {
     let Some(name) = value.get("point").or(value.get("link")) else {
         let other = other_input(value);
@@ -227,7 +228,7 @@ fn why_bad(alloc: Global, value: &Value) -> Result<String, NoMemory> {
     }
 }
 
-/// Why a line has a fault that no name explains.
+/// Returns why a line has a fault that does not concern a name.
 fn why(alloc: Global, bytes: &[u8], fault: InputFault) -> Result<String, NoMemory> {
     match fault {
         InputFault::NotJson => why_no_json(alloc, bytes),
@@ -247,15 +248,15 @@ fn why(alloc: Global, bytes: &[u8], fault: InputFault) -> Result<String, NoMemor
     }
 }
 
-/// The lines for any other fault of a line.
+/// Returns the lines for any other fault of a line.
 fn other_reasons(alloc: Global, bytes: &[u8], fault: InputFault) -> Result<String, NoMemory> {
     let found = beginning(alloc, bytes)?;
     let why = why(alloc, bytes, fault)?;
     Ok(format!(in alloc; "  found: {found}\n  why:   {why}\n")?)
 }
 
-/// The lines that explain the fault of a line of a profile: what the line has there, and why it is
-/// a fault. There are none for a fault of no line of the profile.
+/// Returns the lines that explain the fault of a line of a profile: what the line contains there,
+/// and why it is a fault. There are none for a fault that has no line of the profile.
 pub(crate) fn line_reasons(
     alloc: Global,
     request: Request,

@@ -1,4 +1,4 @@
-//! How the input of a command line is read.
+//! Options for reading the input of a command line.
 ghost use Rattle.std.specs.Prelude.{◌≡◌, false, IfOk, IsTrue};
 ghost use Rattle.clap.specs.Words.{app_of, found_of, rows_of};
 ghost use Rattle.clap.specs.declared.builder.command.Command.TheViews.{out-Command};
@@ -9,18 +9,18 @@ use crate::flags::{flag, with_option};
 use clap::{ArgMatches, Command};
 use std::alloc::{AllocError, Global};
 
-/// How the input of any subcommand is read.
+/// How to read the input of a subcommand.
 #[derive(Clone, Copy, Debug, PartialEq, Eq)]
 pub struct Reading {
-    /// Whether its fault is explained, and its keys that nothing reads are noted, which are not
-    /// looked for in a profile.
+    /// Whether to explain its fault, and to report unknown keys, which are not looked for in a
+    /// profile.
     pub explain: bool,
-    /// Whether it is refused for a key that nothing reads.
+    /// Whether to refuse it for an unknown key.
     pub strict: bool,
 }
 
 impl Reading {
-    /// Whether neither is asked for, so that an input need not be kept.
+    /// Returns whether neither is asked for, so that the input need not be kept.
     pub(crate) fn is_plain(self) -> bool
         ensures explain { IsTrue result → self.explain ≡ false }
         ensures strict { IsTrue result → self.strict ≡ false }
@@ -29,7 +29,7 @@ impl Reading {
     }
 }
 
-/// The command line with the option to explain, and what that says.
+/// Adds the option to explain, with its help.
 pub(crate) fn with_explain<'a>(
     alloc: Global,
     command: Command<'a>,
@@ -42,7 +42,7 @@ pub(crate) fn with_explain<'a>(
     with_option(command, flag(alloc, "explain", help))
 }
 
-/// The command line with both options of reading.
+/// Adds both options for reading.
 pub(crate) fn with_reading<'a>(
     alloc: Global,
     command: Command<'a>,
@@ -57,7 +57,7 @@ pub(crate) fn with_reading<'a>(
     with_option(command, strict)
 }
 
-/// What the words after any subcommand but `profile` say of reading.
+/// Returns the options for reading after any subcommand but `profile`.
 pub(crate) fn reading_of(matches: &ArgMatches) -> Reading
     ensures value { (reading : Reading) → IsRead reading (rows_of (found_of matches.now))
         → result ≡ reading }
@@ -69,7 +69,7 @@ pub(crate) fn reading_of(matches: &ArgMatches) -> Reading
     }
 }
 
-/// What the words after `profile` say of reading.
+/// Returns the options for reading after `profile`.
 pub(crate) fn plain_reading_of(matches: &ArgMatches) -> Reading
     ensures value { (reading : Reading) → IsReadPlainly reading (rows_of (found_of matches.now))
         → result ≡ reading }

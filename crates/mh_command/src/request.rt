@@ -1,4 +1,4 @@
-//! What a command line asks for.
+//! Requests: the meaning of a command line.
 ghost use Rattle.std.specs.Prelude.{◌≡◌, ◌<◌, ◌≤◌, ◌⊎◌, [], ◌∷◌, List, ℕ, None, Some, false, OnOk, IfOk, IfErr, IfSome, codes, map, true};
 ghost use Rattle.clap.specs.Words.{app_of, fault_of, found_of, kind_of, new_app, rows_of, rule_of, subcommand_rows_of, with_rule};
 ghost use Rattle.clap.specs.declared.builder.command.Command.TheViews.{out-Command};
@@ -24,25 +24,25 @@ use mh_text::{PlanOptions, RunOptions};
 use std::alloc::{AllocError, Global};
 use std::convert::AsStr;
 
-/// What a command line asks for: one of the subcommands.
+/// The request of a command line: one of the subcommands.
 #[derive(Clone, Copy, Debug, PartialEq, Eq)]
 pub enum Request {
     /// `mhlink run`: the lines of a script.
     Run(RunOptions),
-    /// `mhlink check`: whether a plan is best for its problem.
+    /// `mhlink check`: whether a plan is optimal for its problem.
     Check,
-    /// `mhlink check --profile`: the same of the problem of a profile.
+    /// `mhlink check --profile`: the same for the problem of a profile.
     CheckProfile,
-    /// `mhlink plan`: the best plan of a problem.
+    /// `mhlink plan`: the optimal plan of a problem.
     Plan(PlanOptions),
     /// `mhlink stress`: the sums of a script on running threads.
     Stress(StressOptions),
-    /// `mhlink profile`: the best plan of a profile, by its names.
+    /// `mhlink profile`: the optimal plan of a profile, by its names.
     Profile(ProfileOptions),
 }
 
 impl Request {
-    /// What its input is read as; none of these, where it has the lines of a profile.
+    /// Returns the form of its input, or `None` if the input is the lines of a profile.
     pub(crate) fn form(self) -> Option<InputForm>
         ensures value { result ≡ form_of self }
     {
@@ -55,7 +55,7 @@ impl Request {
     }
 }
 
-/// What a command line asks for, and how its input is read.
+/// The request of a command line, and how to read its input.
 #[derive(Clone, Copy, Debug, PartialEq, Eq)]
 pub struct Asked {
     pub request: Request,
@@ -63,8 +63,8 @@ pub struct Asked {
 }
 
 impl Asked {
-    /// Whether the input is read whole before the work: its fault is to be explained, or its keys
-    /// are looked at.
+    /// Returns whether to read the input into memory before the work: its fault is to be explained,
+    /// or its keys are looked at.
     pub(crate) fn reads_whole(self) -> bool
         ensures unrefused { result ≡ false → (input : List ℕ) → refused_at self input ≡ None }
     {
@@ -72,7 +72,7 @@ impl Asked {
     }
 }
 
-/// What `mhlink --help` ends with.
+/// The end of `mhlink --help`.
 const AFTER_HELP: &str = "\
 With --explain, a command says where an error in its input is, and why it is
 one. All but `profile` and `check --profile` also report unknown keys, and
@@ -90,7 +90,7 @@ wrong, 3 a read or a write failed, 4 out of memory, or too many readers of the
 published state. Formats are described in docs/FORMATS.md, faults and refusals
 in docs/FAULTS.md.";
 
-/// What `mhlink run --help` ends with.
+/// The end of `mhlink run --help`.
 const AFTER_RUN: &str = "\
 Reads a script from standard input: a JSON object with a definition (points,
 shared trees, sites), a number of workers, and events. Each event gets one line
@@ -169,7 +169,7 @@ fn check_command<'a>(alloc: Global) -> Result<Command<'a>, AllocError>
     with_option(command, profile)
 }
 
-/// How many workers plan.
+/// Returns the option for the number of workers that plan.
 fn workers_option<'a>(alloc: Global) -> Arg<'a>
     ensures rule { rule_of result ≡ workers_rule }
     ensures own { result.global ≡ false }
@@ -224,7 +224,7 @@ fn plan_command<'a>(alloc: Global) -> Result<Command<'a>, AllocError>
     Ok(command)
 }
 
-/// How many workers call.
+/// Returns the option for the number of workers that call.
 fn callers_option<'a>(alloc: Global) -> Arg<'a>
     ensures rule { rule_of result ≡ callers_rule }
     ensures own { result.global ≡ false }
@@ -236,7 +236,7 @@ fn callers_option<'a>(alloc: Global) -> Arg<'a>
         .help("Number of calling threads, 1 to 64 [default: the script's]")
 }
 
-/// How often they call.
+/// Returns the option for the number of rounds.
 fn rounds_option<'a>(alloc: Global) -> Arg<'a>
     ensures rule { rule_of result ≡ rounds_rule }
     ensures own { result.global ≡ false }
@@ -295,7 +295,7 @@ fn profile_command<'a>(alloc: Global) -> Result<Command<'a>, AllocError>
     Ok(command)
 }
 
-/// The program before its subcommands.
+/// Returns the command line without subcommands.
 fn root_command<'a>(alloc: Global) -> Command<'a>
     ensures app { app_of result ≡ root_app }
 {
@@ -306,7 +306,7 @@ fn root_command<'a>(alloc: Global) -> Command<'a>
         .subcommand_required(true)
 }
 
-/// The program with its first two subcommands.
+/// Returns the command line with its first two subcommands.
 fn plain_command<'a>(alloc: Global) -> Result<Command<'a>, AllocError>
     ensures app { IfOk result (λ c. app_of c ≡ plain_app) }
 {
@@ -315,7 +315,7 @@ fn plain_command<'a>(alloc: Global) -> Result<Command<'a>, AllocError>
         .subcommand(check_command(alloc)?)
 }
 
-/// The program with the next two.
+/// Returns the command line with the next two.
 fn further_command<'a>(alloc: Global) -> Result<Command<'a>, AllocError>
     ensures app { IfOk result (λ c. app_of c ≡ further_app) }
 {
@@ -324,14 +324,14 @@ fn further_command<'a>(alloc: Global) -> Result<Command<'a>, AllocError>
         .subcommand(stress_command(alloc)?)
 }
 
-/// The command lines that the program takes.
+/// Returns the command lines that the program takes.
 fn build<'a>(alloc: Global) -> Result<Command<'a>, AllocError>
     ensures app { IfOk result (λ c. app_of c ≡ program) }
 {
     further_command(alloc)?.subcommand(profile_command(alloc)?)
 }
 
-/// The options of the words after `run`.
+/// Returns the options after `run`.
 fn run_options_of(matches: &ArgMatches) -> RunOptions
     ensures value { (options : RunOptions) → IsReported options (rows_of (found_of matches.now))
         → result ≡ options }
@@ -341,7 +341,8 @@ fn run_options_of(matches: &ArgMatches) -> RunOptions
     }
 }
 
-/// How many workers plan; none where they are not from 1 to 64, which clap refuses itself.
+/// Returns the number of workers that plan, or `None` if it is not 1 to 64, which clap refuses
+/// itself.
 fn workers_of(matches: &ArgMatches) -> Option<usize>
     ensures value { (workers : ℕ) → AreWorkers workers (rows_of (found_of matches.now))
         → result ≡ Some workers }
@@ -356,7 +357,7 @@ fn workers_of(matches: &ArgMatches) -> Option<usize>
     Some(workers)
 }
 
-/// The options of the words after `plan`; none where clap refuses the number of workers itself.
+/// Returns the options after `plan`, or `None` if clap refuses the number of workers itself.
 fn options_of(matches: &ArgMatches) -> Option<PlanOptions>
     ensures value { (options : PlanOptions) → AreOptions options (rows_of (found_of matches.now))
         → result ≡ Some options }
@@ -370,7 +371,7 @@ fn options_of(matches: &ArgMatches) -> Option<PlanOptions>
     })
 }
 
-/// The options of the words after `profile`, as of those after `plan`.
+/// Returns the options after `profile`, as for `plan`.
 fn profile_options_of(matches: &ArgMatches) -> Option<ProfileOptions>
     ensures value { (options : ProfileOptions) → AreProfiled options (rows_of (found_of matches.now))
         → result ≡ Some options }
@@ -384,7 +385,7 @@ fn profile_options_of(matches: &ArgMatches) -> Option<ProfileOptions>
     })
 }
 
-/// The number as one of 32 bits.
+/// Returns a number as one of 32 bits.
 fn widen(number: Option<u8>) -> Option<u32>
     ensures value { result ≡ number }
 {
@@ -394,7 +395,7 @@ fn widen(number: Option<u8>) -> Option<u32>
     }
 }
 
-/// The options, where both numbers are in their ranges.
+/// Returns the options, if both numbers are in their ranges.
 fn lawful(options: StressOptions) -> Option<StressOptions>
     ensures same { AreLawful options → result ≡ Some options }
     ensures lawful { IfSome result AreLawful }
@@ -410,7 +411,7 @@ fn lawful(options: StressOptions) -> Option<StressOptions>
     Some(options)
 }
 
-/// The options of the words after `stress`; none where a number is out of its range, which clap
+/// Returns the options after `stress`, or `None` if a number is out of its range, which clap
 /// refuses itself.
 fn stress_options_of(matches: &ArgMatches) -> Option<StressOptions>
     ensures value { (options : StressOptions) → AreStressed options (rows_of (found_of matches.now))
@@ -427,7 +428,7 @@ fn stress_options_of(matches: &ArgMatches) -> Option<StressOptions>
     })
 }
 
-/// The request of the words after `check`.
+/// Returns the request of the words after `check`.
 fn check_of(matches: &ArgMatches) -> Request
     ensures plan { IsOfProfile false (rows_of (found_of matches.now)) → result ≡ Request.Check }
     ensures profile { IsOfProfile true (rows_of (found_of matches.now))
@@ -441,7 +442,8 @@ fn check_of(matches: &ArgMatches) -> Request
     }
 }
 
-/// The request of the subcommand of this name, with the words after it; none of another name.
+/// Returns the request of the subcommand of this name, with the words after it, or `None` if there
+/// is no such subcommand.
 fn request_of(name: &str, matches: &ArgMatches) -> Option<Request>
     ensures value { (request : Request)
         → IsRequest request name.now (rows_of (found_of matches.now)) → result ≡ Some request }
@@ -457,7 +459,7 @@ fn request_of(name: &str, matches: &ArgMatches) -> Option<Request>
     }
 }
 
-/// How the input of the subcommand of this name is read. No key of a profile is refused.
+/// Returns how to read the input of the subcommand of this name. No key of a profile is refused.
 fn reading_for(name: &str, matches: &ArgMatches) -> Reading
     ensures value { (request : Request) → (reading : Reading)
         → IsRequest request name.now (rows_of (found_of matches.now))
@@ -471,7 +473,8 @@ fn reading_for(name: &str, matches: &ArgMatches) -> Reading
     }
 }
 
-/// What the subcommand that was used asks for; none where none was, which clap refuses itself.
+/// Returns the request of the subcommand that was used, or `None` if none was, which clap refuses
+/// itself.
 fn asked_of(matches: &ArgMatches) -> Option<Asked>
     ensures value { (asked : Asked) → IsNamed asked (subcommand_rows_of matches.now)
         → result ≡ Some asked }
@@ -487,8 +490,8 @@ fn asked_of(matches: &ArgMatches) -> Option<Asked>
     })
 }
 
-/// What the words of a command line ask for, the first of which is the program's name, or what
-/// they are answered with.
+/// Returns the request of a command line, whose first word is the program's name, or the answer to
+/// it.
 pub(crate) fn parse<S: AsStr>(alloc: Global, words: &[S]) -> Result<Option<Asked>, Error>
     ensures asked { IfOk result (λ found. (asked : Asked)
         → AsksFor asked (map S.text words.now) → found ≡ Some asked) }

@@ -1,5 +1,5 @@
-//! Work for what is asked, over an input that is read whole first where the options of reading want
-//! it.
+//! The work of a request, over an input that is first read into memory if the options for reading
+//! ask for it.
 ghost use Rattle.std.specs.Prelude.{◌≡◌, ◌≢◌, ◌<◌, ◌≤◌, ◌⊎◌, ◌++◌, ℕ, List, [], None, Some, Ok, false, length, string_bytes, true, IfOk, IfErr, IfSome, OnErr, OnOk};
 ghost use Rattle.std.specs.Io.KnownBytes.{IsAtEnd};
 ghost use Rattle.serde_json.specs.View.{view};
@@ -33,19 +33,19 @@ use std::io::{Read, Write};
 use std::sync::Wait;
 use std::thread::Threads;
 
-/// What became of the work.
+/// The end of the work.
 #[derive(Drop)]
 pub(crate) struct Ending {
     /// The status, or the fault that ended the work.
     pub(crate) end: Result<u8, Fault>,
-    /// The help: lines for the stream of errors, or nothing.
+    /// The notes: lines for standard error, or nothing.
     pub(crate) help: String,
-    /// The refused events of a run that the help speaks of.
+    /// The refused events of a run that the notes describe.
     pub(crate) refused: Vec<RefusedEvent>,
 }
 
 impl Ending {
-    /// An end without help.
+    /// Returns an end without notes.
     fn alone(alloc: Global, end: Result<u8, Fault>) -> Ending
         ensures end { result.end ≡ end }
         ensures alone { string_bytes result.help ≡ [] }
@@ -54,7 +54,7 @@ impl Ending {
         Ending::beside(alloc, end, String::new(alloc))
     }
 
-    /// An end with help that speaks of no refused event.
+    /// Returns an end with notes that describe no refused event.
     fn beside(alloc: Global, end: Result<u8, Fault>, help: String) -> Ending
         ensures end { result.end ≡ end }
         ensures help { result.help ≡ help }
@@ -68,7 +68,7 @@ impl Ending {
     }
 }
 
-/// Does what the request asks, up to the last flush, and gives its status.
+/// Does the work of a request, up to the last flush, and returns its status.
 fn work<T: Threads + Wait + Sync, S: ShowRounds + Sync, R: Read, W: Write>(
     stage: &Stage<'_, T, S>,
     alloc: Global,
@@ -118,8 +118,8 @@ fn work<T: Threads + Wait + Sync, S: ShowRounds + Sync, R: Read, W: Write>(
     }
 }
 
-/// A fault of the work over an input that was read. No read of that fails; so where one is
-/// reported, memory ran out.
+/// Returns the fault of work over an input in memory. No read of that fails, so if one is reported,
+/// memory ran out.
 fn held(fault: Fault) -> Fault
     ensures read { fault.kind ≡ ReadFailed → result ≡ outside no_memory }
     ensures other { fault.kind ≢ ReadFailed → result ≡ fault }
@@ -130,7 +130,7 @@ fn held(fault: Fault) -> Fault
     }
 }
 
-/// Does the same over an input that was read.
+/// Does the same over an input in memory.
 fn work_over<T: Threads + Wait + Sync, S: ShowRounds + Sync, W: Write>(
     stage: &Stage<'_, T, S>,
     alloc: Global,
@@ -156,8 +156,8 @@ fn work_over<T: Threads + Wait + Sync, S: ShowRounds + Sync, W: Write>(
     }
 }
 
-/// The lines that explain a fault of the lines of a profile, where it is asked for and memory does
-/// not run out; else nothing.
+/// Returns the lines that explain a fault of the lines of a profile, if it is asked for and memory
+/// does not run out; otherwise nothing.
 fn help_for(alloc: Global, asked: Asked, input: &[u8], fault: Option<InputFault>) -> String
     requires formless { form_of asked.request ≡ None }
     ensures unexplained { asked.reading.explain ≡ false → string_bytes result ≡ [] }
@@ -174,7 +174,7 @@ fn help_for(alloc: Global, asked: Asked, input: &[u8], fault: Option<InputFault>
     String::new(alloc)
 }
 
-/// The fault of the input that ended the work, where one did.
+/// Returns the fault of the input that ended the work, if one did.
 fn fault_of(end: Result<u8, Fault>) -> Option<InputFault>
     ensures ok { OnOk end (result ≡ None) }
     ensures value { result ≡ fault_told (fault_at end) }
@@ -190,7 +190,7 @@ fn fault_of(end: Result<u8, Fault>) -> Option<InputFault>
     }
 }
 
-/// Does what is asked over the lines of a profile that were read, with a fault of them explained.
+/// Does the work over the lines of a profile in memory, and explains their fault.
 fn work_on<T: Threads + Wait + Sync, S: ShowRounds + Sync, W: Write>(
     stage: &Stage<'_, T, S>,
     alloc: Global,
@@ -217,7 +217,7 @@ fn work_on<T: Threads + Wait + Sync, S: ShowRounds + Sync, W: Write>(
     Ending::beside(alloc, end, help_for(alloc, asked, input, fault_of(end)))
 }
 
-/// What the work gives: its status, and the refused events of a run.
+/// The result of the work: its status, and the refused events of a run.
 #[derive(Drop)]
 struct Worked {
     status: u8,
@@ -225,7 +225,7 @@ struct Worked {
 }
 
 impl Worked {
-    /// The status of work in which no event was refused.
+    /// Returns the result of work in which no event was refused.
     fn of(alloc: Global, status: u8) -> Worked
         ensures status { result.status ≡ status }
         ensures clear { result.refused.items ≡ [] }
@@ -237,7 +237,7 @@ impl Worked {
     }
 }
 
-/// An input that was read, its JSON value, and the form that it is read as.
+/// An input in memory, its JSON value, and its form.
 #[derive(Clone, Copy)]
 struct Parsed<'a> {
     input: &'a [u8],
@@ -245,7 +245,8 @@ struct Parsed<'a> {
     form: InputForm,
 }
 
-/// Does what the request asks over an input that was parsed, and gives the refused events of a run.
+/// Does the work of a request over an input that was parsed, and returns the refused events of a
+/// run.
 fn work_parsed<T: Threads + Wait + Sync, S: ShowRounds + Sync, W: Write>(
     stage: &Stage<'_, T, S>,
     alloc: Global,
@@ -291,8 +292,8 @@ fn work_parsed<T: Threads + Wait + Sync, S: ShowRounds + Sync, W: Write>(
     }
 }
 
-/// Help, and behind it the lines of refused events, where they are asked for and memory does not run
-/// out for them.
+/// Returns the notes, followed by the lines of refused events, if they are asked for and memory
+/// does not run out.
 fn with_refused(
     alloc: Global,
     asked: Asked,
@@ -314,7 +315,7 @@ fn with_refused(
     help
 }
 
-/// Does what is asked over an input that was parsed, unless something is found of it before.
+/// Does the work over an input that was parsed, unless a finding prevents it.
 fn work_or_refuse<T: Threads + Wait + Sync, S: ShowRounds + Sync, W: Write>(
     stage: &Stage<'_, T, S>,
     alloc: Global,
@@ -353,7 +354,7 @@ fn work_or_refuse<T: Threads + Wait + Sync, S: ShowRounds + Sync, W: Write>(
     }
 }
 
-/// Parses an input that was read, and does what is asked over it.
+/// Parses an input in memory, and does the work over it.
 fn work_read<T: Threads + Wait + Sync, S: ShowRounds + Sync, W: Write>(
     stage: &Stage<'_, T, S>,
     alloc: Global,
@@ -396,7 +397,7 @@ fn work_read<T: Threads + Wait + Sync, S: ShowRounds + Sync, W: Write>(
     }
 }
 
-/// Reads the input whole, and does what is asked over it.
+/// Reads the input into memory, and does the work over it.
 fn work_whole<T: Threads + Wait + Sync, S: ShowRounds + Sync, R: Read, W: Write>(
     stage: &Stage<'_, T, S>,
     alloc: Global,
@@ -429,7 +430,8 @@ fn work_whole<T: Threads + Wait + Sync, S: ShowRounds + Sync, R: Read, W: Write>
     }
 }
 
-/// The lines of a profile, whole, with the plan behind them where that is checked.
+/// Reads the lines of a profile into memory, with the plan that follows them if it is to be
+/// checked.
 fn keep_lines<R: Read>(
     alloc: Global,
     request: Request,
@@ -456,7 +458,7 @@ fn keep_lines<R: Read>(
     }
 }
 
-/// Reads the lines of a profile whole, and does what is asked over them.
+/// Reads the lines of a profile into memory, and does the work over them.
 fn work_lines<T: Threads + Wait + Sync, S: ShowRounds + Sync, R: Read, W: Write>(
     stage: &Stage<'_, T, S>,
     alloc: Global,
@@ -522,7 +524,7 @@ fn work_in<T: Threads + Wait + Sync, S: ShowRounds + Sync, R: Read, W: Write>(
     }
 }
 
-/// Does what is asked, up to the last flush.
+/// Does the work of a request, up to the last flush.
 pub(crate) fn work_asked<T: Threads + Wait + Sync, S: ShowRounds + Sync, R: Read, W: Write>(
     stage: &Stage<'_, T, S>,
     alloc: Global,

@@ -1,4 +1,4 @@
--- What is found of an input before the work over it.
+-- Findings in an input before the work.
 use Rattle.std.specs.Prelude.{◌≡◌, ◌⊎◌, ◌+◌, ◌^◌, ℕ, List, [], ◌∷◌, ◌++◌, Option, Some, None, Result, Err, if◌then◌else◌}
 use Rattle.mh_json.specs.Gives.{no_memory, outside}
 use Rattle.mh_json.specs.Misreads.{MisreadData}
@@ -13,7 +13,7 @@ use Rattle.mh_command.specs.Answers.{IsFaultOf, IsHelp}
 use Rattle.mh_command.specs.Readings.{refused_at, unread_fault, IsRefusal}
 use Rattle.mh_command.specs.declared.request.Asked.{Asked}
 
--- the number of the event that keys lead into, from 1; 0 where they lead into none
+-- the number of the event that keys lead into, from 1; 0 if they lead into none
 abbrev pub event_of : List Key → ℕ
 event_of (Member field.Events ∷ Item i ∷ rest) = i + 1
 event_of _ = 0
@@ -26,30 +26,30 @@ event_bound = 2 ^ 64
 abbrev pub fault_in : MisreadData → Fault
 fault_in m = record { kind = Input m.fault; at = event_of m.path }
 
--- where the first key stands that nothing reads, if an input is refused for it
+-- the place of the first unknown key, if an input is refused for it
 abbrev pub first_refused : Asked → Option ℕ → Option ℕ
 first_refused asked first = if asked.reading.strict then first else None
 
--- The fault for which no work is begun: that of such a key; and else that of a part that could not be read, or out of memory.
+-- the fault that prevents the work: that of such a key; otherwise that of a part that could not be read, or out of memory
 abbrev pub IsFaultBefore : Option ℕ → Option MisreadData → Option Fault → Type 0
 IsFaultBefore (Some at) misread fault = fault ≡ Some (unread_fault at)
 IsFaultBefore None (Some m) fault = (fault ≡ Some (outside no_memory)) ⊎ (fault ≡ Some (fault_in m))
 IsFaultBefore None None fault = fault ≡ None
 
--- Lines that explain the fault of a part, and behind them those of the keys that nothing reads; or nothing, where memory ran out for them.
+-- lines that explain the fault of a part, followed by those of unknown keys; or nothing, if memory ran out for them
 abbrev pub IsExplainedIn : Option MisreadData → Option ℕ → List ℕ → Type 0
 IsExplainedIn misread first help =
     (help ≡ []) ⊎ ((lines notes : List ℕ) × (help ≡ lines ++ notes) × ExplainsMisread misread lines × (first ≡ None → notes ≡ []))
 
--- A fault for which the work over an input is not begun: out of memory; that of a key for which the input is refused; or its first fault.
+-- a fault that prevents the work over an input: out of memory; that of a key for which the input is refused; or its first fault
 abbrev pub EndsBefore : Asked → List ℕ → Fault → Type 0
 EndsBefore asked input e =
     (e ≡ outside no_memory)
     ⊎ IsRefusal asked input e
     ⊎ ((refused_at asked input ≡ None) × (cause : InputFault) × (e.kind ≡ Input cause) × IsFaultOf asked.request input e)
 
--- What is found of an input before the work over it: such a fault, with its help; or none, with the help of any end of
--- the work of which no refused event is known.
+-- the findings in an input: such a fault, with its notes; or none, with the notes of any end of the work of which no refused event is
+-- known
 abbrev pub AreFindings : Asked → List ℕ → Option Fault → List ℕ → Type 0
 AreFindings asked input (Some e) help = EndsBefore asked input e × IsHelp asked (Some input) (Err e) [] help
 AreFindings asked input None help = (refused_at asked input ≡ None) × ((end : Result ℕ Fault) → IsHelp asked (Some input) end [] help)
